@@ -1,0 +1,11 @@
+-- The definitions that the contracts and theorems cite, in reading order.
+pub mod Bytes
+pub mod Utf8
+pub mod Fields
+pub mod Tree
+pub mod Questions
+pub mod Out
+pub mod Names
+pub mod Md
+pub mod Call
+pub mod Entries

@@ -1,0 +1,2 @@
+// The types that the definitions and the code share.
+pub mod ctx;
