@@ -5,6 +5,7 @@ use Prim.Native.String as str
 use Prim.Native.String.{String}
 use mathlib.Core.Bool.{Bool, true, false, cond, not, _&&_, _||_}
 use mathlib.Core.List.{List, [], _∷_, _++_}
+use mathlib.Core.Option.{Option, none, some}
 use lib.ListN.{length, take, drop}
 use lib.Dec.{eqb, leb, ltb}
 
@@ -163,6 +164,16 @@ unfoldable pub join : Bytes → List Bytes → Bytes
 join sep [] = []
 join sep (x ∷ xs) = x ++ joinRest sep xs
 
+-- ---- values that may be missing
+
+unfoldable pub orElse : Option Bytes → Option Bytes → Option Bytes
+orElse none y = y
+orElse (some s) y = some s
+
+unfoldable pub orNothing : Option Bytes → Bytes
+orNothing none = []
+orNothing (some s) = s
+
 -- ---- decimal numbers
 
 -- the number of a run of digits, behind the digits of n
@@ -173,7 +184,9 @@ valueFrom n (b ∷ s) = valueFrom (n * 10 + (b - 48)) s
 -- n in digits, if it has at most k
 unfoldable pub digitsOf : ℕ → ℕ → Bytes
 digitsOf zero n = []
-digitsOf (suc k) n = elim (ltb n 10) [ true ↦ (48 + n) ∷ [] | false ↦ digitsOf k (n / 10) ++ ((48 + n % 10) ∷ []) ]
+digitsOf (suc k) n =
+    let more = digitsOf k (n / 10) ++ ((48 + n % 10) ∷ []) in
+    cond (ltb n 10) ((48 + n) ∷ []) more
 
 unfoldable pub decimal : ℕ → Bytes
 decimal n = digitsOf (suc n) n

@@ -7,5 +7,9 @@ pub mod Questions
 pub mod Out
 pub mod Names
 pub mod Md
+pub mod Levels
+pub mod SkipMd
 pub mod Call
+pub mod Everything
+pub mod Cases
 pub mod Entries

@@ -61,10 +61,10 @@ closeThen t = record { siblings = nothing ∷ t .siblings; attrs = []; value = [
 unfoldable pub fieldThen : Field → Tail → Tail
 fieldThen f t =
     cond (eqb (f .tag) 1) (openThen (f .body) t)
+    (cond (eqb (f .tag) 6) (closeThen t)
     (cond (eqb (f .tag) 2) (nameThen (f .body) t)
     (cond (eqb (f .tag) 3) (valueThen (f .body) t)
-    (cond (eqb (f .tag) 4) (nodeThen (text (f .body)) t)
-    (cond (eqb (f .tag) 5) (nodeThen (comment (f .body)) t) (closeThen t)))))
+    (cond (eqb (f .tag) 4) (nodeThen (text (f .body)) t) (nodeThen (comment (f .body)) t)))))
 
 unfoldable pub tail : List Field → Tail
 tail [] = record { siblings = nothing ∷ []; attrs = []; value = [] }
@@ -103,7 +103,9 @@ nodeAt zero anc (comment s rest) = record { ancestors = anc; node = comment s no
 nodeAt (suc k) anc (comment s rest) = nodeAt k anc rest
 nodeAt zero anc (element name attrs kids rest) = record { ancestors = anc; node = element name attrs kids nothing }
 nodeAt (suc k) anc (element name attrs kids rest) =
-    elim (ltb k (size kids)) [ true ↦ nodeAt k (attrs ∷ anc) kids | false ↦ nodeAt (k - size kids) anc rest ]
+    let below = nodeAt k (attrs ∷ anc) kids in
+    let behind = nodeAt (k - size kids) anc rest in
+    cond (ltb k (size kids)) below behind
 
 -- ---- what the serializer asks of a node
 

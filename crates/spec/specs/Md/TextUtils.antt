@@ -136,10 +136,8 @@ unfoldable pub «trim_trailing_space» : Step
 unfoldable pub breaksUntil : ℕ → Bytes → Bytes → Step
 breaksUntil zero linebreak end text = keep text
 breaksUntil (suc n) linebreak end text =
-    elim (endsWith end text) [
-      | true ↦ keep text
-      | false ↦ andThen (push linebreak text) (breaksUntil n linebreak end)
-    ]
+    let more = andThen (push linebreak text) (breaksUntil n linebreak end) in
+    cond (endsWith end text) (keep text) more
 
 -- `end` consists of line breaks, so that as many as it has bytes are enough
 unfoldable pub «add_linebreaks» : Bytes → Bytes → Step

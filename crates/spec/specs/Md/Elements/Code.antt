@@ -23,6 +23,8 @@ use Rattle.spec.specs.Bytes.{
   words,
   firstWord,
   join,
+  orElse,
+  orNothing,
 }
 use Rattle.spec.specs.Names as tag
 use Rattle.spec.specs.Names.{tagOf}
@@ -57,7 +59,8 @@ unfoldable pub «find_code_lang_attribute» : List Attr → Option Bytes
 unfoldable pub nearestLanguage : List (List Attr) → Option Bytes
 nearestLanguage [] = none
 nearestLanguage (attrs ∷ more) =
-    elim («find_code_lang_attribute» attrs) [ none ↦ nearestLanguage more | some lang ↦ some lang ]
+    let further = nearestLanguage more in
+    orElse («find_code_lang_attribute» attrs) further
 
 unfoldable pub languageClass : List Bytes → Option Bytes
 languageClass [] = none
@@ -80,11 +83,7 @@ unfoldable pub «find_code_language_css_class» : Forest → Option Bytes
 -- the element's own, or of three elements around it, or of its first `code`
 unfoldable pub «find_code_language» : Ancestors → List Attr → Forest → Option Bytes
 «find_code_language» anc attrs kids =
-    elim (nearestLanguage (attrs ∷ take 3 anc)) [ none ↦ «find_code_language_css_class» kids | some lang ↦ some lang ]
-
-unfoldable pub orNothing : Option Bytes → Bytes
-orNothing none = []
-orNothing (some s) = s
+    orElse (nearestLanguage (attrs ∷ take 3 anc)) («find_code_language_css_class» kids)
 
 -- ---- backticks
 
@@ -154,20 +153,18 @@ codeOpts opts = «skip_md» («skip_escape» (inline («include_node» (fresh op
 unfoldable pub blankForBr : ℕ → Step
 blankForBr name t = cond (eqb name tag.br && not (endsWith (ascii " ") t)) (push (ascii " ") t) (keep t)
 
-unfoldable pub closePlain : ℕ → Step
-closePlain name t = cond (endsWith (ascii "\n\n") t) (keep t) (blankForBr name t)
+unfoldable pub closeSkipMd : ℕ → Step
+closeSkipMd name t = cond (endsWith (ascii "\n\n") t) (keep t) (blankForBr name t)
 
 -- `write` under `skip_md`, which reaches no other writer
-unfoldable pub writePlain : List Bytes → FormatOpts → Forest → Step
-writePlain skips opts nothing t = keep t
-writePlain skips opts (text s rest) t =
-    andThen («push_normalized_text» s opts t) (writePlain skips opts rest)
-writePlain skips opts (comment s rest) t = writePlain skips opts rest t
-writePlain skips opts (element name attrs kids rest) t =
-    elim (among name skips) [
-      | true ↦ writePlain skips opts rest t
-      | false ↦ andThen (andThen (writePlain skips opts kids t) (closePlain (tagOf name))) (writePlain skips opts rest)
-    ]
+unfoldable pub writeSkipMd : List Bytes → FormatOpts → Forest → Step
+writeSkipMd skips opts nothing t = keep t
+writeSkipMd skips opts (text s rest) t =
+    andThen («push_normalized_text» s opts t) (writeSkipMd skips opts rest)
+writeSkipMd skips opts (comment s rest) t = writeSkipMd skips opts rest t
+writeSkipMd skips opts (element name attrs kids rest) t =
+    let inner = andThen (writeSkipMd skips opts kids t) (closeSkipMd (tagOf name)) in
+    andThen (cond (among name skips) (keep t) inner) (writeSkipMd skips opts rest)
 
 unfoldable pub isTabOrBlank : ℕ → Bool
 isTabOrBlank b = isin b (ascii " \t")
@@ -181,7 +178,7 @@ trimEdges raw code =
 -- one line of code
 unfoldable pub inlineCode : MDSerializer → FormatOpts → Bytes → List Attr → Forest → Step
 inlineCode self opts name attrs kids =
-    let written = writePlain (self .«skip_tags») (codeOpts opts) (element name attrs kids nothing) [] in
+    let written = writeSkipMd (self .«skip_tags») (codeOpts opts) (element name attrs kids nothing) [] in
     let code = trimEdges («text_of» kids) (written .text) in
     nested written («push_code_text» (length code) code)
 

@@ -3,7 +3,7 @@ use mathlib.Core.Bool.{Bool, true, false, cond, not}
 use mathlib.Core.List.{List, [], _∷_}
 use mathlib.Core.Option.{Option, none, some}
 use lib.Dec.{eqb}
-use Rattle.spec.specs.Bytes.{Bytes, ascii, null, one, «trim_end_matches», «trim_end», words, firstWord}
+use Rattle.spec.specs.Bytes.{Bytes, ascii, null, one, «trim_end_matches», «trim_end», words, firstWord, orElse}
 use Rattle.spec.specs.Tree.{Attr, attr}
 use Rattle.spec.specs.Out.{Step, keep, push, andThen}
 use Rattle.spec.specs.Md.Ctx.{new}
@@ -20,10 +20,6 @@ firstSource none = none
 firstSource (some s) =
     let u = «trim_end_matches» (one (λ b. eqb b 44)) (firstWord (words s)) in
     cond (null u) none (some u)
-
-unfoldable pub orElse : Option Bytes → Option Bytes → Option Bytes
-orElse none y = y
-orElse (some s) y = some s
 
 unfoldable pub source : List Attr → Option Bytes
 source attrs =

@@ -44,7 +44,6 @@ use Rattle.spec.specs.Md.Ctx.{
 use Rattle.spec.specs.Md.TextUtils.{«add_linebreaks», trimBlanks}
 use Rattle.spec.specs.Md.Heading.{«is_heading», «md_prefix», «escape_closing_hashes»}
 use Rattle.spec.specs.Md.MDSerializer.{Ancestors, MDSerializer, writeKids, write}
-use Rattle.spec.specs.Md.Elements.Image.{orElse}
 use Rattle.spec.specs.Md.Elements.Blocks.{«is_md_block», «is_list»}
 use Rattle.spec.specs.declared.ctx.FormatOpts.{FormatOpts}
 use Rattle.spec.specs.declared.ctx.ListKind.{ListKind}
@@ -167,7 +166,7 @@ continuation b = leb 0x80 b && leb b 0xBF
 -- where a character begins, at n or before it
 unfoldable pub boundary : ℕ → Bytes → ℕ
 boundary zero t = 0
-boundary (suc n) t = elim (continuation (getD t (suc n) 0)) [ true ↦ boundary n t | false ↦ suc n ]
+boundary (suc n) t = let earlier = boundary n t in cond (continuation (getD t (suc n) 0)) earlier (suc n)
 
 -- document 01: "here the cut goes before that character"
 unfoldable pub truncate : ℕ → Bytes → Bytes
@@ -271,14 +270,10 @@ itemChildren self anc (text s rest) item p =
     itemChildren self anc rest item (itemChild self anc (text s nothing) (isBlank s) item p)
 itemChildren self anc (comment s rest) item p = itemChildren self anc rest item p
 itemChildren self anc (element name attrs kids rest) item p =
+    let unwrapped = itemChildren self (attrs ∷ anc) kids item p in
+    let alone = itemChild self anc (element name attrs kids nothing) false item p in
     itemChildren self anc rest item
-    (elim (among name (self .«skip_tags»)) [
-      | true ↦ p
-      | false ↦ elim («node_is_block_wrapper» (tagOf name) kids) [
-        | true ↦ itemChildren self (attrs ∷ anc) kids item p
-        | false ↦ itemChild self anc (element name attrs kids nothing) false item p
-      ]
-    ])
+    (cond (among name (self .«skip_tags»)) p (cond («node_is_block_wrapper» (tagOf name) kids) unwrapped alone))
 
 unfoldable pub itemFrom : ListContext → Out → Item
 itemFrom ctx begun =
@@ -317,12 +312,12 @@ listChildren self anc (text s rest) ctx t =
     andThen (write self anc («include_node» (fresh (ctx .opts))) (text s nothing) t) (listChildren self anc rest ctx)
 listChildren self anc (comment s rest) ctx t = listChildren self anc rest ctx t
 listChildren self anc (element name attrs kids rest) ctx t =
+    let isLi = eqb (tagOf name) tag.li in
     let numbered = renumbered (ctx .kind) (numberOf (attr (ascii "value") attrs)) ctx in
-    elim (eqb (tagOf name) tag.li) [
-      | true ↦ andThen (listItem self anc name attrs kids numbered t) (listChildren self anc rest («advance_ol_number» numbered))
-      | false ↦ andThen (write self anc («include_node» (fresh (ctx .opts))) (element name attrs kids nothing) t)
-          (listChildren self anc rest ctx)
-    ]
+    let child = element name attrs kids nothing in
+    andThen
+    (cond isLi (listItem self anc name attrs kids numbered t) (write self anc («include_node» (fresh (ctx .opts))) child t))
+    (listChildren self anc rest (cond isLi («advance_ol_number» numbered) ctx))
 
 unfoldable pub kindOf : ℕ → List Attr → ListKind
 kindOf name attrs = cond (eqb name tag.ol) (Ol (startOf attrs)) Ul

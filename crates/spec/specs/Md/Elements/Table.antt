@@ -32,7 +32,8 @@ unfoldable pub «add_cell_block_break» : Bytes → Step
 unfoldable pub withoutBreaks : ℕ → Bytes → Bytes
 withoutBreaks zero s = s
 withoutBreaks (suc n) s =
-    elim («ends_with_cell_break» s) [ true ↦ withoutBreaks n (trimBlanks (dropEnd 4 s)) | false ↦ s ]
+    let shorter = withoutBreaks n (trimBlanks (dropEnd 4 s)) in
+    cond («ends_with_cell_break» s) shorter s
 
 unfoldable pub «trim_trailing_cell_break» : Step
 «trim_trailing_cell_break» = cut (λ s. withoutBreaks (length s) s)
