@@ -1,13 +1,13 @@
 -- The call: from a sheet, a skip list, a start node, with it or without it, and the lent memories to the answer and every
 -- byte of both memories. Assumes nothing.
 use Prim.Native.Nat.{ℕ, _-_}
-use mathlib.Core.Bool.{Bool, true, false, cond}
+use mathlib.Core.Bool.{Bool, cond}
 use mathlib.Core.List.{List, [], _∷_, _++_}
 use lib.ListN.{length, replicate}
 use lib.Dec.{eqb, leb}
 use Rattle.spec.specs.Bytes.{Bytes}
 use Rattle.spec.specs.Fields.{Field, fields}
-use Rattle.spec.specs.Tree.{Forest, treeOf}
+use Rattle.spec.specs.Tree.{treeOf}
 use Rattle.spec.specs.Questions.{SkipList, standard, own, refusal}
 use Rattle.spec.specs.Out.{Out}
 use Rattle.spec.specs.Md.{«serialize_md»}

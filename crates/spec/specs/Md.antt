@@ -7,7 +7,7 @@ pub mod Heading
 pub mod MDSerializer
 pub mod Elements
 pub mod Serializer
-use Prim.Native.Nat.{ℕ, zero, suc}
+use Prim.Native.Nat.{ℕ}
 use mathlib.Core.Bool.{Bool}
 use mathlib.Core.List.{List}
 use Rattle.spec.specs.Bytes.{Bytes}

@@ -1,16 +1,14 @@
 -- `write` under `skip_md` is `writeSkipMd`: it reaches no other writer. Assumes nothing.
-use Prim.Native.Nat.{ℕ, zero, suc, _≤_, _<_, max}
+use Prim.Native.Nat.{ℕ, zero, suc, _≤_, _<_}
 use native.Mathlib.Omega.{arith}
-use mathlib.Core.Path.{_≡_, refl, ap, _∙_, fun-ext}
-use mathlib.Core.Bool.{Bool, true, false, cond}
-use mathlib.Core.List.{List, [], _∷_}
-use Rattle.spec.specs.Bytes.{Bytes, among}
-use Rattle.spec.specs.Tree.{Attr, Forest, nothing, text, comment, element, height}
-use Rattle.spec.specs.Out.{Out, Step, keep, andThen}
-use Rattle.spec.specs.Names.{tagOf}
+use mathlib.Core.Path.{_≡_, refl, ap, fun-ext}
+use mathlib.Core.List.{List, _∷_}
+use Rattle.spec.specs.Bytes.{Bytes}
+use Rattle.spec.specs.Tree.{Forest, nothing, text, comment, element, height}
+use Rattle.spec.specs.Out.{Step, keep, andThen}
 use Rattle.spec.specs.Md.MDSerializer.{Ancestors, Writer}
 use Rattle.spec.specs.Md.Elements.Code.{codeOpts, closeSkipMd, writeSkipMd}
-use Rattle.spec.specs.Md.Serializer.{opened, closed, inElement, writeElementNode, writeNodes, writeAt, serializer}
+use Rattle.spec.specs.Md.Serializer.{opened, closed, inElement, writeElementNode, writeNodes, writeAt}
 use Rattle.spec.specs.declared.ctx.FormatOpts.{FormatOpts}
 
 keep-then : (f : Step) (t : Bytes) → andThen (keep t) f ≡ f t

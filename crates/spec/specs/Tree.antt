@@ -1,6 +1,6 @@
 -- The tree of a sheet (document 01, "The sheet"). Assumes nothing.
 use Prim.Native.Nat.{ℕ, zero, suc, _+_, _-_, max}
-use mathlib.Core.Bool.{Bool, true, false, cond}
+use mathlib.Core.Bool.{cond}
 use mathlib.Core.List.{List, [], _∷_, _++_}
 use mathlib.Core.Option.{Option, none, some}
 use lib.Dec.{eqb, ltb}

@@ -1,7 +1,7 @@
 -- `ctx.rs`. Assumes nothing.
 use Prim.Native.Nat.{ℕ, _+_, max, min}
 use mathlib.Core.Bool.{Bool, true, false, cond}
-use mathlib.Core.List.{List, [], _∷_, _++_}
+use mathlib.Core.List.{_++_}
 use lib.ListN.{length}
 use lib.Dec.{eqb}
 use lib.Bits.{bitAnd, bitOr}

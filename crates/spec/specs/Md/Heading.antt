@@ -1,9 +1,9 @@
 -- `heading.rs`. Assumes nothing.
-use Prim.Native.Nat.{ℕ, _-_, _+_}
-use mathlib.Core.Bool.{Bool, true, false, cond, _&&_}
-use mathlib.Core.List.{List, [], _∷_, _++_}
-use lib.ListN.{length, take, drop, replicate}
-use lib.Dec.{eqb, leb, ltb}
+use Prim.Native.Nat.{ℕ}
+use mathlib.Core.Bool.{Bool, cond, _&&_}
+use mathlib.Core.List.{[], _∷_, _++_}
+use lib.ListN.{length, take, drop}
+use lib.Dec.{eqb, ltb}
 use Rattle.spec.specs.Bytes.{Bytes, ascii, isin, endsWith, one, «trim_end_matches», «trim_end»}
 use Rattle.spec.specs.Names as tag
 use Rattle.spec.specs.Out.{Step, keep, replace}

@@ -1,9 +1,9 @@
 -- `MDSerializer` as its element writers see it. Assumes nothing.
-use mathlib.Core.Bool.{Bool, cond}
-use mathlib.Core.List.{List, [], _∷_}
+use mathlib.Core.Bool.{cond}
+use mathlib.Core.List.{List, _∷_}
 use Rattle.spec.specs.Bytes.{Bytes}
 use Rattle.spec.specs.Tree.{Attr, Forest, attrsOf, kidsOf}
-use Rattle.spec.specs.Out.{Out, Step, andThen}
+use Rattle.spec.specs.Out.{Step, andThen}
 use Rattle.spec.specs.Md.TextUtils.{«trim_space»}
 use Rattle.spec.specs.declared.ctx.FormatOpts.{FormatOpts}
 

@@ -1,6 +1,6 @@
 -- `text_utils.rs`. Assumes nothing.
-use Prim.Native.Nat.{ℕ, zero, suc, _+_, _-_}
-use mathlib.Core.Bool.{Bool, true, false, cond, not, _&&_, _||_}
+use Prim.Native.Nat.{ℕ, zero, suc, _-_}
+use mathlib.Core.Bool.{Bool, false, cond, not, _&&_, _||_}
 use mathlib.Core.List.{List, [], _∷_, _++_}
 use lib.ListN.{length, take, drop}
 use lib.Dec.{eqb, leb}
@@ -23,7 +23,7 @@ use Rattle.spec.specs.Bytes.{
   isBlank,
   words,
 }
-use Rattle.spec.specs.Out.{Out, Step, cut, keep, push, replace, andThen, beside, nested}
+use Rattle.spec.specs.Out.{Step, cut, keep, push, replace, andThen, beside, nested}
 use Rattle.spec.specs.Md.Constants.{«ALWAYS_ESCAPED», «LINE_START_ESCAPED»}
 use Rattle.spec.specs.Md.Ctx.{new}
 use Rattle.spec.specs.declared.ctx.FormatOpts.{FormatOpts}

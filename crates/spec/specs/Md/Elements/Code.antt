@@ -1,6 +1,6 @@
 -- `elements/code.rs`. Assumes nothing.
-use Prim.Native.Nat.{ℕ, zero, suc, _+_, max}
-use mathlib.Core.Bool.{Bool, true, false, cond, not, _&&_, _||_}
+use Prim.Native.Nat.{ℕ, suc, _+_, max}
+use mathlib.Core.Bool.{Bool, false, cond, not, _&&_, _||_}
 use mathlib.Core.List.{List, [], _∷_, _++_}
 use mathlib.Core.Option.{Option, none, some}
 use lib.ListN.{length, take, drop, replicate}
@@ -29,7 +29,7 @@ use Rattle.spec.specs.Bytes.{
 use Rattle.spec.specs.Names as tag
 use Rattle.spec.specs.Names.{tagOf}
 use Rattle.spec.specs.Tree.{Attr, Forest, nothing, text, comment, element, attr, «text_of»}
-use Rattle.spec.specs.Out.{Out, Step, cut, keep, push, andThen, beside, nested}
+use Rattle.spec.specs.Out.{Step, keep, push, andThen, beside, nested}
 use Rattle.spec.specs.Md.Constants.{«CODE_LANGUAGE_ATTRIBUTES», «CODE_LANGUAGE_PREFIX»}
 use Rattle.spec.specs.Md.TextUtils.{«push_normalized_text», «push_block_space», trimBlanks}
 use Rattle.spec.specs.Md.Ctx.{fresh, «include_node», inline, «skip_escape», «skip_md»}

@@ -1,6 +1,6 @@
 -- `elements/emphasis.rs`. Assumes nothing.
-use Prim.Native.Nat.{ℕ, zero, suc, _+_, _-_, _%_}
-use mathlib.Core.Bool.{Bool, true, false, cond, not, _&&_, _||_}
+use Prim.Native.Nat.{ℕ, _+_, _-_, _%_}
+use mathlib.Core.Bool.{Bool, cond, not, _&&_, _||_}
 use mathlib.Core.List.{List, [], _∷_, _++_}
 use lib.ListN.{length, take, drop}
 use lib.Dec.{eqb}
@@ -19,7 +19,7 @@ use Rattle.spec.specs.Bytes.{
 }
 use Rattle.spec.specs.Names as tag
 use Rattle.spec.specs.Tree.{Attr, Forest}
-use Rattle.spec.specs.Out.{Out, Step, cut, keep, push, andThen, beside, nested}
+use Rattle.spec.specs.Out.{Step, cut, keep, push, andThen, beside, nested}
 use Rattle.spec.specs.Md.Ctx.{contains, scopeOf, «include_node», inline, «emphasis_scope»}
 use Rattle.spec.specs.Md.TextUtils.{«escape_trailing_bang»}
 use Rattle.spec.specs.Md.MDSerializer.{Ancestors, MDSerializer}

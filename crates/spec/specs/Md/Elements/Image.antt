@@ -1,6 +1,6 @@
 -- `elements/image.rs`. Assumes nothing.
-use mathlib.Core.Bool.{Bool, true, false, cond, not}
-use mathlib.Core.List.{List, [], _∷_}
+use mathlib.Core.Bool.{cond}
+use mathlib.Core.List.{List}
 use mathlib.Core.Option.{Option, none, some}
 use lib.Dec.{eqb}
 use Rattle.spec.specs.Bytes.{Bytes, ascii, null, one, «trim_end_matches», «trim_end», words, firstWord, orElse}

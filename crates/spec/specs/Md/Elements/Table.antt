@@ -2,9 +2,8 @@
 use Prim.Native.Nat.{ℕ, zero, suc, _+_, _-_, _%_, max}
 use mathlib.Core.Bool.{Bool, true, false, cond, not, _&&_, _||_}
 use mathlib.Core.List.{List, [], _∷_, _++_, map}
-use mathlib.Core.Option.{Option, none, some}
-use lib.ListN.{length, take, drop, replicate}
-use lib.Dec.{eqb, leb}
+use lib.ListN.{length, replicate}
+use lib.Dec.{eqb}
 use Rattle.spec.specs.Bytes.{Bytes, ascii, null, endsWith, join}
 use Rattle.spec.specs.Names as tag
 use Rattle.spec.specs.Names.{tagOf}
