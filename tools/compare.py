@@ -120,6 +120,25 @@ def generate(seed, n, reference):
     return calls[:n]
 
 
+# the limit of question 1: such lists are too long to be evaluated, so the answer is proved by the law on lengths
+LONG = """
+long : (n : ℕ) (b : Bool) → leb n 1048576 ≡ b → question1 (replicate n 0) ≡ b
+unfolding question1
+long n b e = rw length-replicate e
+
+case%d : question1 (replicate %d 0) ≡ %s
+case%d = long %d _ refl
+"""
+
+
+def compare_long(reference):
+    """whether question 1 is answered as by the Rust for sheets of 1,048,576 and 1,048,577 bytes"""
+    preamble = "use lib.ListN.{length-replicate}\nuse Rattle.spec.specs.Questions.{question1}\n"
+    with antt.Bench(preamble) as bench:
+        return all(bench.run(LONG % (n, n, "false" if reference.answer(bytes(n), 0, False, None)[1] == 1 else "true", n, n))[0] == 0
+                   for n in (1048576, 1048577))
+
+
 def evaluate(calls):
     with antt.Bench(PREAMBLE) as bench:
         bad = []
@@ -156,8 +175,10 @@ def main():
         bad = sum(pool.map(evaluate, [calls[k:k + size] for k in range(0, len(calls), size)], 1), [])
     for c in sorted(bad, key=lambda c: len(c[0]))[:20]:
         print("DIFFERENT: sheet %s start %d include %s skips %r: %r" % (c[0].hex(), c[1], c[2], c[3], c[4]))
+    long = compare_long(reference)
+    print("question 1 at its limit: %s" % ("as the Rust's" if long else "DIFFERENT"))
     print("%d calls, %d differences" % (len(calls), len(bad)))
-    sys.exit(1 if bad else 0)
+    sys.exit(1 if bad or not long else 0)
 
 
 if __name__ == "__main__":
