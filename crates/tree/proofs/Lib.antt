@@ -1,0 +1,5 @@
+-- What the proofs of several functions share.
+pub mod Sequences
+pub mod Walking
+pub mod Rules
+pub mod Every

@@ -1,0 +1,4 @@
+-- The definitions that this crate's contracts add to those of `spec`.
+pub mod Lead
+pub mod Spans
+pub mod Scans

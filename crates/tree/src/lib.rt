@@ -1,0 +1,4 @@
+// The sheet: the questions put to it, and its tree in node memory.
+pub mod fields;
+pub mod questions;
+pub mod utf8;

@@ -1,0 +1,150 @@
+// Well-formed UTF-8.
+ghost use mathlib.Core.Path.{_≡_};
+ghost use Prim.Native.Nat.{_≤_, _<_};
+ghost use Rattle.spec.specs.Utf8.{isUtf8};
+ghost use Rattle.tree.specs.Lead.{leadOf, lead3Of, lead4Of, nextOf};
+
+// What the first byte of a sequence says of the rest: how many bytes follow, and the range of the first of them.
+// `more` is 4 where no sequence begins with the byte.
+pub struct Lead {
+    pub more: u8,
+    pub low: u8,
+    pub high: u8,
+}
+
+fn lead_of(b: u8) -> Lead
+    ensures { λ r. ⌜ r ≡ leadOf b ⌝ }
+{
+    if b < 0x80 {
+        return Lead {
+            more: 0,
+            low: 0x80,
+            high: 0xBF,
+        };
+    }
+    if b < 0xC2 {
+        return Lead {
+            more: 4,
+            low: 0x80,
+            high: 0xBF,
+        };
+    }
+    if b < 0xE0 {
+        return Lead {
+            more: 1,
+            low: 0x80,
+            high: 0xBF,
+        };
+    }
+    if b < 0xF0 {
+        return lead3(b);
+    }
+    lead4(b)
+}
+
+fn lead3(b: u8) -> Lead
+    ensures { λ r. ⌜ r ≡ lead3Of b ⌝ }
+{
+    if b == 0xE0 {
+        return Lead {
+            more: 2,
+            low: 0xA0,
+            high: 0xBF,
+        };
+    }
+    if b == 0xED {
+        return Lead {
+            more: 2,
+            low: 0x80,
+            high: 0x9F,
+        };
+    }
+    Lead {
+        more: 2,
+        low: 0x80,
+        high: 0xBF,
+    }
+}
+
+fn lead4(b: u8) -> Lead
+    ensures { λ r. ⌜ r ≡ lead4Of b ⌝ }
+{
+    if b == 0xF0 {
+        return Lead {
+            more: 3,
+            low: 0x90,
+            high: 0xBF,
+        };
+    }
+    if b < 0xF4 {
+        return Lead {
+            more: 3,
+            low: 0x80,
+            high: 0xBF,
+        };
+    }
+    if b == 0xF4 {
+        return Lead {
+            more: 3,
+            low: 0x80,
+            high: 0x8F,
+        };
+    }
+    Lead {
+        more: 4,
+        low: 0x80,
+        high: 0xBF,
+    }
+}
+
+// The same for the next byte, where `due` says what is still wanted. `more` is 4 where the byte is wrong.
+fn next_byte(due: Lead, b: u8) -> Lead
+    ensures { λ r. ⌜ r ≡ nextOf due b ⌝ }
+{
+    let more = due.more;
+    if more == 0 {
+        return lead_of(b);
+    }
+    let low = due.low;
+    let high = due.high;
+    if b < low {
+        return Lead {
+            more: 4,
+            low: 0x80,
+            high: 0xBF,
+        };
+    }
+    if high < b {
+        return Lead {
+            more: 4,
+            low: 0x80,
+            high: 0xBF,
+        };
+    }
+    Lead {
+        more: more - 1,
+        low: 0x80,
+        high: 0xBF,
+    }
+}
+
+pub fn is_utf8(s: &[u8]) -> bool
+    ensures { λ r. ⌜ r ≡ isUtf8 (now (s .entry)) ⌝ }
+{
+    let mut due = Lead {
+        more: 0,
+        low: 0x80,
+        high: 0xBF,
+    };
+    let mut i = 0;
+    while i < s.len() {
+        due = next_byte(due, s[i]);
+        let more = due.more;
+        if 4 <= more {
+            return false;
+        }
+        i += 1;
+    }
+    let left = due.more;
+    left == 0
+}
