@@ -1,19 +1,18 @@
 -- The rules on fields, from field to field. Assumes nothing.
-use Prim.Native.Nat.{ℕ, zero, suc, _+_, _-_, _<_, _≤_}
+use Prim.Native.Nat.{ℕ, _+_, _-_, _<_, _≤_}
 use native.Mathlib.Omega.{arith}
 use mathlib.Core.Path.{_≡_, refl, ap, _∙_, sym}
-use mathlib.Core.Bool.{Bool, true, false, cond, not, _&&_, and-assoc}
-use mathlib.Core.List.{List, [], _∷_}
+use mathlib.Core.Bool.{Bool, true, false, cond, _&&_, and-assoc}
+use mathlib.Core.List.{[], _∷_}
 use lib.ListN.{length, getD, take, drop, length-drop, length-take}
 use lib.Dec.{eqb, eqb·suc-zero}
 use borrow.Author.Tests.{eq-eqb, ne-eqb}
-use Rattle.spec.specs.Bytes.{Bytes, null, isin}
-use Rattle.spec.specs.Fields.{Field, fields, fields-short}
+use Rattle.spec.specs.Bytes.{Bytes, null}
+use Rattle.spec.specs.Fields.{fields, fields-short}
 use Rattle.spec.specs.Questions.{mayFollow, rightLength, noStray, openAfter, keepRules, stillOpen, question3}
 use Rattle.tree.specs.Spans.{endOf, spanAt, fieldOf}
 use Rattle.tree.specs.Scans.{lengthRight, fieldRight, scanOf}
 use Rattle.tree.specs.declared.fields.Span.{Span}
-use Rattle.tree.specs.declared.questions.Scan.{Scan}
 use Rattle.tree.specs.declared.questions.Scan.the-variants.{Broken, Open}
 use Rattle.tree.proofs.Walking.{span-fields, end-bounds}
 

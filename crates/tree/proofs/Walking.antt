@@ -3,14 +3,14 @@ use Prim.Native.Nat.{ℕ, zero, suc, _+_, _-_, _<_, _≤_}
 use native.Mathlib.Omega.{arith}
 use native.Mathlib.Numerals.{add-one, add-two, add-three}
 use mathlib.Core.Path.{_≡_, refl, ap, ap₂, _∙_, sym}
-use mathlib.Core.Bool.{Bool, true, false, cond, not, _&&_, and-eq-true-iff, false≢true}
+use mathlib.Core.Bool.{Bool, true, false, cond, _&&_, and-eq-true-iff, false≢true}
 use mathlib.Core.List.{List, [], _∷_}
-use lib.ListN.{length, getD, take, drop, length-drop, length-take, drop-of-length-le}
+use lib.ListN.{length, getD, take, drop, length-drop, drop-of-length-le}
 use lib.Seq.{drop-cons, drop-drop, take-all}
 use lib.Dec.{eqb, leb, ltb, eqb·zero-suc, eqb·suc-suc}
 use borrow.Author.Tests.{ltb-true, ltb-false, le-leb, lt-leb, eq-eqb, ne-eqb}
 use Rattle.spec.specs.Bytes.{Bytes, null, same}
-use Rattle.spec.specs.Fields.{Field, word, whole, fields, fields-cons, fields-short, whole-cons, whole-short}
+use Rattle.spec.specs.Fields.{Field, whole, fields, fields-cons, whole-cons, whole-short}
 use Rattle.tree.specs.Spans.{lengthAt, endOf, spanAt, fieldOf}
 
 -- the head of the field at p

@@ -19,6 +19,7 @@ ghost use Rattle.spec.specs.Questions.{
   question7,
   question8,
   question9,
+  refusal,
 };
 ghost use Rattle.tree.specs.Scans.{lengthRight, fieldRight, scanOf, countAfter, opensBlockquote, skipNameOf, skipList};
 use crate::fields::is_same;
@@ -322,4 +323,38 @@ pub fn has_node_memory(sheet: &[u8], memory: usize) -> bool
     ensures { λ r. ⌜ r ≡ question9 (now (sheet .entry)) memory ⌝ }
 {
     node_count(sheet) <= memory / 64
+}
+
+// The number of the first question among 1 to 9 that says no, or 0.
+pub fn first_refusal(sheet: &[u8], own: bool, run: &[u8], start: usize, memory: usize) -> u8
+    ensures { λ r. ⌜ r ≡ refusal (now (sheet .entry)) (skipList own (now (run .entry))) start memory ⌝ }
+{
+    if !is_short(sheet) {
+        return 1;
+    }
+    if !is_in_fields(sheet) {
+        return 2;
+    }
+    if !keeps_rules(sheet) {
+        return 3;
+    }
+    if !holds_utf8(sheet) {
+        return 4;
+    }
+    if !is_within_limits(sheet) {
+        return 5;
+    }
+    if !has_no_blockquote(sheet) {
+        return 6;
+    }
+    if !is_node(sheet, start) {
+        return 7;
+    }
+    if !is_skip_list(own, run) {
+        return 8;
+    }
+    if !has_node_memory(sheet, memory) {
+        return 9;
+    }
+    0
 }

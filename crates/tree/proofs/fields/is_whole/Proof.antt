@@ -1,5 +1,5 @@
 -- `tree::fields::is_whole` meets its contract. Assumes nothing.
-use Prim.Native.Nat.{ℕ, _≤_, _<_, _-_, _+_}
+use Prim.Native.Nat.{_≤_, _-_}
 use mathlib.Core.Path.{_≡_, refl}
 use lib.ListN.{length, drop, getD}
 use Rattle.spec.specs.Fields.{whole}

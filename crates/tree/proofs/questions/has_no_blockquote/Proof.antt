@@ -1,7 +1,7 @@
 -- `tree::questions::has_no_blockquote` meets its contract. Assumes nothing.
-use Prim.Native.Nat.{ℕ, _≤_, _<_, _-_, _+_}
+use Prim.Native.Nat.{_≤_, _-_}
 use mathlib.Core.Path.{_≡_, refl, sym, _∙_, ap}
-use mathlib.Core.Bool.{true, false, not}
+use mathlib.Core.Bool.{not}
 use lib.ListN.{length, drop}
 use Rattle.spec.specs.Fields.{fields}
 use Rattle.spec.specs.Questions.{everyField, noBlockquote, question6}

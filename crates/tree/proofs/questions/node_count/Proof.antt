@@ -1,6 +1,6 @@
 -- `tree::questions::node_count` meets its contract. Assumes nothing.
-use Prim.Native.Nat.{ℕ, _≤_, _<_, _-_, _+_}
-use mathlib.Core.Path.{_≡_, refl, sym, _∙_, ap}
+use Prim.Native.Nat.{ℕ, _≤_, _-_, _+_}
+use mathlib.Core.Path.{_≡_, sym, _∙_, ap}
 use lib.ListN.{length, drop}
 use Rattle.spec.specs.Fields.{fields}
 use Rattle.spec.specs.Questions.{nodesIn}
