@@ -3,3 +3,4 @@ pub mod Sequences
 pub mod Walking
 pub mod Rules
 pub mod Every
+pub mod Numbers

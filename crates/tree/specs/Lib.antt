@@ -2,3 +2,4 @@
 pub mod Lead
 pub mod Spans
 pub mod Scans
+pub mod Memory

@@ -1,4 +1,5 @@
 // The sheet: the questions put to it, and its tree in node memory.
 pub mod fields;
+pub mod memory;
 pub mod questions;
 pub mod utf8;

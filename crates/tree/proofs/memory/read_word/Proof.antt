@@ -1,0 +1,36 @@
+-- `tree::memory::read_word` meets its contract. Assumes nothing.
+use Rattle.spec.specs.Fields.{word}
+use Rattle.tree.specs.Memory.{wordAt}
+use borrow.Author.Needs.{needs}
+use native.Mathlib.Omega.{arith}
+use Rattle.tree.proofs.memory.read_word.Statement.{statement}
+use Rattle.tree.proofs.memory.read_word.Tie as tie
+
+returns : tie.Need-returns
+unfolding wordAt word
+returns c =
+    (omega arith, omega arith)
+
+shared-slice-read-wide : tie.Need-shared-slice-read-wide
+shared-slice-read-wide c = search needs
+
+wide-requires : tie.Need-wide-requires
+wide-requires c κs = search needs
+
+mul-result : tie.Need-mul-result
+mul-result c = search needs
+
+add-wide : tie.Need-add-wide
+add-wide c = search needs
+
+shared-slice-read-wide-2 : tie.Need-shared-slice-read-wide-2
+shared-slice-read-wide-2 c = search needs
+
+wide-requires-2 : tie.Need-wide-requires-2
+wide-requires-2 c κs = search needs
+
+add-result : tie.Need-add-result
+add-result c = search needs
+
+pub read-word-spec : {M : Type 1} → statement M
+read-word-spec = tie.close (tie.spec shared-slice-read-wide wide-requires mul-result add-wide shared-slice-read-wide-2 wide-requires-2 add-result returns)
