@@ -9,3 +9,6 @@ pub mod Names
 pub mod Md
 pub mod Call
 pub mod Entries
+pub mod ListNumber
+pub mod Plain
+pub mod SheetList

@@ -1,0 +1,101 @@
+-- The sheet's list (document 01, "Plain sheets and their reading"), from the tree alone. Assumes nothing.
+use Prim.Native.Nat.{ℕ, zero, suc, _+_, _-_}
+use mathlib.Core.Bool.{Bool, true, false, cond, not, _&&_, _||_}
+use mathlib.Core.List.{List, [], _∷_, _++_, map}
+use mathlib.Core.Option.{Option, none, some}
+use lib.Dec.{eqb, leb}
+use Rattle.spec.specs.Bytes.{Bytes, ascii, null, endsWith, isin, words}
+use Rattle.spec.specs.Names as tag
+use Rattle.spec.specs.Names.{tagOf}
+use Rattle.spec.specs.Tree.{Attr, Forest, nothing, text, comment, element}
+use Rattle.spec.specs.Entries as entry
+use Rattle.spec.specs.Entries.{Piece, word, Entry}
+use Rattle.spec.specs.ListNumber.{firstDue, itemNumber, nextDue}
+
+-- the text that stands first among the nodes
+unfoldable pub firstText : Forest → Bytes
+firstText nothing = []
+firstText (text s rest) = s
+firstText (comment s rest) = []
+firstText (element name attrs kids rest) = []
+
+-- "Words part at white bytes."
+unfoldable pub wordsOf : Forest → List Piece
+wordsOf kids = map word (words (firstText kids))
+
+-- "one not empty gains a final LF if it had none"
+unfoldable pub withFinalLf : Bytes → Bytes
+withFinalLf s = cond (null s || endsWith (ascii "\n") s) s (s ++ ascii "\n")
+
+-- ---- tables
+
+-- what each `tr` holds, in document order
+unfoldable pub rowsOf : Forest → List Forest
+rowsOf nothing = []
+rowsOf (text s rest) = rowsOf rest
+rowsOf (comment s rest) = rowsOf rest
+rowsOf (element name attrs kids rest) =
+    elim (eqb (tagOf name) tag.tr) [ true ↦ kids ∷ [] | false ↦ rowsOf kids ] ++ rowsOf rest
+
+-- "each cell by its words"
+unfoldable pub cellsOf : Forest → List (List Piece)
+cellsOf nothing = []
+cellsOf (text s rest) = cellsOf rest
+cellsOf (comment s rest) = cellsOf rest
+cellsOf (element name attrs kids rest) = wordsOf kids ∷ cellsOf rest
+
+-- all cells are `th`
+unfoldable pub allTh : Forest → Bool
+allTh nothing = true
+allTh (text s rest) = allTh rest
+allTh (comment s rest) = allTh rest
+allTh (element name attrs kids rest) = eqb (tagOf name) tag.th && allTh rest
+
+-- "A `table` gives its headings (the first row, if all its cells are `th`) or none, then its other rows"
+unfoldable pub tableEntry : List Forest → Entry
+tableEntry [] = entry.table none []
+tableEntry (row ∷ rows) =
+    cond (allTh row) (entry.table (some (cellsOf row)) (map cellsOf rows)) (entry.table none (map cellsOf (row ∷ rows)))
+
+-- ---- the list
+
+unfoldable pub isHeading : ℕ → Bool
+isHeading name = leb tag.h1 name && leb name tag.h6
+
+-- "`hr` gives a rule, a heading its level and words, `p` its words. `pre` gives its text as fixed text"
+unfoldable pub leafEntries : ℕ → Forest → List Entry
+leafEntries name kids =
+    cond (eqb name tag.hr) (entry.rule ∷ [])
+    (cond (isHeading name) (entry.heading (suc (name - tag.h1)) (wordsOf kids) ∷ [])
+    (cond (eqb name tag.p) (entry.paragraph (wordsOf kids) ∷ [])
+    (cond (eqb name tag.pre) (entry.fixed (withFinalLf (firstText kids)) ∷ [])
+    (cond (eqb name tag.table) (tableEntry (rowsOf kids) ∷ []) []))))
+
+unfoldable pub isList : ℕ → Bool
+isList name = isin name (tag.ul ∷ tag.ol ∷ [])
+
+-- "Wrappers and list boundaries give nothing."
+unfoldable pub isWrapper : ℕ → Bool
+isWrapper name = isin name (tag.div ∷ tag.section ∷ tag.article ∷ [])
+
+-- "The sheet's list goes through the tree in document order." The nodes stand in `depth` lists; `due` is due to an item among
+-- them (`ListNumber.antt`). "An `li` gives its depth (how many lists it stands in), its number and its words."
+unfoldable pub entries : ℕ → Option ℕ → Forest → List Entry
+entries depth due nothing = []
+entries depth due (text s rest) = entries depth due rest
+entries depth due (comment s rest) = entries depth due rest
+entries depth due (element name attrs kids rest) =
+    elim (isWrapper (tagOf name)) [
+      | true ↦ entries depth none kids ++ entries depth due rest
+      | false ↦ elim (isList (tagOf name)) [
+        | true ↦ entries (suc depth) (firstDue (tagOf name) attrs) kids ++ entries depth due rest
+        | false ↦ elim (eqb (tagOf name) tag.li) [
+          | true ↦ entry.item depth (itemNumber due attrs) (wordsOf kids)
+              ∷ (entries depth none kids ++ entries depth (nextDue (itemNumber due attrs)) rest)
+          | false ↦ leafEntries (tagOf name) kids ++ entries depth due rest
+        ]
+      ]
+    ]
+
+unfoldable pub sheetList : Forest → List Entry
+sheetList tree = entries 0 none tree
