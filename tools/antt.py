@@ -45,8 +45,11 @@ def unfoldable(spec=SPEC):
             if f.endswith(".antt") and f != "Lib.antt":
                 path = os.path.relpath(os.path.join(folder, f), root)[:-5].replace(os.sep, ".")
                 with open(os.path.join(folder, f), encoding="utf-8") as h:
-                    for m in re.finditer(r"^unfoldable pub (\S+) :", h.read(), re.M):
-                        names.append("Rattle.spec.specs.%s.%s" % (path, m.group(1)))
+                    source = h.read()
+                found = re.findall(r"^unfoldable pub (\S+) :", source, re.M)
+                for block in re.findall(r"^unfoldable mutual\n((?:(?:  .*)?\n)*)", source, re.M):
+                    found += re.findall(r"^  pub (\S+) :", block, re.M)
+                names += ["Rattle.spec.specs.%s.%s" % (path, name) for name in found]
     return names
 
 
