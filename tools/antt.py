@@ -103,9 +103,18 @@ class Bench:
         bad = []
         for m in re.finditer(r"the two types are `Path \(List ℕ\) (.*?) \[\]` \(expected\)", out, re.S):
             bad += [int(x) for x in re.findall(r"\d+", m.group(1))]
+        # where antt does not show what failed, the cases are halved until one is left
+        for m in re.finditer(r"`result(\d+)`: expected type [^\n]*\n[^\n]*compute to is not shown", out):
+            k = int(m.group(1))
+            n = len(cases[k:k + chunk])
+            if n == 1:
+                bad.append(k)
+            else:
+                half = k + n // 2
+                bad += [k + i for i in self.failures(cases[k:half])] + [half + i for i in self.failures(cases[half:k + n])]
         if not bad:
             raise RuntimeError(out)
-        return bad
+        return sorted(bad)
 
     def value(self, term, of):
         code, out = self.run("\nwanted : %s\nwanted = %s\n\nshown : (x : %s) → x ≡ wanted\nunfolding wanted %s\nshown x = ?shown\n"
