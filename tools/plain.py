@@ -13,6 +13,7 @@ three comparisons with them. Each prints its seed and its counts, and ends with 
 A tree is a text (bytes), a comment (Comment) or an element (name, attributes, children); a sheet is a list of trees.
 """
 import argparse
+import itertools
 import random
 import re
 import sys
@@ -406,6 +407,16 @@ def random_block(r, levels=3):
 
 def random_sheet(r):
     return [random_block(r) for _ in range(r.choice([0, 1, 1, 1, 2, 2, 3, 4, 5]))]
+
+
+def short_sheets(n):
+    """every text of at most n characters, each ASCII punctuation, `a`, `1` or a blank, in every kind of element that holds one"""
+    for k in range(1, n + 1):
+        for chars in itertools.product(PUNCTUATION + "a1 ", repeat=k):
+            t = "".join(chars).encode()
+            if words(t):
+                yield [el("p", t), el("h2", t), el("ul", li(t, ol(li(t), li(t)), el("ul", li(t)))), el("table", row(t, t, kind="th"), row(t, b"x")),
+                       ol(li(t), start=b"7"), el("table", row(t)), el("pre", t), el("p", t)]
 
 
 # ---------------------------------------------------------------- sheets at the edges and sheets that break one sentence
@@ -938,18 +949,16 @@ def minimised(sheet, test):
 def compare_cmark(args):
     reader = Cmark(args.model, args.tools)
     print("seed %d" % args.seed)
-    wrong, count, kinds, largest = 0, 0, {}, 0
-    sheets = [s for _, s in edges()]
-    def all_sheets():
-        yield from sheets
-        yield from random_sheets(args.seed, args.sheets)
-    for sheet in all_sheets():
-        count += 1
+    wrong, kinds, deepest, counts = 0, {}, 0, {}
+    runs = [("edges", (s for _, s in edges())), ("random sheets", random_sheets(args.seed, args.sheets)),
+            ("sheets of texts of at most %d characters" % args.short, short_sheets(args.short))]
+    for run, sheet in ((name, s) for name, sheets in runs for s in sheets):
+        counts[run] = counts.get(run, 0) + 1
         entries = sheet_list(sheet)
         for e in entries:
             kinds[e[0]] = kinds.get(e[0], 0) + 1
             if e[0] == "item":
-                largest = max(largest, e[1])
+                deepest = max(deepest, e[1])
         if reader.differs(sheet):
             wrong += 1
             if wrong <= args.show:
@@ -958,8 +967,8 @@ def compare_cmark(args):
                 print("  text: %r" % reader.text(least))
                 print("  list: %r" % by_position(sheet_list(least)))
                 print("  read: %r" % reader.flat(reader.text(least)), flush=True)
-    print("entries: %s; deepest item %d" % (", ".join("%s %d" % p for p in sorted(kinds.items())), largest))
-    print("%d sheets and %d edges against cmark: %d differ; %d texts begin with U+FEFF" % (count - len(sheets), len(sheets), wrong, reader.marks))
+    print("entries: %s; deepest item %d" % (", ".join("%s %d" % p for p in sorted(kinds.items())), deepest))
+    print("%s: %d differ; %d texts begin with U+FEFF" % (", ".join("%s %d" % p for p in counts.items()), wrong, reader.marks))
     return wrong
 
 
@@ -969,6 +978,7 @@ def main():
     p.add_argument("--sheets", type=int, default=10000)
     p.add_argument("--seed", type=int, default=1)
     p.add_argument("--batch", type=int, default=500, help="sheets in one check of antt")
+    p.add_argument("--short", type=int, default=2, help="also every text of at most so many characters")
     p.add_argument("--show", type=int, default=5, help="how many differences to minimise")
     p.add_argument("--model", default="../shared/model")
     p.add_argument("--tools", default="../shared/tools")

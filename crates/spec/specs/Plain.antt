@@ -1,5 +1,5 @@
 -- Plain sheets (document 01, "Plain sheets and their reading"), a test on what the fragment holds. Assumes nothing.
-use Prim.Native.Nat.{ℕ, zero, suc}
+use Prim.Native.Nat.{ℕ, suc}
 use mathlib.Core.Bool.{Bool, true, false, cond, not, _&&_, _||_}
 use mathlib.Core.List.{List, [], _∷_, _++_}
 use mathlib.Core.Option.{Option, none, some}
@@ -111,25 +111,26 @@ countNodes (text s rest) = suc (countNodes rest)
 countNodes (comment s rest) = suc (countNodes rest)
 countNodes (element name attrs kids rest) = suc (countNodes rest)
 
--- how many cells each `tr` has, in document order
-unfoldable pub widths : Forest → List ℕ
-widths nothing = []
-widths (text s rest) = widths rest
-widths (comment s rest) = widths rest
-widths (element name attrs kids rest) =
-    elim (eqb (tagOf name) tag.tr) [ true ↦ countNodes kids ∷ [] | false ↦ widths kids ] ++ widths rest
+-- what each `tr` holds, in document order
+unfoldable pub rowsOf : Forest → List Forest
+rowsOf nothing = []
+rowsOf (text s rest) = rowsOf rest
+rowsOf (comment s rest) = rowsOf rest
+rowsOf (element name attrs kids rest) =
+    elim (eqb (tagOf name) tag.tr) [ true ↦ kids ∷ [] | false ↦ rowsOf kids ] ++ rowsOf rest
 
-unfoldable pub allAre : ℕ → List ℕ → Bool
-allAre n [] = true
-allAre n (m ∷ ms) = eqb m n && allAre n ms
+-- each row has n cells
+unfoldable pub allHave : ℕ → List Forest → Bool
+allHave n [] = true
+allHave n (r ∷ rs) = eqb (countNodes r) n && allHave n rs
 
 -- "one or more `tr`", "and every `tr` the same number of cells (`th` or `td`), at least one"
-unfoldable pub equalWidths : List ℕ → Bool
-equalWidths [] = false
-equalWidths (n ∷ ns) = leb 1 n && allAre n ns
+unfoldable pub equalRows : List Forest → Bool
+equalRows [] = false
+equalRows (r ∷ rs) = leb 1 (countNodes r) && allHave (countNodes r) rs
 
 unfoldable pub plainTable : Forest → Bool
-plainTable kids = tableParts kids && equalWidths (widths kids)
+plainTable kids = tableParts kids && equalRows (rowsOf kids)
 
 -- ---- lists
 

@@ -1,16 +1,17 @@
 -- The sheet's list (document 01, "Plain sheets and their reading"), from the tree alone. Assumes nothing.
-use Prim.Native.Nat.{ℕ, zero, suc, _+_, _-_}
-use mathlib.Core.Bool.{Bool, true, false, cond, not, _&&_, _||_}
+use Prim.Native.Nat.{ℕ, suc, _-_}
+use mathlib.Core.Bool.{Bool, true, false, cond, _&&_, _||_}
 use mathlib.Core.List.{List, [], _∷_, _++_, map}
 use mathlib.Core.Option.{Option, none, some}
 use lib.Dec.{eqb, leb}
-use Rattle.spec.specs.Bytes.{Bytes, ascii, null, endsWith, isin, words}
+use Rattle.spec.specs.Bytes.{Bytes, ascii, null, endsWith, words}
 use Rattle.spec.specs.Names as tag
 use Rattle.spec.specs.Names.{tagOf}
-use Rattle.spec.specs.Tree.{Attr, Forest, nothing, text, comment, element}
+use Rattle.spec.specs.Tree.{Forest, nothing, text, comment, element}
 use Rattle.spec.specs.Entries as entry
 use Rattle.spec.specs.Entries.{Piece, word, Entry}
 use Rattle.spec.specs.ListNumber.{firstDue, itemNumber, nextDue}
+use Rattle.spec.specs.Plain.{isList, isWrapper, rowsOf}
 
 -- the text that stands first among the nodes
 unfoldable pub firstText : Forest → Bytes
@@ -28,14 +29,6 @@ unfoldable pub withFinalLf : Bytes → Bytes
 withFinalLf s = cond (null s || endsWith (ascii "\n") s) s (s ++ ascii "\n")
 
 -- ---- tables
-
--- what each `tr` holds, in document order
-unfoldable pub rowsOf : Forest → List Forest
-rowsOf nothing = []
-rowsOf (text s rest) = rowsOf rest
-rowsOf (comment s rest) = rowsOf rest
-rowsOf (element name attrs kids rest) =
-    elim (eqb (tagOf name) tag.tr) [ true ↦ kids ∷ [] | false ↦ rowsOf kids ] ++ rowsOf rest
 
 -- "each cell by its words"
 unfoldable pub cellsOf : Forest → List (List Piece)
@@ -59,6 +52,7 @@ tableEntry (row ∷ rows) =
 
 -- ---- the list
 
+-- `h1` to `h6` have numbers that follow one another
 unfoldable pub isHeading : ℕ → Bool
 isHeading name = leb tag.h1 name && leb name tag.h6
 
@@ -71,15 +65,9 @@ leafEntries name kids =
     (cond (eqb name tag.pre) (entry.fixed (withFinalLf (firstText kids)) ∷ [])
     (cond (eqb name tag.table) (tableEntry (rowsOf kids) ∷ []) []))))
 
-unfoldable pub isList : ℕ → Bool
-isList name = isin name (tag.ul ∷ tag.ol ∷ [])
-
--- "Wrappers and list boundaries give nothing."
-unfoldable pub isWrapper : ℕ → Bool
-isWrapper name = isin name (tag.div ∷ tag.section ∷ tag.article ∷ [])
-
 -- "The sheet's list goes through the tree in document order." The nodes stand in `depth` lists; `due` is due to an item among
--- them (`ListNumber.antt`). "An `li` gives its depth (how many lists it stands in), its number and its words."
+-- them (ListNumber.antt). "An `li` gives its depth (how many lists it stands in), its number and its words." "Wrappers and list
+-- boundaries give nothing."
 unfoldable pub entries : ℕ → Option ℕ → Forest → List Entry
 entries depth due nothing = []
 entries depth due (text s rest) = entries depth due rest
