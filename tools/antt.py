@@ -87,11 +87,10 @@ class Bench:
                            env=dict(os.environ, RT_CUT="0"))
         return p.returncode, p.stdout + p.stderr
 
-    def failures(self, cases):
-        """the indices of the cases that are not true; the cases are evaluated in one check"""
+    def failures(self, cases, chunk=100):
+        """the indices of the cases that are not true; the cases are evaluated in one check, `chunk` of them in a declaration"""
         body = ["\nfailing : ℕ → List Bool → List ℕ\nfailing n [] = []\n"
                 "failing n (b ∷ bs) = cond b (failing (suc n) bs) (n ∷ failing (suc n) bs)\n"]
-        chunk = 100
         for k in range(0, len(cases), chunk):
             part = cases[k:k + chunk]
             body.append("\ncases%d : List Bool\ncases%d =\n    %s ∷ []\n" % (k, k, "\n    ∷ ".join(part)))
@@ -111,7 +110,7 @@ class Bench:
                 bad.append(k)
             else:
                 half = k + n // 2
-                bad += [k + i for i in self.failures(cases[k:half])] + [half + i for i in self.failures(cases[half:k + n])]
+                bad += [k + i for i in self.failures(cases[k:half], chunk)] + [half + i for i in self.failures(cases[half:k + n], chunk)]
         if not bad:
             raise RuntimeError(out)
         return sorted(bad)

@@ -638,17 +638,16 @@ def changed(r, sheet):
 
 # ---------------------------------------------------------------- in antt
 
-PREAMBLE = """
+USES = """
 use Rattle.spec.specs.Bytes.{Bytes, ascii, same}
 use Rattle.spec.specs.Fields.{fields}
 use Rattle.spec.specs.Tree.{treeOf}
 use Rattle.spec.specs.Entries.{Piece, word, other, Entry, rule, heading, paragraph, fixed, item, table, foreign}
 use Rattle.spec.specs.Plain.{plain}
 use Rattle.spec.specs.SheetList.{sheetList}
+"""
 
-wordOf : Bytes → Piece
-wordOf s = word s
-
+EQUALITY = """
 wordsFrom : List Bytes → List Piece
 wordsFrom [] = []
 wordsFrom (s ∷ ss) = word s ∷ wordsFrom ss
@@ -778,11 +777,13 @@ notPlain : Bytes → Bool
 notPlain sheet = not (plain (treeOf (fields sheet)))
 """
 
-READING = """
+READING_USES = """
 use Rattle.spec.specs.Questions.{standard}
 use Rattle.spec.specs.Call.{written}
 use Rattle.spec.specs.Reading.{read}
+"""
 
+READING = """
 readsBack : Bytes → Bool
 readsBack sheet = sameList (read (written sheet standard 0 false .text)) (sheetList (treeOf (fields sheet)))
 """
@@ -815,12 +816,12 @@ def list_term(literal, entries):
     return seq(["(" + entry_term(literal, e) + ")" for e in entries])
 
 
-def in_batches(bench, cases, name, size):
+def in_batches(bench, cases, name, size, chunk=100):
     """the cases that fail; a case is a sheet and a term"""
     bad = []
     for k in range(0, len(cases), size):
         part = cases[k:k + size]
-        bad += [part[i] for i in bench.failures([term for _, term in part])]
+        bad += [part[i] for i in bench.failures([term for _, term in part], chunk)]
         print("  %s: %d of %d, %d differ" % (name, min(k + size, len(cases)), len(cases), len(bad)), flush=True)
     for sheet, _ in bad[:5]:
         print("  differs:", sheet)
@@ -854,7 +855,7 @@ def compare_antt(args):
     groups.append(("changed sheets, %d of them plain" % still,
                    [(s, plain_term(literal, s) if is_plain(s) else "notPlain %s" % literal(encode(s))) for s in mixed]))
     wrong = 0
-    with Bench(PREAMBLE) as bench:
+    with Bench(USES + EQUALITY) as bench:
         for name, cases in groups:
             n = in_batches(bench, cases, name, args.batch)
             print("%s: %d, %d differ" % (name, len(cases), n), flush=True)
@@ -865,10 +866,11 @@ def compare_antt(args):
 def compare_reading(args):
     from antt import Bench, literal
     print("seed %d" % args.seed)
-    sheets = list(random_sheets(args.seed, args.sheets)) + [s for _, s in edges()]
-    with Bench(PREAMBLE + READING) as bench:
-        wrong = in_batches(bench, [(s, "readsBack %s" % literal(encode(s))) for s in sheets], "read back", args.batch)
-    print("sheets read back: %d, %d differ" % (len(sheets), wrong))
+    sheets = [encode(s) for s in itertools.chain(random_sheets(args.seed, args.sheets), (s for _, s in edges()))]
+    cases = [(s, "readsBack %s" % literal(s)) for s in sheets if len(s) <= args.largest]
+    with Bench(USES + READING_USES + EQUALITY + READING) as bench:
+        wrong = in_batches(bench, cases, "read back", args.batch, 10)
+    print("sheets read back: %d, %d differ; %d left out as longer than %d bytes" % (len(cases), wrong, len(sheets) - len(cases), args.largest))
     return wrong
 
 
@@ -979,6 +981,7 @@ def main():
     p.add_argument("--seed", type=int, default=1)
     p.add_argument("--batch", type=int, default=500, help="sheets in one check of antt")
     p.add_argument("--short", type=int, default=2, help="also every text of at most so many characters")
+    p.add_argument("--largest", type=int, default=500, help="the longest sheet, in bytes, whose text is made and read in antt")
     p.add_argument("--show", type=int, default=5, help="how many differences to minimise")
     p.add_argument("--model", default="../shared/model")
     p.add_argument("--tools", default="../shared/tools")
