@@ -117,7 +117,7 @@ rowsOf nothing = []
 rowsOf (text s rest) = rowsOf rest
 rowsOf (comment s rest) = rowsOf rest
 rowsOf (element name attrs kids rest) =
-    elim (eqb (tagOf name) tag.tr) [ true ↦ kids ∷ [] | false ↦ rowsOf kids ] ++ rowsOf rest
+    cond (eqb (tagOf name) tag.tr) (kids ∷ []) (rowsOf kids) ++ rowsOf rest
 
 -- each row has n cells
 unfoldable pub allHave : ℕ → List Forest → Bool
@@ -198,7 +198,7 @@ blocks nothing = true
 blocks (text s rest) = false
 blocks (comment s rest) = false
 blocks (element name attrs kids rest) =
-    elim (isWrapper (tagOf name)) [ true ↦ null attrs && blocks kids | false ↦ block name attrs kids ] && blocks rest
+    cond (isWrapper (tagOf name)) (null attrs && blocks kids) (block name attrs kids) && blocks rest
 
 -- "A plain sheet holds blocks and nothing else."
 unfoldable pub plain : Forest → Bool

@@ -7,11 +7,11 @@ use lib.Dec.{eqb, leb}
 use Rattle.spec.specs.Bytes.{Bytes, ascii, null, endsWith, words}
 use Rattle.spec.specs.Names as tag
 use Rattle.spec.specs.Names.{tagOf}
-use Rattle.spec.specs.Tree.{Forest, nothing, text, comment, element}
+use Rattle.spec.specs.Tree.{Attr, Forest, nothing, text, comment, element}
 use Rattle.spec.specs.Entries as entry
 use Rattle.spec.specs.Entries.{Piece, word, Entry}
 use Rattle.spec.specs.ListNumber.{firstDue, itemNumber, nextDue}
-use Rattle.spec.specs.Plain.{isList, isWrapper, rowsOf}
+use Rattle.spec.specs.Plain.{isList, rowsOf}
 
 -- the text that stands first among the nodes
 unfoldable pub firstText : Forest → Bytes
@@ -56,34 +56,35 @@ tableEntry (row ∷ rows) =
 unfoldable pub isHeading : ℕ → Bool
 isHeading name = leb tag.h1 name && leb name tag.h6
 
--- "`hr` gives a rule, a heading its level and words, `p` its words. `pre` gives its text as fixed text"
-unfoldable pub leafEntries : ℕ → Forest → List Entry
-leafEntries name kids =
-    cond (eqb name tag.hr) (entry.rule ∷ [])
+-- what an element gives by itself, before what it holds, where it stands in `depth` lists and `due` is due to it (ListNumber.antt):
+-- "`hr` gives a rule, a heading its level and words, `p` its words. `pre` gives its text as fixed text". "An `li` gives its depth
+-- (how many lists it stands in), its number and its words." "Wrappers and list boundaries give nothing."
+unfoldable pub own : ℕ → ℕ → Option ℕ → List Attr → Forest → List Entry
+own name depth due attrs kids =
+    cond (eqb name tag.li) (entry.item depth (itemNumber due attrs) (wordsOf kids) ∷ [])
+    (cond (eqb name tag.hr) (entry.rule ∷ [])
     (cond (isHeading name) (entry.heading (suc (name - tag.h1)) (wordsOf kids) ∷ [])
     (cond (eqb name tag.p) (entry.paragraph (wordsOf kids) ∷ [])
     (cond (eqb name tag.pre) (entry.fixed (withFinalLf (firstText kids)) ∷ [])
-    (cond (eqb name tag.table) (tableEntry (rowsOf kids) ∷ []) []))))
+    (cond (eqb name tag.table) (tableEntry (rowsOf kids) ∷ []) [])))))
 
--- "The sheet's list goes through the tree in document order." The nodes stand in `depth` lists; `due` is due to an item among
--- them (ListNumber.antt). "An `li` gives its depth (how many lists it stands in), its number and its words." "Wrappers and list
--- boundaries give nothing."
+-- in how many lists the children of an element stand
+unfoldable pub depthInside : ℕ → ℕ → ℕ
+depthInside name depth = cond (isList name) (suc depth) depth
+
+-- what is due behind an element
+unfoldable pub dueBehind : ℕ → Option ℕ → List Attr → Option ℕ
+dueBehind name due attrs = cond (eqb name tag.li) (nextDue (itemNumber due attrs)) due
+
+-- "The sheet's list goes through the tree in document order."
 unfoldable pub entries : ℕ → Option ℕ → Forest → List Entry
 entries depth due nothing = []
 entries depth due (text s rest) = entries depth due rest
 entries depth due (comment s rest) = entries depth due rest
 entries depth due (element name attrs kids rest) =
-    elim (isWrapper (tagOf name)) [
-      | true ↦ entries depth none kids ++ entries depth due rest
-      | false ↦ elim (isList (tagOf name)) [
-        | true ↦ entries (suc depth) (firstDue (tagOf name) attrs) kids ++ entries depth due rest
-        | false ↦ elim (eqb (tagOf name) tag.li) [
-          | true ↦ entry.item depth (itemNumber due attrs) (wordsOf kids)
-              ∷ (entries depth none kids ++ entries depth (nextDue (itemNumber due attrs)) rest)
-          | false ↦ leafEntries (tagOf name) kids ++ entries depth due rest
-        ]
-      ]
-    ]
+    own (tagOf name) depth due attrs kids
+    ++ (entries (depthInside (tagOf name) depth) (firstDue (tagOf name) attrs) kids
+    ++ entries depth (dueBehind (tagOf name) due attrs) rest)
 
 unfoldable pub sheetList : Forest → List Entry
 sheetList tree = entries 0 none tree
