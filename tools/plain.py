@@ -660,115 +660,42 @@ rowsFrom : List (List (List Bytes)) → List (List (List Piece))
 rowsFrom [] = []
 rowsFrom (r ∷ rs) = cellsFrom r ∷ rowsFrom rs
 
-samePiece : Piece → Piece → Bool
-samePiece (word s) (word t) = same s t
-samePiece (word s) other = false
-samePiece other (word t) = false
-samePiece other other = true
+codeEach : {A : Type 0} → (A → List ℕ) → List A → List ℕ
+codeEach f [] = []
+codeEach f (x ∷ xs) = f x ++ codeEach f xs
 
-samePieces : List Piece → List Piece → Bool
-samePieces [] [] = true
-samePieces [] (y ∷ ys) = false
-samePieces (x ∷ xs) [] = false
-samePieces (x ∷ xs) (y ∷ ys) = samePiece x y && samePieces xs ys
+-- entries are compared by codes, of which none begins another
+codeList : {A : Type 0} → (A → List ℕ) → List A → List ℕ
+codeList f xs = length xs ∷ codeEach f xs
 
-sameCells : List (List Piece) → List (List Piece) → Bool
-sameCells [] [] = true
-sameCells [] (y ∷ ys) = false
-sameCells (x ∷ xs) [] = false
-sameCells (x ∷ xs) (y ∷ ys) = samePieces x y && sameCells xs ys
+codeOption : {A : Type 0} → (A → List ℕ) → Option A → List ℕ
+codeOption f none = 0 ∷ []
+codeOption f (some x) = 1 ∷ f x
 
-sameRows : List (List (List Piece)) → List (List (List Piece)) → Bool
-sameRows [] [] = true
-sameRows [] (y ∷ ys) = false
-sameRows (x ∷ xs) [] = false
-sameRows (x ∷ xs) (y ∷ ys) = sameCells x y && sameRows xs ys
+codeNumber : ℕ → List ℕ
+codeNumber n = n ∷ []
 
-sameHead : Option (List (List Piece)) → Option (List (List Piece)) → Bool
-sameHead none none = true
-sameHead none (some y) = false
-sameHead (some x) none = false
-sameHead (some x) (some y) = sameCells x y
+codePiece : Piece → List ℕ
+codePiece (word s) = 1 ∷ codeList codeNumber s
+codePiece other = 0 ∷ []
 
-sameNumber : Option ℕ → Option ℕ → Bool
-sameNumber none none = true
-sameNumber none (some m) = false
-sameNumber (some n) none = false
-sameNumber (some n) (some m) = eqb n m
+codeWords : List Piece → List ℕ
+codeWords ws = codeList codePiece ws
 
-kind : Entry → ℕ
-kind rule = 0
-kind (heading l ws) = 1
-kind (paragraph ws) = 2
-kind (fixed s) = 3
-kind (item d n ws) = 4
-kind (table h rs) = 5
-kind foreign = 6
+codeCells : List (List Piece) → List ℕ
+codeCells cs = codeList codeWords cs
 
-levelOf : Entry → ℕ
-levelOf rule = 0
-levelOf (heading l ws) = l
-levelOf (paragraph ws) = 0
-levelOf (fixed s) = 0
-levelOf (item d n ws) = d
-levelOf (table h rs) = 0
-levelOf foreign = 0
-
-piecesOf : Entry → List Piece
-piecesOf rule = []
-piecesOf (heading l ws) = ws
-piecesOf (paragraph ws) = ws
-piecesOf (fixed s) = []
-piecesOf (item d n ws) = ws
-piecesOf (table h rs) = []
-piecesOf foreign = []
-
-bytesOf : Entry → Bytes
-bytesOf rule = []
-bytesOf (heading l ws) = []
-bytesOf (paragraph ws) = []
-bytesOf (fixed s) = s
-bytesOf (item d n ws) = []
-bytesOf (table h rs) = []
-bytesOf foreign = []
-
-numOf : Entry → Option ℕ
-numOf rule = none
-numOf (heading l ws) = none
-numOf (paragraph ws) = none
-numOf (fixed s) = none
-numOf (item d n ws) = n
-numOf (table h rs) = none
-numOf foreign = none
-
-headOf : Entry → Option (List (List Piece))
-headOf rule = none
-headOf (heading l ws) = none
-headOf (paragraph ws) = none
-headOf (fixed s) = none
-headOf (item d n ws) = none
-headOf (table h rs) = h
-headOf foreign = none
-
-bodyOf : Entry → List (List (List Piece))
-bodyOf rule = []
-bodyOf (heading l ws) = []
-bodyOf (paragraph ws) = []
-bodyOf (fixed s) = []
-bodyOf (item d n ws) = []
-bodyOf (table h rs) = rs
-bodyOf foreign = []
-
-sameEntry : Entry → Entry → Bool
-sameEntry x y =
-    (eqb (kind x) (kind y) && eqb (levelOf x) (levelOf y)) && ((samePieces (piecesOf x) (piecesOf y) && same (bytesOf x) (bytesOf y))
-    && (sameNumber (numOf x) (numOf y) && (sameHead (headOf x) (headOf y) && sameRows (bodyOf x) (bodyOf y))))
+codeEntry : Entry → List ℕ
+codeEntry rule = 0 ∷ []
+codeEntry (heading l ws) = 1 ∷ l ∷ codeWords ws
+codeEntry (paragraph ws) = 2 ∷ codeWords ws
+codeEntry (fixed s) = 3 ∷ codeList codeNumber s
+codeEntry (item d n ws) = 4 ∷ d ∷ (codeOption codeNumber n ++ codeWords ws)
+codeEntry (table h rs) = 5 ∷ (codeOption codeCells h ++ codeList codeCells rs)
+codeEntry foreign = 6 ∷ []
 
 sameList : List Entry → List Entry → Bool
-sameList [] [] = true
-sameList [] (y ∷ ys) = false
-sameList (x ∷ xs) [] = false
-sameList (x ∷ xs) (y ∷ ys) = sameEntry x y && sameList xs ys
+sameList xs ys = same (codeList codeEntry xs) (codeList codeEntry ys)
 
 plainWith : Bytes → List Entry → Bool
 plainWith sheet entries = let tree = treeOf (fields sheet) in plain tree && sameList (sheetList tree) entries
