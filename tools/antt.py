@@ -1,5 +1,7 @@
 """Evaluates definitions of crate `spec` in antt, in a throwaway crate outside the repository.
 
+    python3 tools/antt.py               # writes specs/Everything.antt anew, which names what computes
+
     bench = Bench(preamble)             # preamble: antt text with the `use` lines and the test function of the cases
     bench.failures(cases)               # cases: antt terms of type Bool; the indices of those that are not true
 """
@@ -33,6 +35,39 @@ def literal(b):
         else:
             out.append("\\u{%x}" % c)
     return '(ascii "%s")' % "".join(out)
+
+
+def modules(spec=SPEC):
+    """the modules of `spec` in the order in which Lib.antt and its like name them"""
+    def below(path, prefix):
+        with open(path, encoding="utf-8") as h:
+            for name in re.findall(r"^pub mod (\S+)", h.read(), re.M):
+                file = os.path.join(root, *(prefix + [name])) + ".antt"
+                yield from below(file, prefix + [name])
+                yield prefix + [name], file
+    root = os.path.join(spec, "specs")
+    return below(os.path.join(root, "Lib.antt"), [])
+
+
+def everything(spec=SPEC):
+    """the text of Everything.antt: every definition that can be unfolded, but those of the laws and cases behind it"""
+    uses, names, taken = [], [], set()
+    for path, file in modules(spec):
+        with open(file, encoding="utf-8") as h:
+            source = h.read()
+        found = re.findall(r"^unfoldable pub (\S+) :", source, re.M)
+        for block in re.findall(r"^unfoldable mutual\n((?:(?:  .*)?\n)*)", source, re.M):
+            found += re.findall(r"^  pub (\S+) :", block, re.M)
+        if path[0] in ("Everything", "Cases") or not found:
+            continue
+        alias = path[-1] if path[-1] not in taken | {"List"} else "".join(path)
+        taken.add(alias)
+        whole = "Rattle.spec.specs." + ".".join(path)
+        uses.append("use %s" % whole if alias == path[-1] else "use %s as %s" % (whole, alias))
+        names += ["%s.%s" % (alias, n) for n in found]
+    return ("-- Every definition of the crate that computes, named once: under `unfolding everything` a closed term computes to its value.\n"
+            "-- Assumes nothing.\n%s\n\nunfoldable pub everything : Unit {0}\nunfolding %s\neverything = tt\n"
+            % ("\n".join(uses), " ".join(names)))
 
 
 class Bench:
@@ -76,3 +111,8 @@ class Bench:
         if bool(code) != bool(bad):
             raise RuntimeError(out)
         return bad
+
+
+if __name__ == "__main__":
+    with open(os.path.join(SPEC, "specs", "Everything.antt"), "w", encoding="utf-8") as out:
+        out.write(everything())

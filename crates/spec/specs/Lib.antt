@@ -10,6 +10,9 @@ pub mod Md
 pub mod Levels
 pub mod SkipMd
 pub mod Call
+pub mod Entries
+pub mod ListNumber
+pub mod Plain
+pub mod SheetList
 pub mod Everything
 pub mod Cases
-pub mod Entries

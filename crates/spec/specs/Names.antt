@@ -10,7 +10,8 @@ names =
     ascii "article" ∷ ascii "section" ∷ ascii "div" ∷ ascii "p" ∷ ascii "h1" ∷ ascii "h2" ∷ ascii "h3" ∷ ascii "h4"
     ∷ ascii "h5" ∷ ascii "h6" ∷ ascii "ul" ∷ ascii "ol" ∷ ascii "dl" ∷ ascii "table" ∷ ascii "hr" ∷ ascii "li"
     ∷ ascii "tr" ∷ ascii "th" ∷ ascii "td" ∷ ascii "br" ∷ ascii "a" ∷ ascii "img" ∷ ascii "pre" ∷ ascii "code"
-    ∷ ascii "strong" ∷ ascii "b" ∷ ascii "em" ∷ ascii "i" ∷ []
+    ∷ ascii "strong" ∷ ascii "b" ∷ ascii "em" ∷ ascii "i" ∷ ascii "thead"
+    ∷ ascii "tbody" ∷ []
 
 -- x's place in the list, counted from n; 0 where it has none
 unfoldable pub place : ℕ → Bytes → List Bytes → ℕ
@@ -105,10 +106,16 @@ em = 27
 abbrev pub i : ℕ
 i = 28
 
+abbrev pub thead : ℕ
+thead = 29
+
+abbrev pub tbody : ℕ
+tbody = 30
+
 -- each name has the number that is called by it
 pub numbered :
     map tagOf names
     ≡ article ∷ section ∷ div ∷ p ∷ h1 ∷ h2 ∷ h3 ∷ h4 ∷ h5 ∷ h6 ∷ ul ∷ ol ∷ dl ∷ table ∷ hr ∷ li ∷ tr ∷ th ∷ td ∷ br
-    ∷ a ∷ img ∷ pre ∷ code ∷ strong ∷ b ∷ em ∷ i ∷ []
+    ∷ a ∷ img ∷ pre ∷ code ∷ strong ∷ b ∷ em ∷ i ∷ thead ∷ tbody ∷ []
 unfolding names tagOf place same
 numbered = refl
