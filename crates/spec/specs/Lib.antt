@@ -14,5 +14,6 @@ pub mod Entries
 pub mod ListNumber
 pub mod Plain
 pub mod SheetList
+pub mod Reading
 pub mod Everything
 pub mod Cases
