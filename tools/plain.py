@@ -639,10 +639,10 @@ def changed(r, sheet):
 # ---------------------------------------------------------------- in antt
 
 USES = """
-use Rattle.spec.specs.Bytes.{Bytes, ascii, same}
+use Rattle.spec.specs.Bytes.{Bytes, ascii}
 use Rattle.spec.specs.Fields.{fields}
 use Rattle.spec.specs.Tree.{treeOf}
-use Rattle.spec.specs.Entries.{Piece, word, other, Entry, rule, heading, paragraph, fixed, item, table, foreign}
+use Rattle.spec.specs.Entries.{Piece, word, Entry, rule, heading, paragraph, fixed, item, table, sameEntries}
 use Rattle.spec.specs.Plain.{plain}
 use Rattle.spec.specs.SheetList.{sheetList}
 """
@@ -660,45 +660,8 @@ rowsFrom : List (List (List Bytes)) → List (List (List Piece))
 rowsFrom [] = []
 rowsFrom (r ∷ rs) = cellsFrom r ∷ rowsFrom rs
 
-codeEach : {A : Type 0} → (A → List ℕ) → List A → List ℕ
-codeEach f [] = []
-codeEach f (x ∷ xs) = f x ++ codeEach f xs
-
--- entries are compared by codes, of which none begins another
-codeList : {A : Type 0} → (A → List ℕ) → List A → List ℕ
-codeList f xs = length xs ∷ codeEach f xs
-
-codeOption : {A : Type 0} → (A → List ℕ) → Option A → List ℕ
-codeOption f none = 0 ∷ []
-codeOption f (some x) = 1 ∷ f x
-
-codeNumber : ℕ → List ℕ
-codeNumber n = n ∷ []
-
-codePiece : Piece → List ℕ
-codePiece (word s) = 1 ∷ codeList codeNumber s
-codePiece other = 0 ∷ []
-
-codeWords : List Piece → List ℕ
-codeWords ws = codeList codePiece ws
-
-codeCells : List (List Piece) → List ℕ
-codeCells cs = codeList codeWords cs
-
-codeEntry : Entry → List ℕ
-codeEntry rule = 0 ∷ []
-codeEntry (heading l ws) = 1 ∷ l ∷ codeWords ws
-codeEntry (paragraph ws) = 2 ∷ codeWords ws
-codeEntry (fixed s) = 3 ∷ codeList codeNumber s
-codeEntry (item d n ws) = 4 ∷ d ∷ (codeOption codeNumber n ++ codeWords ws)
-codeEntry (table h rs) = 5 ∷ (codeOption codeCells h ++ codeList codeCells rs)
-codeEntry foreign = 6 ∷ []
-
-sameList : List Entry → List Entry → Bool
-sameList xs ys = same (codeList codeEntry xs) (codeList codeEntry ys)
-
 plainWith : Bytes → List Entry → Bool
-plainWith sheet entries = let tree = treeOf (fields sheet) in plain tree && sameList (sheetList tree) entries
+plainWith sheet entries = let tree = treeOf (fields sheet) in plain tree && sameEntries (sheetList tree) entries
 
 notPlain : Bytes → Bool
 notPlain sheet = not (plain (treeOf (fields sheet)))
@@ -712,7 +675,7 @@ use Rattle.spec.specs.Reading.{read}
 
 READING = """
 readsBack : Bytes → Bool
-readsBack sheet = sameList (read (written sheet standard 0 false .text)) (sheetList (treeOf (fields sheet)))
+readsBack sheet = sameEntries (read (written sheet standard 0 false .text)) (sheetList (treeOf (fields sheet)))
 """
 
 
