@@ -615,8 +615,8 @@ def pipes(t):
 
 
 # Texts on which cmark-gfm departs from the specification's words: for each class, other texts that by the specification have the
-# same list. A difference is explained if cmark-gfm finds the reading's list in one of them; with U+FEFF at the beginning, if the
-# reading of the text without the mark has what cmark-gfm finds or something foreign
+# same list. A difference is explained if cmark-gfm finds the reading's list in one of them; with U+FEFF at the beginning, if on the
+# text without the mark the reading returns what cmark-gfm finds, or something foreign
 CLASSES = [
     ("U+FEFF at the beginning, which cmark-gfm drops; the specification does not mention it: \"Any sequence of characters is a valid "
      "CommonMark document.\"", None),
@@ -632,7 +632,9 @@ def explain(t, outside):
     """the class that may explain a difference, and pairs of a text and a list, one of which must then agree; None for the pairs where
     the class alone explains it"""
     if t.startswith(b"\xef\xbb\xbf"):
-        return 0, [(t[3:], outside.list(t) or [])]
+        x = re.sub(rb"^(\xef\xbb\xbf)+", b"", t)
+        es = outside.list(x)
+        return 0, [(x, UNEXPECTED if es is None else es)]
     for k in (1, 2):
         texts = CLASSES[k][1](t)
         if texts:
@@ -647,7 +649,7 @@ WHY = [
     ("what stands behind the destination of a link reference definition is not looked at", rb"\[[^\]]*\]:"),
     ("what stands between ]( and ) is not looked at", rb"\]\((?s:.*)\)"),
     ("a second delimiter row in a paragraph", rb"(?m)^[ >*+0-9.)-]*[ |:-]*-[ |:-]*\n(?s:.*)^[ |:-]*-[ |:-]*$"),
-    ("delimiter runs that may open and close, not counted, or beside bytes outside ASCII", rb"[*_](?s:.*)[*_]"),
+    ("delimiter runs beside bytes outside ASCII", rb"[*_](?s:.*)[*_]"),
     ("what stands between < and > is not looked at to the end", rb"<[A-Za-z0-9/!?.#$%&'*+=^_`{|}~-](?s:.*)>"),
     ("<! and a letter begins an HTML block since 0.30; cmark-gfm asks for a capital letter", rb"<![A-Za-z]"),
 ]

@@ -2,7 +2,7 @@
 --
 -- A leaf in which CommonMark finds nothing but text is its words. Where something else may begin, the leaf is not taken apart:
 -- it is one piece `other`. "May" is wide where CommonMark would need all of its inline machinery; each such place says so.
-use Prim.Native.Nat.{ℕ, zero, suc}
+use Prim.Native.Nat.{ℕ, zero, suc, _+_, _%_}
 use mathlib.Core.Bool.{Bool, true, false, cond, not, _&&_, _||_}
 use mathlib.Core.List.{List, [], _∷_, _++_, map}
 use lib.ListN.{length}
@@ -106,13 +106,30 @@ mayOpen c p n =
     leftFlanking p n
     && (eqb c 42 || ((isUnknown p || isUnknown n) || (not (leftFlanking n p) || isPunctuation p)))
 
-unfoldable pub mayClose : ℕ → ℕ → ℕ → Bytes → Bool
-mayClose c p b r = eqb b c && (not (eqb p c) && mayOpen c (ahead (dropRun c r)) (beside p))
+-- it can do both, whatever the bytes beside it are
+unfoldable pub opensAndCloses : ℕ → Beside → Beside → Bool
+opensAndCloses c p n = not (isUnknown p || isUnknown n) && (mayOpen c p n && mayOpen c n p)
 
--- a run that may open, and behind it one of the same byte that may close. Wider than CommonMark, which also counts
+-- 6.2: "If one of the delimiters can both open and close emphasis, then the sum of the lengths of the delimiter runs containing the
+-- opening and closing delimiters must not be a multiple of 3 unless both lengths are multiples of 3."
+unfoldable pub lengthsMatch : Bool → ℕ → ℕ → Bool
+lengthsMatch both m n = not (both && (eqb ((m + n) % 3) 0 && not (eqb (m % 3) 0)))
+
+-- a run of n bytes c, with p before and q behind, may close what a run of m may open; o: that run can do both
+unfoldable pub closesRun : ℕ → ℕ → Bool → ℕ → Beside → Beside → Bool
+closesRun c m o n p q = mayOpen c q p && lengthsMatch (o || opensAndCloses c p q) m n
+
+unfoldable pub mayClose : ℕ → ℕ → Bool → ℕ → ℕ → Bytes → Bool
+mayClose c m o p b r =
+    eqb b c && (not (eqb p c) && closesRun c m o (suc (run c r)) (beside p) (ahead (dropRun c r)))
+
+-- 6.2: "Emphasis begins with a delimiter that can open emphasis and ends with a delimiter that can close emphasis, and that uses the
+-- same character (_ or *) as the opening delimiter. The opening and closing delimiters must belong to separate delimiter runs."
+unfoldable pub opensRun : ℕ → ℕ → Beside → Bytes → Bool
+opensRun c m p r = mayOpen c p (ahead r) && anywhere (mayClose c m (opensAndCloses c p (ahead r))) c false r
+
 unfoldable pub emphasis : ℕ → ℕ → Bytes → Bool
-emphasis c p r =
-    not (eqb p c) && (mayOpen c (beside p) (ahead (dropRun c r)) && anywhere (mayClose c) c false (dropRun c r))
+emphasis c p r = not (eqb p c) && opensRun c (suc (run c r)) (beside p) (dropRun c r)
 
 -- ---- links and pictures
 
