@@ -1,8 +1,9 @@
 -- The reading: what a Markdown reader finds in a text (document 01, "Plain sheets and their reading"). Assumes nothing.
 --
--- Sentences quoted here and in Reading/ are, unless it is said otherwise, those of the CommonMark specification 0.31 (John MacFarlane),
--- and "GFM" those of the GitHub Flavored Markdown specification (GitHub); both are under CC BY-SA 4.0. The number before a sentence is
--- its section. "Wider" marks each place where more is taken for foreign than the specification asks.
+-- Sentences quoted here and in Reading/ are, unless it is said otherwise, those of the CommonMark specification (John MacFarlane), in
+-- the words of version 0.30; where 0.31 has another rule, that rule is followed. "GFM" marks those of the GitHub Flavored Markdown
+-- specification (GitHub). Both are under CC BY-SA 4.0. The number before a sentence is its section. "Wider" marks each place where more
+-- is taken for foreign than the specification asks.
 pub mod Lines
 pub mod Tags
 pub mod Inline

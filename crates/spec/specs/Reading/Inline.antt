@@ -98,7 +98,7 @@ leftFlanking p besidePunctuation = not (isText p)
 leftFlanking p besideText = true
 leftFlanking p besideUnknown = true
 
--- 6.2: "A single * character can open emphasis iff it is part of a left-flanking delimiter run." "A single _ character can open
+-- 6.2: "A single * character can open emphasis iff (if and only if) it is part of a left-flanking delimiter run." "A single _ character can open
 -- emphasis iff it is part of a left-flanking delimiter run and either (a) not part of a right-flanking delimiter run or (b) part
 -- of a right-flanking delimiter run preceded by a Unicode punctuation character." It can close with p and n exchanged
 unfoldable pub mayOpen : ℕ → Beside → Beside → Bool

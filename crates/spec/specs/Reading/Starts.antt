@@ -135,7 +135,7 @@ start (b ∷ r) = startBy (lead b) b r
 
 -- 5.2: "When the first list item in a list interrupts a paragraph—that is, when it starts on a line that would otherwise count as
 -- paragraph continuation text—then (a) the lines Ls must not begin with a blank line, and (b) if the list item is ordered, the
--- list item must start with 1."
+-- start number must be 1."
 unfoldable pub startsAtOne : Option ℕ → Bool
 startsAtOne none = true
 startsAtOne (some n) = eqb n 1

@@ -24,8 +24,8 @@ Cells = Bytes × List Bytes
 unfoldable pub inCell : ℕ → Cells → Cells
 inCell b p = (b ∷ p .0, p .1)
 
--- "Each row consists of cells containing arbitrary text, in which inlines are parsed, separated by pipes (|)." "It is possible to
--- include a pipe in a cell's content by escaping it, including inside other inline spans". A pipe straight behind a backslash
+-- "Each row consists of cells containing arbitrary text, in which inlines are parsed, separated by pipes (|)." "Include a
+-- pipe in a cell's content by escaping it, including inside other inline spans". A pipe straight behind a backslash
 -- belongs to the cell, and that backslash goes; so a backslash is held back until the next byte is known. The arguments: is one
 -- held back, is the byte a pipe, is it a backslash
 unfoldable pub cellByte : Bool → Bool → Bool → ℕ → Cells → Cells
@@ -85,7 +85,7 @@ delimiterRow cs = not (null cs) && delimiterCells cs
 
 -- ---- the other rows
 
--- "The remainder of the table's rows may vary in the number of cells. If a number of cells fewer than the number of cells in the
+-- "The remainder of the table's rows may vary in the number of cells. If there are a number of cells fewer than the number of cells in the
 -- header row, empty cells are inserted. If there are greater, the excess is ignored"
 unfoldable pub fit : ℕ → List Bytes → List Bytes
 fit zero cs = []

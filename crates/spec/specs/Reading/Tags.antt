@@ -113,7 +113,7 @@ instruction r = contains (ascii "?>") r
 -- ---- autolinks
 
 -- 6.5: "An absolute URI, for these purposes, consists of a scheme followed by a colon (:) followed by zero or more characters other
--- than ASCII control characters, space, <, and >." "a scheme is any sequence of 2–32 characters beginning with an ASCII letter and
+-- ASCII control characters, space, <, and >." "a scheme is any sequence of 2–32 characters beginning with an ASCII letter and
 -- followed by any combination of ASCII letters, digits, or the symbols plus ("+"), period ("."), or hyphen ("-")."
 unfoldable pub schemeByte : ℕ → Bool
 schemeByte b = letterOrDigit b || isin b (ascii "+.-")

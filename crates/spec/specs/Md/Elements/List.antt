@@ -120,8 +120,8 @@ hasTextBeforeList (comment s rest) = hasTextBeforeList rest
 hasTextBeforeList (element name attrs kids rest) =
     not («is_list» (tagOf name)) && (not (null («trim_end» («text_of» kids))) || hasTextBeforeList rest)
 
--- the first element child is an `li` with a text, and an ordered list begins with 1. CommonMark, list items: "In order for
--- such a list item to interrupt a paragraph, it must start with 1"
+-- the first element child is an `li` with a text, and an ordered list begins with 1. CommonMark 5.2: "When the
+-- first list item in a list interrupts a paragraph", "if the list item is ordered, the start number must be 1."
 unfoldable pub «can_interrupt_paragraph» : ℕ → List Attr → Forest → Bool
 «can_interrupt_paragraph» list listAttrs nothing = false
 «can_interrupt_paragraph» list listAttrs (text s rest) = «can_interrupt_paragraph» list listAttrs rest
