@@ -62,9 +62,9 @@ unfoldable pub fieldThen : Field → Tail → Tail
 fieldThen f t =
     cond (eqb (f .tag) 1) (openThen (f .body) t)
     (cond (eqb (f .tag) 6) (closeThen t)
-    (cond (eqb (f .tag) 2) (nameThen (f .body) t)
-    (cond (eqb (f .tag) 3) (valueThen (f .body) t)
-    (cond (eqb (f .tag) 4) (nodeThen (text (f .body)) t) (nodeThen (comment (f .body)) t)))))
+    (cond (eqb (f .tag) 4) (nodeThen (text (f .body)) t)
+    (cond (eqb (f .tag) 5) (nodeThen (comment (f .body)) t)
+    (cond (eqb (f .tag) 2) (nameThen (f .body) t) (valueThen (f .body) t)))))
 
 unfoldable pub tail : List Field → Tail
 tail [] = record { siblings = nothing ∷ []; attrs = []; value = [] }

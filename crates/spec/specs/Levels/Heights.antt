@@ -37,23 +37,23 @@ bounded-close (suc d) fs stray h p =
     (omega arith, rw e at p)
 
 -- one field, by the tests of `fieldThen` and `openAfter`
-bounded-field : (isOpen isClose isName isValue isText : Bool) (d : ℕ) (body : Bytes) (t : Tail)
-    → not (isClose && eqb d 0) ≡ true
-    → d ≤ maxOpen
-    → Bounded (cond isOpen (suc d) (cond isClose (d - 1) d)) (t .siblings)
-    → Bounded d
-    (cond isOpen (openThen body t)
-    (cond isClose (closeThen t)
-    (cond isName (nameThen body t)
-    (cond isValue (valueThen body t) (cond isText (nodeThen (text body) t) (nodeThen (comment body) t)))))
-    .siblings)
+bounded-field : (isOpen isClose isText isComment isName : Bool) (d : ℕ) (body : Bytes) (t : Tail)
+  → not (isClose && eqb d 0) ≡ true
+  → d ≤ maxOpen
+  → Bounded (cond isOpen (suc d) (cond isClose (d - 1) d)) (t .siblings)
+  → Bounded d
+  (cond isOpen (openThen body t)
+  (cond isClose (closeThen t)
+  (cond isText (nodeThen (text body) t)
+  (cond isComment (nodeThen (comment body) t) (cond isName (nameThen body t) (valueThen body t)))))
+  .siblings)
 unfolding openThen closeThen nameThen valueThen nodeThen height
-bounded-field true c n v x d body t stray h p = bounded-open d (t .siblings) body (t .attrs) p
-bounded-field false true n v x d body t stray h p = bounded-close d (t .siblings) stray h p
-bounded-field false false true v x d body t stray h p = p
-bounded-field false false false true x d body t stray h p = p
-bounded-field false false false false true d body t stray h p = bounded-node d (t .siblings) (text body (first (t .siblings))) refl p
-bounded-field false false false false false d body t stray h p = bounded-node d (t .siblings) (comment body (first (t .siblings))) refl p
+bounded-field true c x m n d body t stray h p = bounded-open d (t .siblings) body (t .attrs) p
+bounded-field false true x m n d body t stray h p = bounded-close d (t .siblings) stray h p
+bounded-field false false true m n d body t stray h p = bounded-node d (t .siblings) (text body (first (t .siblings))) refl p
+bounded-field false false false true n d body t stray h p = bounded-node d (t .siblings) (comment body (first (t .siblings))) refl p
+bounded-field false false false false true d body t stray h p = p
+bounded-field false false false false false d body t stray h p = p
 
 pub bounded-tail : (fs : List Field) (before d : ℕ) → keepRules before d fs ≡ true → shallow d fs ≡ true → stillOpen d fs ≡ 0
     → Bounded d (tail fs .siblings)
@@ -63,5 +63,5 @@ bounded-tail (f ∷ fs) before d rules low closed =
     let r : (noStray d (f .tag) ≡ true) × (keepRules (f .tag) (openAfter d (f .tag)) fs ≡ true) =
     and-eq-true-iff _ _ .0 (and-eq-true-iff (mayFollow before (f .tag) && rightLength f) _ .0 rules .1) in
     let l : (leb d maxOpen ≡ true) × (shallow (openAfter d (f .tag)) fs ≡ true) = and-eq-true-iff _ _ .0 low in
-    bounded-field (eqb (f .tag) 1) (eqb (f .tag) 6) (eqb (f .tag) 2) (eqb (f .tag) 3) (eqb (f .tag) 4) d (f .body) (tail fs)
+    bounded-field (eqb (f .tag) 1) (eqb (f .tag) 6) (eqb (f .tag) 4) (eqb (f .tag) 5) (eqb (f .tag) 2) d (f .body) (tail fs)
     (r .0) (leb-true d maxOpen (l .0)) (bounded-tail fs (f .tag) (openAfter d (f .tag)) (r .1) (l .1) closed)
