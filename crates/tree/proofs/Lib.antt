@@ -4,3 +4,5 @@ pub mod Walking
 pub mod Rules
 pub mod Every
 pub mod Numbers
+pub mod Telling
+pub mod Placing

@@ -3,3 +3,5 @@ pub mod Lead
 pub mod Spans
 pub mod Scans
 pub mod Memory
+pub mod Kinds
+pub mod Represents

@@ -2,4 +2,5 @@
 pub mod fields;
 pub mod memory;
 pub mod questions;
+pub mod store;
 pub mod utf8;

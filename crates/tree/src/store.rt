@@ -1,0 +1,62 @@
+// The tree of a sheet, stored in node memory.
+ghost use mathlib.Core.Path.{_≡_};
+ghost use Prim.Native.Nat.{_+_, _*_, _≤_, _<_};
+ghost use lib.ListN.{length};
+ghost use Rattle.tree.specs.Memory.{wordAt, Stored};
+ghost use Rattle.tree.specs.Kinds.{kindOf, Placed, FitsAs, TurnedAs, Storable};
+
+use crate::fields::span_at;
+use crate::memory::{read_word, store_quad, store_word};
+
+// How far storing has come: the nodes begun, and the innermost open one.
+pub struct Turn {
+    pub count: usize,
+    pub cur: usize,
+}
+
+// Stores the record of node i; its scratch stays as it was.
+fn store_record(ns: &mut [u8], i: usize, place: usize, end: usize, parent: usize)
+    requires { ⌜ (i * 24 + 24 ≤ length (now ns)) × (place < 4294967296) × (end < 65536) × (parent < 65536) ⌝ }
+    ensures { λ _. ⌜ Placed i place end parent (now (ns .entry)) (now (ns .exit)) ⌝ }
+{
+    store_quad(ns, i * 24, place);
+    store_word(ns, i * 24 + 4, end);
+    store_word(ns, i * 24 + 6, parent);
+}
+
+// Stores what the field at p with this tag says of the nodes.
+fn store_field(ns: &mut [u8], tag: u8, p: usize, count: usize, cur: usize) -> Turn
+    requires { ⌜ (p < 4294967296) × FitsAs (kindOf tag) count cur (now ns) ⌝ }
+    ensures { λ r. ⌜ TurnedAs (kindOf tag) p count cur (now (ns .entry)) (now (ns .exit)) r ⌝ }
+{
+    if tag == 1 {
+        store_record(ns, count, p, count + 1, cur);
+        return Turn {
+            count: count + 1,
+            cur: count,
+        };
+    }
+    if tag == 6 {
+        let up = read_word(ns, cur * 24 + 6);
+        store_word(ns, cur * 24 + 4, count);
+        return Turn { count: count, cur: up };
+    }
+    if tag == 4 {
+        store_record(ns, count, p, count + 1, cur);
+        return Turn {
+            count: count + 1,
+            cur: cur,
+        };
+    }
+    if tag == 5 {
+        store_record(ns, count, p, count + 1, cur);
+        return Turn {
+            count: count + 1,
+            cur: cur,
+        };
+    }
+    Turn {
+        count: count,
+        cur: cur,
+    }
+}
