@@ -1,6 +1,6 @@
 -- The sheet's list (document 01, "Plain sheets and their reading"), from the tree alone. Assumes nothing.
 use Prim.Native.Nat.{ℕ, suc, _-_}
-use mathlib.Core.Bool.{Bool, true, false, cond, _&&_, _||_}
+use mathlib.Core.Bool.{Bool, true, cond, _&&_, _||_}
 use mathlib.Core.List.{List, [], _∷_, _++_, map}
 use mathlib.Core.Option.{Option, none, some}
 use lib.Dec.{eqb, leb}

@@ -6,3 +6,5 @@ pub mod Every
 pub mod Numbers
 pub mod Telling
 pub mod Placing
+pub mod Building
+pub mod Stages

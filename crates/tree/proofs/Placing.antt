@@ -1,16 +1,15 @@
 -- Storing a record, and a field by its kind. Assumes nothing.
-use Prim.Native.Nat.{ℕ, _+_, _*_, _≤_, _<_}
+use Prim.Native.Nat.{ℕ, _+_, _*_}
 use native.Mathlib.Omega.{arith}
-use mathlib.Core.Path.{_≡_, _∙_, refl}
-use lib.ListN.{length, getD}
+use mathlib.Core.Path.{_≡_, _∙_}
 use borrow.Author.Tests.{eq-eqb, ne-eqb}
 use Rattle.spec.specs.Bytes.{Bytes}
-use Rattle.tree.specs.Memory.{wordAt, quadAt, Stored, placeAt, endAt, parentAt}
-use Rattle.tree.specs.Kinds.{Kind, opens, closes, texts, comments, aside, kindOf, Placed}
+use Rattle.tree.specs.Memory.{wordAt, quadAt, Stored}
+use Rattle.tree.specs.Kinds.{opens, closes, texts, comments, aside, kindOf, Placed}
 use Rattle.tree.proofs.Numbers.{word-same, quad-same}
 
 pub placed : (i place end parent : ℕ) {a b c d : Bytes} → Stored quadAt 4 (i * 24) place a b → Stored wordAt 2 (i * 24 + 4) end b c
-  → Stored wordAt 2 (i * 24 + 6) parent c d → Placed i place end parent a d
+    → Stored wordAt 2 (i * 24 + 6) parent c d → Placed i place end parent a d
 placed i place end parent {a} {b} {c} {d} p q r =
     record {
       same-long = r .same-long ∙ (q .same-long ∙ p .same-long);

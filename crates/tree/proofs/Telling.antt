@@ -1,5 +1,5 @@
 -- What the fields of a sheet tell of the records of its nodes, and that memory which says so holds the tree. Assumes nothing.
-use Prim.Native.Nat.{ℕ, zero, suc, _+_, _-_, _*_, _<_, _≤_}
+use Prim.Native.Nat.{ℕ, _+_, _*_, _<_, _≤_}
 use native.Mathlib.Omega.{arith}
 use mathlib.Core.Path.{_≡_, refl, ap, _∙_, sym, subst}
 use mathlib.Core.Bool.{Bool, true, false, cond}
@@ -45,107 +45,114 @@ RepAll sh ns n k cur (q ∷ around) fs =
 module _ (sh ns : Bytes) (n : ℕ) where
   -- a text or a comment before siblings that are represented
   leaf-all : (node : Forest → Forest) (k cur : ℕ) (around : List ℕ) (fs : List Forest)
-    → ((e : ℕ) (f : Forest) → Rep sh ns cur (k + 1) e f → Rep sh ns cur k e (node f))
-    → RepAll sh ns n (k + 1) cur around fs → RepAll sh ns n k cur around (node (first fs) ∷ others fs)
+      → ((e : ℕ) (f : Forest) → Rep sh ns cur (k + 1) e f → Rep sh ns cur k e (node f))
+      → RepAll sh ns n (k + 1) cur around fs → RepAll sh ns n k cur around (node (first fs) ∷ others fs)
   unfolding RepAll first others
   leaf-all node k cur [] fs make all = make n (first fs) all
   leaf-all node k cur (q ∷ around) fs make all = (make (endAt ns cur) (first fs) (all .0), all .1)
 
   open-all : (name : Bytes) (attrs : List Attr) (k p cur : ℕ) (around : List ℕ) (fs : List Forest) → Recorded ns k p cur
-    → FieldAt sh p 1 name → attrs ≡ attrsBehind sh p
-    → RepAll sh ns n (k + 1) k (cur ∷ around) fs
-    → RepAll sh ns n k cur around (element name attrs (first fs) (first (others fs)) ∷ others (others fs))
+      → FieldAt sh p 1 name → attrs ≡ attrsBehind sh p
+      → RepAll sh ns n (k + 1) k (cur ∷ around) fs
+      → RepAll sh ns n k cur around (element name attrs (first fs) (first (others fs)) ∷ others (others fs))
   unfolding RepAll first others Rep
-  open-all name attrs k p cur [] fs r at a all =
-    (r .0,
+  open-all name attrs k p cur [] fs r at a all = (
+    r .0,
     subst (λ (q : ℕ). FieldAt sh q 1 name) (sym (r .1)) at,
     a ∙ ap (attrsBehind sh) (sym (r .1)),
     r .2,
     all .0,
-    all .1)
-  open-all name attrs k p cur (q ∷ around) fs r at a all =
-    ((r .0,
-    subst (λ (q : ℕ). FieldAt sh q 1 name) (sym (r .1)) at,
-    a ∙ ap (attrsBehind sh) (sym (r .1)),
-    r .2,
-    all .0,
-    all .1 .0), all .1 .1)
+    all .1,
+  )
+  open-all name attrs k p cur (q ∷ around) fs r at a all = (
+    (
+      r .0,
+      subst (λ (q : ℕ). FieldAt sh q 1 name) (sym (r .1)) at,
+      a ∙ ap (attrsBehind sh) (sym (r .1)),
+      r .2,
+      all .0,
+      all .1 .0,
+    ),
+    all .1 .1,
+  )
 
   close-all : (k cur q : ℕ) (around : List ℕ) (fs : List Forest) → endAt ns cur ≡ k → RepAll sh ns n k q around fs
-    → RepAll sh ns n k cur (q ∷ around) (nothing ∷ fs)
+      → RepAll sh ns n k cur (q ∷ around) (nothing ∷ fs)
   unfolding RepAll first others Rep
   close-all k cur q around fs e all = (sym e, subst (λ (j : ℕ). RepAll sh ns n j q around fs) (sym e) all)
 
   -- one field, by the tests of `fieldThen`; `all` is the law for the fields behind it
   step-all : (isOpen isClose isText isComment isName : Bool) (f : Field) (t : Tail) (p k cur : ℕ) (around : List ℕ)
-    (next : ℕ → ℕ → List ℕ → Type 0)
-    → eqb (f .tag) 1 ≡ isOpen
-    → eqb (f .tag) 4 ≡ isText
-    → eqb (f .tag) 5 ≡ isComment
-    → FieldAt sh p (f .tag) (f .body)
-    → t .attrs ≡ attrsBehind sh p
-    → ((k′ cur′ : ℕ) (around′ : List ℕ) → next k′ cur′ around′ → RepAll sh ns n k′ cur′ around′ (t .siblings))
-    → ToldAs (kindBy isOpen isClose isText isComment) ns k p cur around next
-    → RepAll sh ns n k cur around
-    (cond isOpen (openThen (f .body) t)
-    (cond isClose (closeThen t)
-    (cond isText (nodeThen (text (f .body)) t)
-    (cond isComment (nodeThen (comment (f .body)) t) (cond isName (nameThen (f .body) t) (valueThen (f .body) t)))))
-    .siblings)
+      (next : ℕ → ℕ → List ℕ → Type 0)
+      → eqb (f .tag) 1 ≡ isOpen
+      → eqb (f .tag) 4 ≡ isText
+      → eqb (f .tag) 5 ≡ isComment
+      → FieldAt sh p (f .tag) (f .body)
+      → t .attrs ≡ attrsBehind sh p
+      → ((k′ cur′ : ℕ) (around′ : List ℕ) → next k′ cur′ around′ → RepAll sh ns n k′ cur′ around′ (t .siblings))
+      → ToldAs (kindBy isOpen isClose isText isComment) ns k p cur around next
+      → RepAll sh ns n k cur around
+      (cond isOpen (openThen (f .body) t)
+      (cond isClose (closeThen t)
+      (cond isText (nodeThen (text (f .body)) t)
+      (cond isComment (nodeThen (comment (f .body)) t) (cond isName (nameThen (f .body) t) (valueThen (f .body) t)))))
+      .siblings)
   unfolding openThen closeThen nodeThen nameThen valueThen Rep
   step-all true c x m a f t p k cur around next e e4 e5 at attrs all told =
-    open-all (f .body) (t .attrs) k p cur around (t .siblings) (told .0)
-    (subst (λ (g : ℕ). FieldAt sh p g (f .body)) (eqb-true (f .tag) 1 e) at) attrs
-    (all (k + 1) k (cur ∷ around) (told .1))
+      open-all (f .body) (t .attrs) k p cur around (t .siblings) (told .0)
+      (subst (λ (g : ℕ). FieldAt sh p g (f .body)) (eqb-true (f .tag) 1 e) at) attrs
+      (all (k + 1) k (cur ∷ around) (told .1))
   step-all false true x m a f t p k cur [] next e e4 e5 at attrs all told = absurd told
   step-all false true x m a f t p k cur (q ∷ around) next e e4 e5 at attrs all told =
-    close-all k cur q around (t .siblings) (told .0) (all k q around (told .1))
+      close-all k cur q around (t .siblings) (told .0) (all k q around (told .1))
   step-all false false true m a f t p k cur around next e e4 e5 at attrs all told =
-    leaf-all (text (f .body)) k cur around (t .siblings)
-    (λ j g r.
-    (told .0 .0,
-    subst (λ (q : ℕ). FieldAt sh q 4 (f .body)) (sym (told .0 .1)) (subst (λ (g : ℕ). FieldAt sh p g (f .body)) (eqb-true (f .tag) 4 e4) at),
-    told .1,
-    told .0 .2,
-    r))
-    (all (k + 1) cur around (told .2))
+      leaf-all (text (f .body)) k cur around (t .siblings)
+      (λ j g r. (
+        told .0 .0,
+        subst (λ (q : ℕ). FieldAt sh q 4 (f .body)) (sym (told .0 .1)) (subst (λ (g : ℕ). FieldAt sh p g (f .body)) (eqb-true (f .tag) 4 e4) at),
+        told .1,
+        told .0 .2,
+        r,
+      ))
+      (all (k + 1) cur around (told .2))
   step-all false false false true a f t p k cur around next e e4 e5 at attrs all told =
-    leaf-all (comment (f .body)) k cur around (t .siblings)
-    (λ j g r.
-    (told .0 .0,
-    subst (λ (q : ℕ). FieldAt sh q 5 (f .body)) (sym (told .0 .1)) (subst (λ (g : ℕ). FieldAt sh p g (f .body)) (eqb-true (f .tag) 5 e5) at),
-    told .1,
-    told .0 .2,
-    r))
-    (all (k + 1) cur around (told .2))
+      leaf-all (comment (f .body)) k cur around (t .siblings)
+      (λ j g r. (
+        told .0 .0,
+        subst (λ (q : ℕ). FieldAt sh q 5 (f .body)) (sym (told .0 .1)) (subst (λ (g : ℕ). FieldAt sh p g (f .body)) (eqb-true (f .tag) 5 e5) at),
+        told .1,
+        told .0 .2,
+        r,
+      ))
+      (all (k + 1) cur around (told .2))
   step-all false false false false true f t p k cur around next e e4 e5 at attrs all told = all k cur around told
   step-all false false false false false f t p k cur around next e e4 e5 at attrs all told = all k cur around told
 
   -- a field of the sheet stands at p
   pub at-place : (f : Field) (fs : List Field) (p : ℕ) → f ∷ fs ≡ fields (drop p sh)
-    → (p + 3 ≤ length sh) × (f ≡ fieldOf sh (spanAt sh p)) × (fs ≡ fields (drop (endOf sh p) sh))
+      → (p + 3 ≤ length sh) × (f ≡ fieldOf sh (spanAt sh p)) × (fs ≡ fields (drop (endOf sh p) sh))
   at-place f fs p e = go (leb (p + 3) (length sh)) refl
     where
       go : (b : Bool) → leb (p + 3) (length sh) ≡ b
-        → (p + 3 ≤ length sh) × (f ≡ fieldOf sh (spanAt sh p)) × (fs ≡ fields (drop (endOf sh p) sh))
+          → (p + 3 ≤ length sh) × (f ≡ fieldOf sh (spanAt sh p)) × (fs ≡ fields (drop (endOf sh p) sh))
       go true h =
-        let inside : p + 3 ≤ length sh = leb-true (p + 3) (length sh) h in
-        let q : f ∷ fs ≡ fieldOf sh (spanAt sh p) ∷ fields (drop (endOf sh p) sh) = e ∙ span-fields sh p inside in
-        (inside, cc q, cc q)
+          let inside : p + 3 ≤ length sh = leb-true (p + 3) (length sh) h in
+          let q : f ∷ fs ≡ fieldOf sh (spanAt sh p) ∷ fields (drop (endOf sh p) sh) = e ∙ span-fields sh p inside in
+          (inside, cc q, cc q)
       go false h =
-        let short : length sh < p + 3 = leb-false (p + 3) (length sh) h in
-        let none : fields (drop p sh) ≡ [] = fields-short (drop p sh) (omega (arith, length-drop p sh, short)) in
-        let z : _≡_ {A = ℕ} 0 1 = cc (e, none) in
-        absurd (omega arith)
+          let short : length sh < p + 3 = leb-false (p + 3) (length sh) h in
+          let none : fields (drop p sh) ≡ [] = fields-short (drop p sh) (omega (arith, length-drop p sh, short)) in
+          let z : _≡_ {A = ℕ} 0 1 = cc (e, none) in
+          absurd (omega arith)
 
-  told-all : (fs : List Field) (p k cur : ℕ) (around : List ℕ) → fs ≡ fields (drop p sh) → Told sh ns n fs p k cur around
-    → RepAll sh ns n k cur around (tail fs .siblings)
+  pub told-all : (fs : List Field) (p k cur : ℕ) (around : List ℕ) → fs ≡ fields (drop p sh) → Told sh ns n fs p k cur around
+      → RepAll sh ns n k cur around (tail fs .siblings)
   unfolding Told tail fieldThen RepAll Rep first
   told-all [] p k cur [] e told = told .0
   told-all [] p k cur (q ∷ around) e told = let z : _≡_ {A = ℕ} 0 1 = cc (told .1) in absurd (omega arith)
   told-all (f ∷ fs) p k cur around e told =
-    let here : (p + 3 ≤ length sh) × (f ≡ fieldOf sh (spanAt sh p)) × (fs ≡ fields (drop (endOf sh p) sh)) = at-place f fs p e in
-    step-all (eqb (f .tag) 1) (eqb (f .tag) 6) (eqb (f .tag) 4) (eqb (f .tag) 5) (eqb (f .tag) 2) f (tail fs) p k cur around
-    (λ k′ cur′ around′. Told sh ns n fs (endOf sh p) k′ cur′ around′) refl refl refl
-    (record { head = here .0; field = sym (here .1) }) (ap (λ (gs : List Field). tail gs .attrs) (here .2))
-    (λ k′ cur′ around′. told-all fs (endOf sh p) k′ cur′ around′ (here .2)) told
+      let here : (p + 3 ≤ length sh) × (f ≡ fieldOf sh (spanAt sh p)) × (fs ≡ fields (drop (endOf sh p) sh)) = at-place f fs p e in
+      step-all (eqb (f .tag) 1) (eqb (f .tag) 6) (eqb (f .tag) 4) (eqb (f .tag) 5) (eqb (f .tag) 2) f (tail fs) p k cur around
+      (λ k′ cur′ around′. Told sh ns n fs (endOf sh p) k′ cur′ around′) refl refl refl
+      (record { head = here .0; field = sym (here .1) }) (ap (λ (gs : List Field). tail gs .attrs) (here .2))
+      (λ k′ cur′ around′. told-all fs (endOf sh p) k′ cur′ around′ (here .2)) told

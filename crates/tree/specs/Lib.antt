@@ -5,3 +5,4 @@ pub mod Scans
 pub mod Memory
 pub mod Kinds
 pub mod Represents
+pub mod Accepted

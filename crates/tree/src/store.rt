@@ -2,11 +2,14 @@
 ghost use mathlib.Core.Path.{_≡_};
 ghost use Prim.Native.Nat.{_+_, _*_, _≤_, _<_};
 ghost use lib.ListN.{length};
-ghost use Rattle.tree.specs.Memory.{wordAt, Stored};
+ghost use Rattle.spec.specs.Questions.{nodeCount};
+ghost use Rattle.tree.specs.Memory.{parentAt};
+ghost use Rattle.tree.specs.Represents.{Holds};
 ghost use Rattle.tree.specs.Kinds.{kindOf, Placed, FitsAs, TurnedAs, Storable};
-
 use crate::fields::span_at;
-use crate::memory::{read_word, store_quad, store_word};
+use crate::memory::read_word;
+use crate::memory::store_quad;
+use crate::memory::store_word;
 
 // How far storing has come: the nodes begun, and the innermost open one.
 pub struct Turn {
@@ -39,7 +42,10 @@ fn store_field(ns: &mut [u8], tag: u8, p: usize, count: usize, cur: usize) -> Tu
     if tag == 6 {
         let up = read_word(ns, cur * 24 + 6);
         store_word(ns, cur * 24 + 4, count);
-        return Turn { count: count, cur: up };
+        return Turn {
+            count: count,
+            cur: up,
+        };
     }
     if tag == 4 {
         store_record(ns, count, p, count + 1, cur);
@@ -59,4 +65,33 @@ fn store_field(ns: &mut [u8], tag: u8, p: usize, count: usize, cur: usize) -> Tu
         count: count,
         cur: cur,
     }
+}
+
+// Stores the nodes behind the fragment, and where the fragment ends.
+fn store_rest(sheet: &[u8], nodes: &mut [u8]) -> usize
+    requires { ⌜ Storable (now sheet) (length (now nodes)) × (parentAt (now nodes) 0 ≡ 0) ⌝ }
+    ensures { λ r. ⌜ (r ≡ nodeCount (now (sheet .entry))) × Holds (now (sheet .entry)) (now (nodes .exit)) r ⌝ }
+{
+    let mut count = 1;
+    let mut cur = 0;
+    let mut p = 0;
+    while 3 <= sheet.len() - p {
+        let f = span_at(sheet, p);
+        let tag = f.tag;
+        let t = store_field(nodes, tag, p, count, cur);
+        count = t.count;
+        cur = t.cur;
+        p = f.end;
+    }
+    store_word(nodes, 4, count);
+    count
+}
+
+// Stores the tree of a sheet, and says how many nodes it has, fragment included.
+pub fn store_nodes(sheet: &[u8], nodes: &mut [u8]) -> usize
+    requires { ⌜ Storable (now sheet) (length (now nodes)) ⌝ }
+    ensures { λ r. ⌜ (r ≡ nodeCount (now (sheet .entry))) × Holds (now (sheet .entry)) (now (nodes .exit)) r ⌝ }
+{
+    store_record(nodes, 0, 0, 0, 0);
+    store_rest(sheet, nodes)
 }

@@ -38,15 +38,15 @@ bounded-close (suc d) fs stray h p =
 
 -- one field, by the tests of `fieldThen` and `openAfter`
 bounded-field : (isOpen isClose isText isComment isName : Bool) (d : ℕ) (body : Bytes) (t : Tail)
-  → not (isClose && eqb d 0) ≡ true
-  → d ≤ maxOpen
-  → Bounded (cond isOpen (suc d) (cond isClose (d - 1) d)) (t .siblings)
-  → Bounded d
-  (cond isOpen (openThen body t)
-  (cond isClose (closeThen t)
-  (cond isText (nodeThen (text body) t)
-  (cond isComment (nodeThen (comment body) t) (cond isName (nameThen body t) (valueThen body t)))))
-  .siblings)
+    → not (isClose && eqb d 0) ≡ true
+    → d ≤ maxOpen
+    → Bounded (cond isOpen (suc d) (cond isClose (d - 1) d)) (t .siblings)
+    → Bounded d
+    (cond isOpen (openThen body t)
+    (cond isClose (closeThen t)
+    (cond isText (nodeThen (text body) t)
+    (cond isComment (nodeThen (comment body) t) (cond isName (nameThen body t) (valueThen body t)))))
+    .siblings)
 unfolding openThen closeThen nameThen valueThen nodeThen height
 bounded-field true c x m n d body t stray h p = bounded-open d (t .siblings) body (t .attrs) p
 bounded-field false true x m n d body t stray h p = bounded-close d (t .siblings) stray h p

@@ -1,10 +1,10 @@
 -- Link reference definitions (CommonMark 0.31, section 4.7). Assumes nothing.
-use Prim.Native.Nat.{ℕ, zero, suc}
-use mathlib.Core.Bool.{Bool, true, false, cond, not, _&&_, _||_}
-use mathlib.Core.List.{List, [], _∷_, _++_}
+use Prim.Native.Nat.{ℕ}
+use mathlib.Core.Bool.{Bool, false, cond, not, _&&_, _||_}
+use mathlib.Core.List.{[], _∷_}
 use lib.Dec.{eqb}
 use Rattle.spec.specs.Bytes.{Bytes, every}
-use Rattle.spec.specs.Reading.Lines.{spaceOrTab, headIs}
+use Rattle.spec.specs.Reading.Lines.{spaceOrTab}
 use Rattle.spec.specs.Reading.Inline.{escaped, slashed}
 
 -- "a space, tab, or line ending"

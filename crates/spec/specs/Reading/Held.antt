@@ -7,7 +7,7 @@ use mathlib.Core.List.{List, [], _∷_, _++_, map}
 use lib.ListN.{length}
 use lib.Dec.{eqb}
 use Rattle.spec.specs.Bytes.{Bytes, null, split, join}
-use Rattle.spec.specs.Entries.{Piece, Entry, rule, heading, paragraph, fixed, item, table, foreign}
+use Rattle.spec.specs.Entries.{Piece, Entry, paragraph, fixed, item, table, foreign}
 use Rattle.spec.specs.Reading.Inline.{inline}
 use Rattle.spec.specs.Reading.Tables.{row, delimiterRow, fit}
 use Rattle.spec.specs.Reading.Definitions.{definition}

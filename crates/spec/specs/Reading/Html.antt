@@ -1,10 +1,10 @@
 -- The seven kinds of HTML block: how a line begins one, and what ends it (CommonMark 0.31, section 4.6). Assumes nothing.
-use Prim.Native.Nat.{ℕ, zero, suc, _+_}
+use Prim.Native.Nat.{ℕ, _+_}
 use mathlib.Core.Bool.{Bool, true, false, cond, not, _&&_, _||_}
 use mathlib.Core.Option.{Option, none, some}
-use mathlib.Core.List.{List, [], _∷_, _++_, map}
+use mathlib.Core.List.{List, [], _∷_, map}
 use lib.Dec.{eqb, leb}
-use Rattle.spec.specs.Bytes.{Bytes, ascii, isin, null, startsWith, among, takeWhile}
+use Rattle.spec.specs.Bytes.{Bytes, ascii, isin, startsWith, among, takeWhile}
 use Rattle.spec.specs.Reading.Lines.{letterOrDigit, blankLine, headIs, dropWhile, contains}
 use Rattle.spec.specs.Reading.Tags.{tagWhite, behindTag, letterNext}
 

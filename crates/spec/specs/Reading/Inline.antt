@@ -2,9 +2,9 @@
 --
 -- A leaf in which CommonMark finds nothing but text is its words. Where something else may begin, the leaf is not taken apart:
 -- it is one piece `other`. "May" is wide where CommonMark would need all of its inline machinery; each such place says so.
-use Prim.Native.Nat.{ℕ, zero, suc, _+_, _%_}
+use Prim.Native.Nat.{ℕ, suc, _+_, _%_}
 use mathlib.Core.Bool.{Bool, true, false, cond, not, _&&_, _||_}
-use mathlib.Core.List.{List, [], _∷_, _++_, map}
+use mathlib.Core.List.{List, [], _∷_, map}
 use lib.ListN.{length}
 use lib.Dec.{eqb, leb}
 use Rattle.spec.specs.Bytes.{Bytes, ascii, isin, white, digit, startsWith, takeWhile, words}

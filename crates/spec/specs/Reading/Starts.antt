@@ -1,8 +1,8 @@
 -- What a line, its indentation gone, begins (CommonMark 0.31, sections 4.1 to 4.6, 5.1 and 5.2). Assumes nothing.
-use Prim.Native.Nat.{ℕ, zero, suc, _+_, _-_}
+use Prim.Native.Nat.{ℕ, zero, suc}
 use mathlib.Core.Bool.{Bool, true, false, cond, not, _&&_, _||_}
 use mathlib.Core.Option.{Option, none, some}
-use mathlib.Core.List.{List, [], _∷_, _++_}
+use mathlib.Core.List.{[], _∷_}
 use lib.ListN.{length}
 use lib.Dec.{eqb, leb}
 use Rattle.spec.specs.Bytes.{Bytes, isin, digit, takeWhile, valueFrom}

@@ -1,12 +1,12 @@
 -- One line of the reading (CommonMark 0.31, sections 4 and 5; GitHub Flavored Markdown, section 4.10). Assumes nothing.
 use Prim.Native.Nat.{ℕ, zero, suc, _+_, _-_}
 use mathlib.Core.Bool.{Bool, true, false, cond, not, _&&_, _||_}
-use mathlib.Core.Option.{Option, none, some}
+use mathlib.Core.Option.{Option}
 use mathlib.Core.List.{List, [], _∷_, _++_}
 use lib.ListN.{length}
-use lib.Dec.{eqb, leb}
+use lib.Dec.{leb}
 use Rattle.spec.specs.Bytes.{Bytes, null}
-use Rattle.spec.specs.Entries.{Piece, Entry, rule, heading, foreign}
+use Rattle.spec.specs.Entries.{Entry, rule, heading, foreign}
 use Rattle.spec.specs.Reading.Lines.{blankLine, column, strip, unindent}
 use Rattle.spec.specs.Reading.Inline.{inline}
 use Rattle.spec.specs.Reading.Html.{endsHtml}

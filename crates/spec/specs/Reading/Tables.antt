@@ -1,11 +1,10 @@
 -- The rows of a table (GitHub Flavored Markdown, section 4.10). Assumes nothing.
 use Prim.Native.Nat.{ℕ, zero, suc}
-use mathlib.Core.Bool.{Bool, true, false, cond, not, _&&_, _||_}
-use mathlib.Core.List.{List, [], _∷_, _++_}
-use lib.ListN.{length}
+use mathlib.Core.Bool.{Bool, true, false, cond, not, _&&_}
+use mathlib.Core.List.{List, [], _∷_}
 use lib.Dec.{eqb}
 use Rattle.spec.specs.Bytes.{Bytes, isin, every, null}
-use Rattle.spec.specs.Reading.Lines.{strip, dropWhile, dropRun, headIs}
+use Rattle.spec.specs.Reading.Lines.{dropWhile, dropRun, headIs}
 
 -- GFM 2.1: "A whitespace character is a space (U+0020), tab (U+0009), newline (U+000A), line tabulation (U+000B), form feed
 -- (U+000C), or carriage return (U+000D)." Those that stand in a line

@@ -1,11 +1,11 @@
 -- What may stand between < and >: tags, comments, instructions, declarations, addresses (CommonMark 0.31, sections 6.5 and 6.6). Assumes nothing.
-use Prim.Native.Nat.{ℕ, zero, suc}
+use Prim.Native.Nat.{ℕ}
 use mathlib.Core.Bool.{Bool, true, false, cond, not, _&&_, _||_}
 use mathlib.Core.Option.{Option, none, some}
-use mathlib.Core.List.{List, [], _∷_, _++_}
+use mathlib.Core.List.{[], _∷_}
 use lib.ListN.{length}
 use lib.Dec.{eqb, leb}
-use Rattle.spec.specs.Bytes.{Bytes, ascii, isin, digit, startsWith, takeWhile}
+use Rattle.spec.specs.Bytes.{Bytes, ascii, isin, startsWith, takeWhile}
 use Rattle.spec.specs.Reading.Lines.{letter, letterOrDigit, headIs, dropWhile, contains}
 
 -- "spaces, tabs, and up to one line ending": in a leaf no two line endings stand without something between them. Before 0.30 line

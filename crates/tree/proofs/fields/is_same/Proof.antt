@@ -1,7 +1,7 @@
 -- `tree::fields::is_same` meets its contract. Assumes nothing.
-use Prim.Native.Nat.{ℕ, _≤_, _<_, _-_, _+_}
+use Prim.Native.Nat.{_≤_, _-_}
 use mathlib.Core.Path.{_≡_, refl}
-use lib.ListN.{length, drop, getD}
+use lib.ListN.{length, drop}
 use Rattle.spec.specs.Bytes.{same}
 use Rattle.tree.proofs.Walking.{other-length, other-byte, same-byte, same-end}
 use borrow.Author.Needs.{needs}

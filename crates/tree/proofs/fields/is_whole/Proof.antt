@@ -1,5 +1,5 @@
 -- `tree::fields::is_whole` meets its contract. Assumes nothing.
-use Prim.Native.Nat.{ℕ, _≤_, _<_, _-_, _+_}
+use Prim.Native.Nat.{_≤_, _-_}
 use mathlib.Core.Path.{_≡_, refl}
 use lib.ListN.{length, drop, getD}
 use Rattle.spec.specs.Fields.{whole}
@@ -36,9 +36,10 @@ returns-3 c =
 
 loop-again : tie.Need-loop-again Inv-loop μ-loop
 loop-again c =
-    let a = c .before .before .before .before .before .before .before .before .args in let l = c .before .before .before .before .before .before .loop in
-    (omega arith,
-    fits (a .low) (a .high) (a .s .now) (l .p) (c .before .before .before .before .length-at .result) (getD (a .s .now) (l .p) 0) (omega arith) (c .before .before .before .before .length-at .ensures .0) refl (l .inv .1) (omega arith) (omega arith) (omega arith))
+    let a = c .before .before .before .before .before .before .before .before .args in let l = c .before .before .before .before .before .before .loop in (
+      omega arith,
+      fits (a .low) (a .high) (a .s .now) (l .p) (c .before .before .before .before .length-at .result) (getD (a .s .now) (l .p) 0) (omega arith) (c .before .before .before .before .length-at .ensures .0) refl (l .inv .1) (omega arith) (omega arith) (omega arith),
+    )
 
 returns-4 : tie.Need-returns-4 Inv-loop μ-loop
 returns-4 c =

@@ -1,6 +1,5 @@
 -- `tree::fields::span_at` meets its contract. Assumes nothing.
-use mathlib.Core.Path.{_≡_, refl}
-use lib.Dec.{ltb}
+use mathlib.Core.Path.{refl}
 use borrow.Author.Tests.{lt-ltb, le-ltb}
 use borrow.Author.Needs.{needs}
 use native.Mathlib.Omega.{arith}

@@ -1,6 +1,6 @@
 -- `tree::memory::clear` meets its contract. Assumes nothing.
-use Prim.Native.Nat.{ℕ, _≤_, _<_, _-_}
-use mathlib.Core.Path.{_≡_, refl, _∙_}
+use Prim.Native.Nat.{_≤_, _-_}
+use mathlib.Core.Path.{_≡_, refl}
 use lib.ListN.{length, take, replicate, length-set}
 use Rattle.tree.proofs.Numbers.{clear-turn, clear-end}
 use borrow.Author.Needs.{needs}

@@ -1,7 +1,6 @@
 -- `tree::memory::store_long` meets its contract. Assumes nothing.
 use Rattle.tree.proofs.Numbers.{stored-long}
 use borrow.Author.Needs.{needs}
-use native.Mathlib.Omega.{arith}
 use Rattle.tree.proofs.memory.store_long.Statement.{statement}
 use Rattle.tree.proofs.memory.store_long.Tie as tie
 

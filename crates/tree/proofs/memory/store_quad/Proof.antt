@@ -1,7 +1,6 @@
 -- `tree::memory::store_quad` meets its contract. Assumes nothing.
 use Rattle.tree.proofs.Numbers.{stored-quad}
 use borrow.Author.Needs.{needs}
-use native.Mathlib.Omega.{arith}
 use Rattle.tree.proofs.memory.store_quad.Statement.{statement}
 use Rattle.tree.proofs.memory.store_quad.Tie as tie
 

@@ -1,6 +1,6 @@
 -- `tree::questions::field_count` meets its contract. Assumes nothing.
-use Prim.Native.Nat.{ℕ, _≤_, _<_, _-_, _+_}
-use mathlib.Core.Path.{_≡_, refl, sym, _∙_, ap}
+use Prim.Native.Nat.{_≤_, _-_, _+_}
+use mathlib.Core.Path.{_≡_}
 use lib.ListN.{length, drop}
 use Rattle.spec.specs.Fields.{fields}
 use Rattle.tree.proofs.Every.{length-on, length-end}
@@ -22,10 +22,11 @@ loop-holds c =
 loop-again : tie.Need-loop-again Inv-loop μ-loop
 loop-again c =
     let s = c .before .before .before .before .args .s .now in let l = c .before .before .loop in
-    let h : l .p + 3 ≤ length s = omega arith in
-    (omega arith,
-    omega arith,
-    length-on s (l .p) (l .count) (c .span-at .result) h (c .span-at .ensures .at) (l .inv .2))
+    let h : l .p + 3 ≤ length s = omega arith in (
+      omega arith,
+      omega arith,
+      length-on s (l .p) (l .count) (c .span-at .result) h (c .span-at .ensures .at) (l .inv .2),
+    )
 
 returns : tie.Need-returns Inv-loop μ-loop
 returns c =

@@ -5,7 +5,6 @@ use borrow.Author.Tests.{eq-eqb, ne-eqb, not-true, not-false}
 use Rattle.spec.specs.Questions.{mayFollow, noStray}
 use Rattle.tree.specs.Scans.{lengthRight}
 use borrow.Author.Needs.{needs}
-use native.Mathlib.Omega.{arith}
 use Rattle.tree.proofs.questions.field_right.Statement.{statement}
 use Rattle.tree.proofs.questions.field_right.Tie as tie
 

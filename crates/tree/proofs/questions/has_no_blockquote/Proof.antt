@@ -1,7 +1,7 @@
 -- `tree::questions::has_no_blockquote` meets its contract. Assumes nothing.
-use Prim.Native.Nat.{ℕ, _≤_, _<_, _-_, _+_}
+use Prim.Native.Nat.{_≤_, _-_}
 use mathlib.Core.Path.{_≡_, refl, sym, _∙_, ap}
-use mathlib.Core.Bool.{true, false, not}
+use mathlib.Core.Bool.{not}
 use lib.ListN.{length, drop}
 use Rattle.spec.specs.Fields.{fields}
 use Rattle.spec.specs.Questions.{everyField, noBlockquote, question6}
@@ -31,10 +31,11 @@ returns c =
 loop-again : tie.Need-loop-again Inv-loop μ-loop
 unfolding noBlockquote
 loop-again c =
-    let s = c .before .before .before .before .before .before .before .args .s .now in let l = c .before .before .before .before .before .loop in
-    (omega arith,
-    every-right noBlockquote s (l .p) (l .inv .1) (c .before .before .before .span-at .result) (omega arith) (c .before .before .before .span-at .ensures .at)
-    (ap not (sym (c .before .opens-blockquote .ensures) ∙ c .if1 .left)))
+    let s = c .before .before .before .before .before .before .before .args .s .now in let l = c .before .before .before .before .before .loop in (
+      omega arith,
+      every-right noBlockquote s (l .p) (l .inv .1) (c .before .before .before .span-at .result) (omega arith) (c .before .before .before .span-at .ensures .at)
+          (ap not (sym (c .before .opens-blockquote .ensures) ∙ c .if1 .left)),
+    )
 
 returns-2 : tie.Need-returns-2 Inv-loop μ-loop
 unfolding question6

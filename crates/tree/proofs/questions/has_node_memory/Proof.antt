@@ -2,7 +2,6 @@
 use Rattle.spec.specs.Questions.{nodeCount, question9}
 use Rattle.tree.proofs.Every.{by-sixty-four}
 use borrow.Author.Needs.{needs}
-use native.Mathlib.Omega.{arith}
 use Rattle.tree.proofs.questions.has_node_memory.Statement.{statement}
 use Rattle.tree.proofs.questions.has_node_memory.Tie as tie
 

@@ -1,6 +1,6 @@
 -- `tree::questions::holds_utf8` meets its contract. Assumes nothing.
-use Prim.Native.Nat.{ℕ, _≤_, _<_, _-_, _+_}
-use mathlib.Core.Path.{_≡_, refl, sym, _∙_, ap}
+use Prim.Native.Nat.{_≤_, _-_, _+_}
+use mathlib.Core.Path.{_≡_, refl, sym, _∙_}
 use lib.ListN.{length, drop}
 use borrow.Author.Tests.{not-true, not-false}
 use Rattle.spec.specs.Fields.{fields}
@@ -32,10 +32,11 @@ loop-again : tie.Need-loop-again Inv-loop μ-loop
 unfolding utf8Body
 loop-again c =
     let s = c .before .before .before .before .before .before .before .args .s .now in let l = c .before .before .before .before .before .loop in
-    let h : l .p + 3 ≤ length s = omega arith in
-    (omega arith,
-    every-right utf8Body s (l .p) (l .inv .1) (c .before .before .before .span-at .result) h (c .before .before .before .span-at .ensures .at)
-    (sym (c .before .is-utf8 .ensures) ∙ not-false _ (c .if1 .left)))
+    let h : l .p + 3 ≤ length s = omega arith in (
+      omega arith,
+      every-right utf8Body s (l .p) (l .inv .1) (c .before .before .before .span-at .result) h (c .before .before .before .span-at .ensures .at)
+          (sym (c .before .is-utf8 .ensures) ∙ not-false _ (c .if1 .left)),
+    )
 
 returns-2 : tie.Need-returns-2 Inv-loop μ-loop
 unfolding question4

@@ -1,7 +1,6 @@
 -- `tree::questions::is_in_fields` meets its contract. Assumes nothing.
 use Rattle.spec.specs.Questions.{question2}
 use borrow.Author.Needs.{needs}
-use native.Mathlib.Omega.{arith}
 use Rattle.tree.proofs.questions.is_in_fields.Statement.{statement}
 use Rattle.tree.proofs.questions.is_in_fields.Tie as tie
 

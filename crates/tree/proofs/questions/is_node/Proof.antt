@@ -1,7 +1,6 @@
 -- `tree::questions::is_node` meets its contract. Assumes nothing.
 use Rattle.spec.specs.Questions.{question7}
 use borrow.Author.Needs.{needs}
-use native.Mathlib.Omega.{arith}
 use Rattle.tree.proofs.questions.is_node.Statement.{statement}
 use Rattle.tree.proofs.questions.is_node.Tie as tie
 

@@ -1,5 +1,5 @@
 -- `tree::questions::is_shallow` meets its contract. Assumes nothing.
-use Prim.Native.Nat.{ℕ, _≤_, _<_, _-_, _+_}
+use Prim.Native.Nat.{ℕ, _≤_, _-_, _+_}
 use mathlib.Core.Path.{_≡_, refl, sym, _∙_, ap}
 use lib.ListN.{length, drop}
 use Rattle.spec.specs.Fields.{fields}
@@ -30,11 +30,12 @@ loop-again : tie.Need-loop-again Inv-loop μ-loop
 unfolding maxOpen
 loop-again c =
     let s = c .before .before .before .before .before .before .args .s .now in let l = c .before .before .before .before .loop in
-    let h : l .p + 3 ≤ length s = omega arith in
-    (omega arith,
-    omega (arith, c .open-after .ensures .1),
-    depth-on s (l .p) (l .depth) (l .inv .2) h (c .before .span-at .result) (c .before .span-at .ensures .at) (omega arith)
-    ∙ ap (λ (d : ℕ). shallow d (fields (drop (c .before .span-at .result .end) s))) (sym (c .open-after .ensures .0)))
+    let h : l .p + 3 ≤ length s = omega arith in (
+      omega arith,
+      omega (arith, c .open-after .ensures .1),
+      depth-on s (l .p) (l .depth) (l .inv .2) h (c .before .span-at .result) (c .before .span-at .ensures .at) (omega arith)
+          ∙ ap (λ (d : ℕ). shallow d (fields (drop (c .before .span-at .result .end) s))) (sym (c .open-after .ensures .0)),
+    )
 
 returns-2 : tie.Need-returns-2 Inv-loop μ-loop
 unfolding maxOpen

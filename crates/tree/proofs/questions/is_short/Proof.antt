@@ -1,8 +1,6 @@
 -- `tree::questions::is_short` meets its contract. Assumes nothing.
 use mathlib.Core.Path.{refl}
 use Rattle.spec.specs.Questions.{question1}
-use borrow.Author.Needs.{needs}
-use native.Mathlib.Omega.{arith}
 use Rattle.tree.proofs.questions.is_short.Statement.{statement}
 use Rattle.tree.proofs.questions.is_short.Tie as tie
 

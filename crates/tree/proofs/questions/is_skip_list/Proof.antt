@@ -1,12 +1,11 @@
 -- `tree::questions::is_skip_list` meets its contract. Assumes nothing.
-use mathlib.Core.Path.{_≡_, sym, _∙_, refl}
+use mathlib.Core.Path.{_≡_, sym, _∙_}
 use mathlib.Core.Bool.{true, false}
 use lib.ListN.{length}
 use borrow.Author.Tests.{le-leb, lt-leb, not-true, not-false}
 use Rattle.spec.specs.Fields.{fields, whole}
 use Rattle.spec.specs.Questions.{question8}
 use borrow.Author.Needs.{needs}
-use native.Mathlib.Omega.{arith}
 use Rattle.tree.proofs.questions.is_skip_list.Statement.{statement}
 use Rattle.tree.proofs.questions.is_skip_list.Tie as tie
 

@@ -1,7 +1,6 @@
 -- `tree::questions::is_skip_name` meets its contract. Assumes nothing.
 use borrow.Author.Tests.{le-leb, lt-leb}
 use borrow.Author.Needs.{needs}
-use native.Mathlib.Omega.{arith}
 use Rattle.tree.proofs.questions.is_skip_name.Statement.{statement}
 use Rattle.tree.proofs.questions.is_skip_name.Tie as tie
 

@@ -2,7 +2,6 @@
 use borrow.Author.Tests.{le-leb, lt-leb}
 use Rattle.spec.specs.Questions.{nodeCount, question5}
 use borrow.Author.Needs.{needs}
-use native.Mathlib.Omega.{arith}
 use Rattle.tree.proofs.questions.is_within_limits.Statement.{statement}
 use Rattle.tree.proofs.questions.is_within_limits.Tie as tie
 

@@ -1,8 +1,7 @@
 -- `tree::questions::keeps_rules` meets its contract. Assumes nothing.
-use mathlib.Core.Path.{_≡_, sym, _∙_}
+use mathlib.Core.Path.{sym, _∙_}
 use Rattle.tree.proofs.Rules.{answer-open, answer-broken}
 use borrow.Author.Needs.{needs}
-use native.Mathlib.Omega.{arith}
 use Rattle.tree.proofs.questions.keeps_rules.Statement.{statement}
 use Rattle.tree.proofs.questions.keeps_rules.Tie as tie
 

@@ -1,8 +1,6 @@
 -- `tree::questions::length_right` meets its contract. Assumes nothing.
 use borrow.Author.Tests.{eq-eqb, ne-eqb}
 use Rattle.spec.specs.Bytes.{isin}
-use borrow.Author.Needs.{needs}
-use native.Mathlib.Omega.{arith}
 use Rattle.tree.proofs.questions.length_right.Statement.{statement}
 use Rattle.tree.proofs.questions.length_right.Tie as tie
 

@@ -3,8 +3,6 @@ use mathlib.Core.Bool.{or-false}
 use borrow.Author.Tests.{eq-eqb, ne-eqb}
 use Rattle.spec.specs.Bytes.{isin}
 use Rattle.spec.specs.Questions.{mayFollow}
-use borrow.Author.Needs.{needs}
-use native.Mathlib.Omega.{arith}
 use Rattle.tree.proofs.questions.may_follow.Statement.{statement}
 use Rattle.tree.proofs.questions.may_follow.Tie as tie
 

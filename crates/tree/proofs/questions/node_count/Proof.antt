@@ -1,6 +1,6 @@
 -- `tree::questions::node_count` meets its contract. Assumes nothing.
-use Prim.Native.Nat.{ℕ, _≤_, _<_, _-_, _+_}
-use mathlib.Core.Path.{_≡_, refl, sym, _∙_, ap}
+use Prim.Native.Nat.{ℕ, _≤_, _-_, _+_}
+use mathlib.Core.Path.{_≡_, sym, _∙_, ap}
 use lib.ListN.{length, drop}
 use Rattle.spec.specs.Fields.{fields}
 use Rattle.spec.specs.Questions.{nodesIn}
@@ -23,11 +23,12 @@ loop-holds c =
 loop-again : tie.Need-loop-again Inv-loop μ-loop
 loop-again c =
     let s = c .before .before .before .before .before .args .s .now in let l = c .before .before .before .loop in
-    let h : l .p + 3 ≤ length s = omega arith in
-    (omega arith,
-    omega (arith, c .count-after .ensures .1),
-    count-on s (l .p) (l .count) (c .before .span-at .result) h (c .before .span-at .ensures .at) (l .inv .2)
-    ∙ ap (λ (n : ℕ). n + nodesIn (fields (drop (c .before .span-at .result .end) s))) (sym (c .count-after .ensures .0)))
+    let h : l .p + 3 ≤ length s = omega arith in (
+      omega arith,
+      omega (arith, c .count-after .ensures .1),
+      count-on s (l .p) (l .count) (c .before .span-at .result) h (c .before .span-at .ensures .at) (l .inv .2)
+          ∙ ap (λ (n : ℕ). n + nodesIn (fields (drop (c .before .span-at .result .end) s))) (sym (c .count-after .ensures .0)),
+    )
 
 returns : tie.Need-returns Inv-loop μ-loop
 returns c =

@@ -1,7 +1,6 @@
 -- `tree::questions::opens_blockquote` meets its contract. Assumes nothing.
 use borrow.Author.Tests.{eq-eqb, ne-eqb}
 use borrow.Author.Needs.{needs}
-use native.Mathlib.Omega.{arith}
 use Rattle.tree.proofs.questions.opens_blockquote.Statement.{statement}
 use Rattle.tree.proofs.questions.opens_blockquote.Tie as tie
 

@@ -1,5 +1,5 @@
 -- `tree::questions::scan_rules` meets its contract. Assumes nothing.
-use Prim.Native.Nat.{ℕ, _≤_, _<_, _-_, _+_}
+use Prim.Native.Nat.{ℕ, _≤_, _-_, _+_}
 use mathlib.Core.Path.{_≡_, refl, sym, _∙_, ap}
 use lib.ListN.{length, drop}
 use borrow.Author.Tests.{not-true, not-false}
@@ -34,14 +34,15 @@ loop-again : tie.Need-loop-again Inv-loop μ-loop
 loop-again c =
     let s = c .before .before .before .before .before .before .before .args .s .now in let l = c .before .before .before .before .before .loop in
     let h : l .p + 3 ≤ length s = omega arith in
-    let o : c .open-after .result ≡ openAfter (l .depth) (c .before .before .before .span-at .result .tag) = c .open-after .ensures .0 in
-    (omega arith,
-    omega (arith, c .open-after .ensures .1),
-    rules-on s (l .p) (l .before) (l .depth) (c .before .before .before .span-at .result) h (c .before .before .before .span-at .ensures .at) (l .inv .2) (l .inv .3)
-    (sym (c .before .before .field-right .ensures) ∙ not-false _ (c .before .if1 .left))
-    ∙ ap (λ (d : ℕ). keepRules (c .before .before .before .span-at .result .tag) d (fields (drop (c .before .before .before .span-at .result .end) s))) (sym o),
-    still-on s (l .p) (l .before) (l .depth) (c .before .before .before .span-at .result) h (c .before .before .before .span-at .ensures .at) (l .inv .2) (l .inv .3)
-    ∙ ap (λ (d : ℕ). stillOpen d (fields (drop (c .before .before .before .span-at .result .end) s))) (sym o))
+    let o : c .open-after .result ≡ openAfter (l .depth) (c .before .before .before .span-at .result .tag) = c .open-after .ensures .0 in (
+      omega arith,
+      omega (arith, c .open-after .ensures .1),
+      rules-on s (l .p) (l .before) (l .depth) (c .before .before .before .span-at .result) h (c .before .before .before .span-at .ensures .at) (l .inv .2) (l .inv .3)
+          (sym (c .before .before .field-right .ensures) ∙ not-false _ (c .before .if1 .left))
+          ∙ ap (λ (d : ℕ). keepRules (c .before .before .before .span-at .result .tag) d (fields (drop (c .before .before .before .span-at .result .end) s))) (sym o),
+      still-on s (l .p) (l .before) (l .depth) (c .before .before .before .span-at .result) h (c .before .before .before .span-at .ensures .at) (l .inv .2) (l .inv .3)
+          ∙ ap (λ (d : ℕ). stillOpen d (fields (drop (c .before .before .before .span-at .result .end) s))) (sym o),
+    )
 
 returns-2 : tie.Need-returns-2 Inv-loop μ-loop
 returns-2 c =

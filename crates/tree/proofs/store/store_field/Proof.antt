@@ -1,10 +1,8 @@
 -- `tree::store::store_field` meets its contract. Assumes nothing.
-use Prim.Native.Nat.{ℕ}
-use mathlib.Core.Path.{_≡_, subst, sym, refl, _∙_}
+use mathlib.Core.Path.{subst, refl}
 use borrow.Author.Tests.{eq-eqb, ne-eqb}
 use Rattle.tree.specs.Kinds.{Kind, FitsAs}
-use Rattle.tree.specs.declared.store.Turn.{Turn}
-use Rattle.tree.proofs.Placing.{is-open, is-close, is-text, is-comment, is-aside}
+use Rattle.tree.proofs.Placing.{is-open, is-close, is-text, is-comment}
 use borrow.Author.Needs.{needs}
 use native.Mathlib.Omega.{arith}
 use Rattle.tree.proofs.store.store_field.Statement.{statement}

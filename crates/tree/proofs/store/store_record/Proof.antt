@@ -1,7 +1,6 @@
 -- `tree::store::store_record` meets its contract. Assumes nothing.
 use Rattle.tree.proofs.Placing.{placed}
 use borrow.Author.Needs.{needs}
-use native.Mathlib.Omega.{arith}
 use Rattle.tree.proofs.store.store_record.Statement.{statement}
 use Rattle.tree.proofs.store.store_record.Tie as tie
 

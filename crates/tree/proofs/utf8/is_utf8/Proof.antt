@@ -1,5 +1,5 @@
 -- `tree::utf8::is_utf8` meets its contract. Assumes nothing.
-use Prim.Native.Nat.{ℕ, _≤_, _<_, _-_}
+use Prim.Native.Nat.{_≤_, _<_, _-_}
 use mathlib.Core.Path.{_≡_, refl}
 use mathlib.Core.List.{[]}
 use lib.ListN.{length, drop}
@@ -30,11 +30,12 @@ returns c =
 
 loop-again : tie.Need-loop-again Inv-loop μ-loop
 loop-again c =
-    let l = c .before .before .before .before .loop in
-    (omega arith,
-    omega arith,
-    right (c .before .before .before .before .before .before .args .s .now) (l .due) (c .before .next-byte .result) (l .i) (c .before .before .before .loop-test .taken) (l .inv .1)
-    (omega (arith, c .before .before .shared-slice-known2 .given (l .i))) (l .inv .2) (c .before .next-byte .ensures) (omega arith))
+    let l = c .before .before .before .before .loop in (
+      omega arith,
+      omega arith,
+      right (c .before .before .before .before .before .before .args .s .now) (l .due) (c .before .next-byte .result) (l .i) (c .before .before .before .loop-test .taken) (l .inv .1)
+          (omega (arith, c .before .before .shared-slice-known2 .given (l .i))) (l .inv .2) (c .before .next-byte .ensures) (omega arith),
+    )
 
 returns-2 : tie.Need-returns-2 Inv-loop μ-loop
 returns-2 c =

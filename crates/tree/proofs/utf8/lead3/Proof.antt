@@ -1,7 +1,5 @@
 -- `tree::utf8::lead3` meets its contract. Assumes nothing.
 use borrow.Author.Tests.{eq-eqb, ne-eqb}
-use borrow.Author.Needs.{needs}
-use native.Mathlib.Omega.{arith}
 use Rattle.tree.proofs.utf8.lead3.Statement.{statement}
 use Rattle.tree.proofs.utf8.lead3.Tie as tie
 

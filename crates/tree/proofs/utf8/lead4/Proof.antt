@@ -1,7 +1,5 @@
 -- `tree::utf8::lead4` meets its contract. Assumes nothing.
 use borrow.Author.Tests.{eq-eqb, ne-eqb, lt-ltb, le-ltb}
-use borrow.Author.Needs.{needs}
-use native.Mathlib.Omega.{arith}
 use Rattle.tree.proofs.utf8.lead4.Statement.{statement}
 use Rattle.tree.proofs.utf8.lead4.Tie as tie
 

@@ -1,7 +1,6 @@
 -- `tree::utf8::lead_of` meets its contract. Assumes nothing.
 use borrow.Author.Tests.{lt-ltb, le-ltb}
 use borrow.Author.Needs.{needs}
-use native.Mathlib.Omega.{arith}
 use Rattle.tree.proofs.utf8.lead_of.Statement.{statement}
 use Rattle.tree.proofs.utf8.lead_of.Tie as tie
 

@@ -1,7 +1,6 @@
 -- `tree::utf8::next_byte` meets its contract. Assumes nothing.
 use borrow.Author.Tests.{eq-eqb, ne-eqb, lt-ltb, le-ltb}
 use borrow.Author.Needs.{needs}
-use native.Mathlib.Omega.{arith}
 use Rattle.tree.proofs.utf8.next_byte.Statement.{statement}
 use Rattle.tree.proofs.utf8.next_byte.Tie as tie
 
