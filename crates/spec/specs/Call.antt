@@ -1,5 +1,5 @@
--- The call: from a sheet, a skip list, a start node, with it or without it, and the lent memories to the answer and every
--- byte of both memories. Assumes nothing.
+-- The call: from a sheet, a skip list, a start node, with it or without it, and the lent memories (document 01, "node memory" and
+-- "text memory") to the answer and every byte of both. Assumes nothing.
 use Prim.Native.Nat.{ℕ, _-_}
 use mathlib.Core.Bool.{Bool, cond}
 use mathlib.Core.List.{List, [], _∷_, _++_}

@@ -116,7 +116,7 @@ writeNodes self anc opts (element name attrs kids rest) t =
 
 -- ---- levels
 
--- n levels: forests in which fewer than n elements stand within one another are written whole
+-- n levels (document 01, "the levels left in the tree"): forests in which fewer than n elements stand within one another are written whole
 unfoldable pub writeAt : List Bytes → ℕ → Writer
 writeAt skips zero anc opts f t = keep t
 writeAt skips (suc n) anc opts f t =
