@@ -1,5 +1,6 @@
 -- The definitions that the contracts and theorems cite, in reading order.
 pub mod Bytes
+pub mod Decimal
 pub mod Utf8
 pub mod Fields
 pub mod Tree

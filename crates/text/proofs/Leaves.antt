@@ -1,0 +1,179 @@
+-- Ends of texts: backslashes, markers of emphasis, line breaks in cells, runs of backticks. Assumes nothing.
+use Prim.Native.Nat.{ℕ, zero, suc, _+_, _-_, _%_, _≤_, _<_, max}
+use mathlib.Core.Path.{_≡_, refl, sym, ap, subst, _∙_}
+use mathlib.Core.Bool.{Bool, true, false, cond, not, _&&_, _||_, false≢true}
+use mathlib.Core.List.{List, [], _∷_, _++_}
+use native.Mathlib.Omega.{arith}
+use native.Mathlib.Numerals.{add-one}
+use lib.ListN.{length, take, drop, getD, length-drop, drop-of-length-le}
+use lib.Seq.{length-take-le, take-take, drop-cons}
+use lib.Dec.{eqb, ltb}
+use borrow.Author.Tests.{eq-eqb, ne-eqb, eqb-true, eqb-false, ltb-false, lt-ltb, ltb-true}
+use Rattle.spec.specs.Bytes.{ascii, same, null, endsWith, one, white, «trim_end_matches», «trim_ascii_end»}
+use Rattle.spec.specs.Out.{keep, push, cut, andThen}
+use Rattle.spec.specs.Md.TextUtils.{trimBlanks}
+use Rattle.spec.specs.Md.Elements.Emphasis.{backslashes, «is_exact_marker_end», endsWithEmphasis, dropEnd, «try_trim_prev_emphasis_marker»}
+use Rattle.spec.specs.Md.Elements.Table.{«ends_with_cell_break», withoutBreaks}
+use Rattle.spec.specs.Md.Elements.Code.{longestRun, filter}
+use Rattle.text.proofs.Writing.{push-both}
+use Rattle.text.specs.Trimmed.{Trimmed}
+use Rattle.text.specs.Writes.{Written}
+use Rattle.text.proofs.Spaces.{cut-done}
+use Rattle.text.proofs.Reading.{ends-short}
+use Rattle.text.proofs.Wording.{null-is}
+
+pub ends-long : (s x : List ℕ) → endsWith x s ≡ true → length x ≤ length s
+ends-long s x e = go (ltb (length s) (length x)) refl
+  where
+    go : (t : Bool) → ltb (length s) (length x) ≡ t → length x ≤ length s
+    go true q = absurd (false≢true (sym (ends-short s x (ltb-true (length s) (length x) q)) ∙ e))
+    go false q = ltb-false (length s) (length x) q
+
+pub trimmed-length : {s short : List ℕ} {n : ℕ} → Trimmed s n short → length short ≡ n
+trimmed-length {s} {short} {n} t = ap length (sym (t .is)) ∙ length-take-le n s (t .within)
+
+pub backslashes-is : (s : List ℕ) (n : ℕ) → Trimmed s n («trim_end_matches» (one (λ b. eqb b 92)) s) → length s - n ≡ backslashes s
+unfolding backslashes
+backslashes-is s n t = ap (λ (k : ℕ). length s - k) (sym (trimmed-length t))
+
+-- ---- emphasis
+
+pub exact-not : (tail marker : List ℕ) → endsWith marker tail ≡ false → «is_exact_marker_end» tail marker ≡ false
+unfolding «is_exact_marker_end»
+exact-not tail marker e = rw e
+
+pub exact-is : (tail marker : List ℕ) (a b : Bool) (k : ℕ) → endsWith marker tail ≡ true → a ≡ same marker (42 ∷ []) → b ≡ endsWith (42 ∷ []) (take (length tail - length marker) tail)
+    → k ≡ backslashes (take (length tail - length marker) tail) → not (a && b) && eqb (k % 2) 0 ≡ «is_exact_marker_end» tail marker
+unfolding «is_exact_marker_end»
+exact-is tail marker a b k e p q r = rw (p, q, r, e)
+
+pub emphasis-none : (marker acc : List ℕ) → eqb (length marker) 0 || eqb (length acc) 0 ≡ true → endsWithEmphasis marker acc ≡ false
+unfolding endsWithEmphasis
+emphasis-none marker acc e = rw (null-is marker, null-is acc, e)
+
+module _ (marker acc : List ℕ) (n : ℕ) (b : Bool) (e : eqb (length marker) 0 || eqb (length acc) 0 ≡ false) (t : Trimmed acc n («trim_end_matches» (one white) acc)) (q : b ≡ same (drop n acc) (32 ∷ [])) where
+  none-behind : null (drop n acc) ≡ eqb n (length acc)
+  none-behind = null-is (drop n acc) ∙ go (eqb n (length acc)) refl
+    where
+      go : (z : Bool) → eqb n (length acc) ≡ z → eqb (length (drop n acc)) 0 ≡ z
+      go true z = eq-eqb (length (drop n acc)) 0 (omega (arith, length-drop n acc, eqb-true n (length acc) z))
+      go false z = ne-eqb (length (drop n acc)) 0 (λ w. eqb-false n (length acc) z (omega (arith, length-drop n acc, t .within)))
+
+  tested : endsWithEmphasis marker acc ≡ (eqb n (length acc) || b) && «is_exact_marker_end» (take n acc) marker
+  unfolding endsWithEmphasis «trim_ascii_end»
+  tested =
+      let l : length («trim_end_matches» (one white) acc) ≡ n = trimmed-length t in
+      rw (l, null-is marker, null-is acc, e, none-behind, sym q, sym (t .is))
+
+  pub emphasis-not : eqb n (length acc) || b ≡ false → endsWithEmphasis marker acc ≡ false
+  emphasis-not f = tested ∙ rw f
+
+  pub emphasis-is : (r : Bool) → eqb n (length acc) || b ≡ true → r ≡ «is_exact_marker_end» (take n acc) marker → r ≡ endsWithEmphasis marker acc
+  emphasis-is r f g = g ∙ sym (tested ∙ rw f)
+
+-- ---- line breaks in cells
+
+pub cell-not : (s : List ℕ) → endsWith (ascii "<br>") s ≡ false → «ends_with_cell_break» s ≡ false
+unfolding «ends_with_cell_break»
+cell-not s e = rw e
+
+pub cell-is : (s : List ℕ) (k : ℕ) → endsWith (ascii "<br>") s ≡ true → k ≡ backslashes (take (length s - 4) s) → eqb (k % 2) 0 ≡ «ends_with_cell_break» s
+unfolding «ends_with_cell_break» dropEnd
+cell-is s k e q = rw (q, e)
+
+pub cell-long : (s : List ℕ) → «ends_with_cell_break» s ≡ true → 4 ≤ length s
+unfolding «ends_with_cell_break»
+cell-long s e = go (endsWith (ascii "<br>") s) refl e
+  where
+    go : (t : Bool) → endsWith (ascii "<br>") s ≡ t → t && eqb (backslashes (dropEnd 4 s) % 2) 0 ≡ true → 4 ≤ length s
+    go true q f = ends-long s (ascii "<br>") q
+    go false q f = absurd (false≢true f)
+
+pub breaks-off : (s : List ℕ) (n left : ℕ) → left ≤ 0 → withoutBreaks left (take n s) ≡ take n s
+unfolding withoutBreaks
+breaks-off s n zero h = refl
+breaks-off s n (suc k) h = absurd (omega arith)
+
+pub breaks-end : (s : List ℕ) (n left : ℕ) → «ends_with_cell_break» (take n s) ≡ false → withoutBreaks left (take n s) ≡ take n s
+unfolding withoutBreaks
+breaks-end s n zero e = refl
+breaks-end s n (suc k) e = rw e
+
+pub breaks-on : (s : List ℕ) (n m left : ℕ) → 0 < left → n ≤ length s → «ends_with_cell_break» (take n s) ≡ true → Trimmed (take (n - 4) s) m (trimBlanks (take (n - 4) s))
+    → withoutBreaks left (take n s) ≡ withoutBreaks (left - 1) (take m s)
+unfolding withoutBreaks dropEnd
+breaks-on s n m zero h k e t = absurd (omega arith)
+breaks-on s n m (suc left) h k e t =
+    let l : length (take n s) ≡ n = length-take-le n s k in
+    let q : suc left - 1 ≡ left = omega arith in
+    let f : take (n - 4) (take n s) ≡ take (n - 4) s = take-take (n - 4) n s (omega arith) in
+    let g : take m (take (n - 4) s) ≡ take m s = take-take m (n - 4) s (omega (arith, t .within, length-take-le (n - 4) s (omega arith))) in
+    rw (e, l, f, sym (t .is), g, q)
+
+-- ---- runs of backticks
+
+pub run-turn : (best run b : ℕ) (s : List ℕ) → max best (longestRun run (b ∷ s)) ≡ max (cond (eqb b 96) best (max best run)) (longestRun (cond (eqb b 96) (run + 1) 0) s)
+unfolding longestRun
+run-turn best run b s = go (eqb b 96)
+  where
+    go : (t : Bool) → max best (cond t (longestRun (suc run) s) (max run (longestRun 0 s))) ≡ max (cond t best (max best run)) (longestRun (cond t (run + 1) 0) s)
+    go true = ap (λ (k : ℕ). max best (longestRun k s)) (sym (add-one run))
+    go false = omega arith
+
+pub run-on : (best run i : ℕ) (s : List ℕ) → i < length s → max best (longestRun run (drop i s)) ≡ max (cond (eqb (getD s i 0) 96) best (max best run)) (longestRun (cond (eqb (getD s i 0) 96) (run + 1) 0) (drop (i + 1) s))
+run-on best run i s h =
+    ap (λ (l : List ℕ). max best (longestRun run l)) (drop-cons s i 0 h ∙ ap (λ (j : ℕ). getD s i 0 ∷ drop j s) (sym (add-one i))) ∙ run-turn best run (getD s i 0) (drop (i + 1) s)
+
+pub run-all : (best run i : ℕ) (s : List ℕ) → length s ≤ i → max best (longestRun run (drop i s)) ≡ max best run
+unfolding longestRun
+run-all best run i s h = ap (λ (l : List ℕ). max best (longestRun run l)) (none s i h)
+  where
+    none : (l : List ℕ) (j : ℕ) → length l ≤ j → drop j l ≡ []
+    none [] zero k = refl
+    none [] (suc j) k = refl
+    none (x ∷ l) zero k = absurd (omega arith)
+    none (x ∷ l) (suc j) k = none l j (omega arith)
+
+-- ---- the marker taken away
+
+module _ (marker d : List ℕ) (len : ℕ) (h : len ≤ length d) where
+  abbrev acc : List ℕ
+  acc = take len d
+
+  pub prev-none : endsWithEmphasis marker acc ≡ false → «try_trim_prev_emphasis_marker» marker acc ≡ keep acc
+  unfolding «try_trim_prev_emphasis_marker»
+  prev-none e = rw e
+
+  pub prev-space : endsWithEmphasis marker acc ≡ true → endsWith (32 ∷ []) acc ≡ true
+      → «try_trim_prev_emphasis_marker» marker acc ≡ andThen (cut (λ t. dropEnd (length marker + 1) acc) acc) (push (32 ∷ []))
+  unfolding «try_trim_prev_emphasis_marker»
+  prev-space e f = rw (e, f)
+
+  pub prev-plain : endsWithEmphasis marker acc ≡ true → endsWith (32 ∷ []) acc ≡ false
+      → «try_trim_prev_emphasis_marker» marker acc ≡ andThen (cut (λ t. dropEnd (length marker + 0) acc) acc) (push [])
+  unfolding «try_trim_prev_emphasis_marker»
+  prev-plain e f = rw (e, f)
+
+  -- without k bytes at its end
+  pub short-done : (k n : ℕ) → n ≡ len - k → Written (length d) d n (cut (λ t. dropEnd k acc) acc)
+  unfolding dropEnd
+  short-done k n e =
+      let l : length acc ≡ len = length-take-le len d h in
+      cut-done (λ t. take (length acc - k) acc) d len n h (record { within = omega arith; is = ap (λ (j : ℕ). take j acc) (e ∙ ap (λ (j : ℕ). j - k) (sym l)) })
+
+-- ---- bytes that stay
+
+pub filter-turn : (p : ℕ → Bool) (s t : List ℕ) (i : ℕ) → i < length s → push (filter p (drop i s)) t ≡ andThen (push (cond (p (getD s i 0)) (getD s i 0 ∷ []) []) t) (push (filter p (drop (i + 1) s)))
+unfolding filter
+filter-turn p s t i h =
+    ap (λ (x : List ℕ). push (filter p x) t) (drop-cons s i 0 h ∙ ap (λ (j : ℕ). getD s i 0 ∷ drop j s) (sym (add-one i)))
+    ∙ ap (λ (x : List ℕ). push x t) (go (p (getD s i 0)))
+    ∙ push-both (cond (p (getD s i 0)) (getD s i 0 ∷ []) []) (filter p (drop (i + 1) s)) t
+  where
+    go : (b : Bool) → cond b (getD s i 0 ∷ filter p (drop (i + 1) s)) (filter p (drop (i + 1) s)) ≡ cond b (getD s i 0 ∷ []) [] ++ filter p (drop (i + 1) s)
+    go true = refl
+    go false = refl
+
+pub filter-none : (p : ℕ → Bool) (s t : List ℕ) (i : ℕ) → length s ≤ i → push (filter p (drop i s)) t ≡ push [] t
+unfolding filter
+filter-none p s t i h = ap (λ (x : List ℕ). push (filter p x) t) (drop-of-length-le s h)

@@ -1,0 +1,16 @@
+-- `text::buffer::is_white_space_1` meets its contract. Assumes nothing.
+use Rattle.spec.specs.Bytes.{isWhiteSpace, among, whiteSpace, same}
+use Rattle.text.proofs.Reading.{or-false}
+use Rattle.text.proofs.WhiteSpace.{and-false, and-true}
+use borrow.Author.Needs.{needs}
+use native.Mathlib.Omega.{arith}
+use Rattle.text.proofs.buffer.is_white_space_1.Statement.{statement}
+use Rattle.text.proofs.buffer.is_white_space_1.Tie as tie
+
+returns : tie.Need-returns
+unfolding isWhiteSpace among whiteSpace same
+returns c =
+    simp (and-false, and-true, or-false)
+
+pub is-white-space-1-spec : {M : Type 1} → statement M
+is-white-space-1-spec = tie.close (tie.spec returns)

@@ -1,0 +1,16 @@
+-- `text::heading::is_heading` meets its contract. Assumes nothing.
+use Rattle.spec.specs.Bytes.{isin}
+use Rattle.spec.specs.Md.Heading.{«is_heading»}
+use Rattle.text.proofs.Reading.{or-false}
+use borrow.Author.Needs.{needs}
+use native.Mathlib.Omega.{arith}
+use Rattle.text.proofs.heading.is_heading.Statement.{statement}
+use Rattle.text.proofs.heading.is_heading.Tie as tie
+
+returns : tie.Need-returns
+unfolding «is_heading» isin
+returns c =
+    simp or-false
+
+pub is-heading-spec : {M : Type 1} → statement M
+is-heading-spec = tie.close (tie.spec returns)

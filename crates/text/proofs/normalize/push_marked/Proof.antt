@@ -1,0 +1,113 @@
+-- `text::normalize::push_marked` meets its contract. Assumes nothing.
+use Prim.Native.Nat.{ℕ, _≤_, _<_, _+_, _-_}
+use mathlib.Core.Path.{_≡_, sym, ap, _∙_, subst, refl}
+use mathlib.Core.Bool.{Bool, false, cond, _&&_}
+use mathlib.Core.List.{[], _∷_, _++_}
+use lib.ListN.{length, take}
+use lib.Seq.{slice}
+use Rattle.spec.specs.Bytes.{ascii, startsWith}
+use Rattle.spec.specs.Out.{push}
+use Rattle.text.specs.Marks.{marks}
+use Rattle.text.specs.Source.{store}
+use Rattle.text.proofs.Sourcing.{OwesIn, owed-all, owed-step, owed-stop, owed-nothing, owed-reach, store-long, slice-kept, getD-kept, marks-turn, marks-ended}
+use borrow.Author.Needs.{needs}
+use native.Mathlib.Omega.{arith}
+use Rattle.text.proofs.normalize.push_marked.Statement.{statement}
+use Rattle.text.proofs.normalize.push_marked.Tie as tie
+
+abbrev Inv-loop : tie.InvT-loop
+Inv-loop src text₀ own from to room len escape line-start marker underline n₀ start₀ i₀ text n start i =
+    (from ≤ i) × (i ≤ to)
+    × OwesIn room text₀ text n (push (marks escape start marker underline (slice i to (store own text₀ src)))) (push (marks escape line-start marker underline (slice from to (store own text₀ src))) (take len text₀))
+
+abbrev μ-loop : tie.MeasureT-loop
+μ-loop src text₀ own from to room len escape line-start marker underline n₀ start₀ i₀ text n start i = to - i
+
+loop-holds : tie.Need-loop-holds Inv-loop μ-loop
+loop-holds c =
+    let a = c .before .before .args in
+    let p = c .before .before .pre in
+    (omega arith, p .0 .ordered, owed-all (a .room) (a .text .now) (a .len) (push (marks (a .escape) (a .line-start) (a .marker) (a .underline) (slice (a .from) (a .to) (store (a .own) (a .text .now) (a .src .now))))) (p .1) (p .0 .inside) refl)
+
+byte-at-requires : tie.Need-byte-at-requires Inv-loop μ-loop
+byte-at-requires c κs =
+    let p = c .before .before .before .before .before .pre .0 in
+    let o = c .before .before .loop .inv .2 in
+    omega (arith, c .before .loop-test .taken, p .within, store-long p (o .still))
+
+add-follows : tie.Need-add-follows Inv-loop μ-loop
+add-follows c =
+    omega (arith, c .before .before .before .loop-test .taken)
+
+follows-requires : tie.Need-follows-requires Inv-loop μ-loop
+follows-requires c κs =
+    let p = c .before .before .before .before .before .before .before .pre .0 in
+    let o = c .before .before .before .before .loop .inv .2 in
+    omega (arith, p .within, store-long p (o .still))
+
+is-escaped-requires : tie.Need-is-escaped-requires Inv-loop μ-loop
+is-escaped-requires c κs = search needs
+
+put-escaped-requires : tie.Need-put-escaped-requires Inv-loop μ-loop
+put-escaped-requires c κs =
+    let p = c .before .before .before .before .before .before .before .before .before .before .pre .0 in
+    let o = c .before .before .before .before .before .before .before .loop .inv .2 in
+    (owed-reach o, omega (arith, o .still .long, p .inside))
+
+enum-known-m : tie.Need-enum-known-m Inv-loop μ-loop
+enum-known-m c = search needs
+
+enum-told : tie.Need-enum-told Inv-loop μ-loop
+enum-told c = search needs
+
+same-length : tie.Need-same-length Inv-loop μ-loop
+same-length c =
+    c .before .before .before .before .put-escaped .ensures .long ∙ c .before .before .before .before .before .before .before .before .before .before .before .before .loop .inv .2 .still .long
+
+returns : tie.Need-returns Inv-loop μ-loop
+returns c =
+    let a = c .before .before .before .before .before .before .before .before .before .before .before .before .before .before .before .args in
+    let p = c .before .before .before .before .before .before .before .before .before .before .before .before .before .before .before .pre .0 in
+    let l = c .before .before .before .before .before .before .before .before .before .before .before .before .loop in
+    let o = l .inv .2 in
+    let x = store (a .own) (a .text .now) (a .src .now) in
+    owed-stop o (push (cond (a .escape && c .before .before .before .before .before .before .is-escaped .result) (ascii "\\") [] ++ (c .before .before .before .before .before .before .before .before .before .byte-at .result ∷ []))) (push (marks (a .escape) false (a .marker) (a .underline) (slice (l .i + 1) (a .to) x)))
+    (marks-turn x (l .i) (a .to) (a .escape) (l .start) (a .marker) (a .underline) (c .before .before .before .before .before .before .is-escaped .result) (c .before .before .before .before .before .before .before .before .before .byte-at .result) (take (l .n) (l .text)) (c .before .before .before .before .before .before .before .before .before .before .before .loop-test .taken) (p .within)
+    (c .before .before .before .before .before .before .before .before .before .byte-at .ensures ∙ getD-kept p (o .still) (l .i) (l .inv .0))
+    (c .before .before .before .before .before .before .is-escaped .ensures (slice (l .i + 1) (a .to) x) (c .before .before .before .before .before .before .before .follows .ensures ∙ ap (startsWith (91 ∷ [])) (slice-kept p (o .still) (l .i + 1) (a .to) (omega arith)))))
+    (c .enum-told .given .1) (c .before .before .before .before .put-escaped .ensures)
+
+add-i : tie.Need-add-i Inv-loop μ-loop
+add-i c = search needs
+
+loop-less : tie.Need-loop-less Inv-loop μ-loop
+loop-less c = search needs
+
+loop-again : tie.Need-loop-again Inv-loop μ-loop
+loop-again c =
+    let a = c .before .before .before .before .before .before .before .before .before .before .before .before .before .before .before .before .args in
+    let p = c .before .before .before .before .before .before .before .before .before .before .before .before .before .before .before .before .pre .0 in
+    let l = c .before .before .before .before .before .before .before .before .before .before .before .before .before .loop in
+    let o = l .inv .2 in
+    let x = store (a .own) (a .text .now) (a .src .now) in (
+      omega arith,
+      omega (arith, c .before .before .before .before .before .before .before .before .before .before .before .before .loop-test .taken),
+      owed-step o (push (cond (a .escape && c .before .before .before .before .before .before .before .is-escaped .result) (ascii "\\") [] ++ (c .before .before .before .before .before .before .before .before .before .before .byte-at .result ∷ []))) (push (marks (a .escape) false (a .marker) (a .underline) (slice (l .i + 1) (a .to) x)))
+          (marks-turn x (l .i) (a .to) (a .escape) (l .start) (a .marker) (a .underline) (c .before .before .before .before .before .before .before .is-escaped .result) (c .before .before .before .before .before .before .before .before .before .before .byte-at .result) (take (l .n) (l .text)) (c .before .before .before .before .before .before .before .before .before .before .before .before .loop-test .taken) (p .within)
+          (c .before .before .before .before .before .before .before .before .before .before .byte-at .ensures ∙ getD-kept p (o .still) (l .i) (l .inv .0))
+          (c .before .before .before .before .before .before .before .is-escaped .ensures (slice (l .i + 1) (a .to) x) (c .before .before .before .before .before .before .before .before .follows .ensures ∙ ap (startsWith (91 ∷ [])) (slice-kept p (o .still) (l .i + 1) (a .to) (omega arith)))))
+          (c .before .m .given .1) (c .before .before .before .before .before .put-escaped .ensures),
+    )
+
+same-length-2 : tie.Need-same-length-2 Inv-loop μ-loop
+same-length-2 c =
+    c .before .loop .inv .2 .still .long
+
+returns-2 : tie.Need-returns-2 Inv-loop μ-loop
+returns-2 c =
+    let a = c .before .before .before .before .args in
+    let l = c .before .loop in
+    owed-nothing (l .inv .2) (marks-ended (store (a .own) (a .text .now) (a .src .now)) (l .i) (a .to) (a .escape) (l .start) (a .marker) (a .underline) (take (l .n) (l .text)) (c .loop-test .left))
+
+pub push-marked-spec : {M : Type 1} → statement M
+push-marked-spec = tie.close (tie.spec Inv-loop μ-loop loop-holds byte-at-requires add-follows follows-requires is-escaped-requires put-escaped-requires enum-known-m enum-told same-length returns add-i loop-less loop-again same-length-2 returns-2)

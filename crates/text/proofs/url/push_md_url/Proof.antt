@@ -1,0 +1,37 @@
+-- `text::url::push_md_url` meets its contract. Assumes nothing.
+use mathlib.Core.Path.{_≡_, sym, ap, _∙_, refl}
+use lib.ListN.{take}
+use Rattle.text.proofs.Writing.{alike}
+use Rattle.text.proofs.Linking.{url-wrapped, url-plain}
+use borrow.Author.Needs.{needs}
+use native.Mathlib.Omega.{arith}
+use Rattle.text.proofs.url.push_md_url.Statement.{statement}
+use Rattle.text.proofs.url.push_md_url.Tie as tie
+
+needs-wrap-requires : tie.Need-needs-wrap-requires
+needs-wrap-requires c κs = search needs
+
+push-wrapped-requires : tie.Need-push-wrapped-requires
+push-wrapped-requires c κs = search needs
+
+push-dest-requires : tie.Need-push-dest-requires
+push-dest-requires c κs = search needs
+
+same-length : tie.Need-same-length
+same-length c = search needs
+
+returns : tie.Need-returns
+returns c =
+    let a = c .before .before .before .before .before .before .before .before .args in
+    alike (url-wrapped (a .dest .now) (take (a .len) (a .text .now)) (sym (c .before .before .before .before .before .needs-wrap .ensures) ∙ c .before .before .before .before .if1 .taken)) (c .before .before .push-wrapped .ensures)
+
+same-length-2 : tie.Need-same-length-2
+same-length-2 c = search needs
+
+returns-2 : tie.Need-returns-2
+returns-2 c =
+    let a = c .before .before .before .before .before .before .before .before .args in
+    alike (url-plain (a .dest .now) (take (a .len) (a .text .now)) (sym (c .before .before .before .before .before .needs-wrap .ensures) ∙ c .before .before .before .before .if1 .left)) (c .before .before .push-dest .ensures)
+
+pub push-md-url-spec : {M : Type 1} → statement M
+push-md-url-spec = tie.close (tie.spec needs-wrap-requires push-wrapped-requires push-dest-requires same-length returns same-length-2 returns-2)

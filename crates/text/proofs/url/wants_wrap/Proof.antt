@@ -1,0 +1,16 @@
+-- `text::url::wants_wrap` meets its contract. Assumes nothing.
+use Rattle.spec.specs.Bytes.{isin}
+use Rattle.spec.specs.Md.TextUtils.{wantsWrap}
+use Rattle.text.proofs.Reading.{or-false}
+use borrow.Author.Needs.{needs}
+use native.Mathlib.Omega.{arith}
+use Rattle.text.proofs.url.wants_wrap.Statement.{statement}
+use Rattle.text.proofs.url.wants_wrap.Tie as tie
+
+returns : tie.Need-returns
+unfolding wantsWrap isin
+returns c =
+    simp or-false
+
+pub wants-wrap-spec : {M : Type 1} → statement M
+wants-wrap-spec = tie.close (tie.spec returns)

@@ -1,0 +1,10 @@
+-- The definitions that the contracts cite.
+pub mod Writes
+pub mod Class
+pub mod Trimmed
+pub mod Lifted
+pub mod Source
+pub mod Marks
+pub mod Words
+pub mod Url
+pub mod Kept

@@ -1,0 +1,16 @@
+-- What stands for one byte of a link destination. Assumes nothing.
+use Prim.Native.Nat.{ℕ}
+use mathlib.Core.Bool.{Bool, cond}
+use mathlib.Core.List.{[]}
+use lib.Dec.{eqb}
+use Rattle.spec.specs.Bytes.{Bytes, ascii}
+use Rattle.spec.specs.Md.TextUtils.{wrappedByte, backslashTwice}
+
+abbrev pub urlByte : Bool → ℕ → Bytes
+urlByte wrap = cond wrap wrappedByte backslashTwice
+
+-- `second` says that b ends U+00A0, and `nbsp` that it begins it
+abbrev pub pieceOf : Bool → Bool → Bool → ℕ → Bytes
+pieceOf wrap second nbsp b =
+    cond second []
+    (cond (eqb b 38) (ascii "&amp;") (cond (eqb b 34) (ascii "&quot;") (cond nbsp (ascii "&nbsp;") (urlByte wrap b))))

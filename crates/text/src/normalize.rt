@@ -1,0 +1,432 @@
+// push_normalized_text of text_utils.rs with push_escaped_chunk, for a text from another slice or from the own memory.
+// What is read is src or, where `own` says so, text; what is written stays before `room`.
+ghost use mathlib.Core.Path.{_≡_};
+ghost use mathlib.Core.Bool.{cond, false, _||_, _&&_};
+ghost use mathlib.Core.List.{List, [], _∷_, _++_};
+ghost use Prim.Native.Nat.{ℕ, _+_, _≤_, _<_};
+ghost use lib.ListN.{length, take, drop, getD};
+ghost use lib.Seq.{slice};
+ghost use Rattle.spec.specs.Bytes.{ascii, startsWith, isin, every, white, words, same, «trim_start_matches»};
+ghost use Rattle.spec.specs.Out.{push};
+ghost use Rattle.spec.specs.Md.Constants.{«ALWAYS_ESCAPED», «LINE_START_ESCAPED»};
+ghost use Rattle.spec.specs.Md.TextUtils as def;
+ghost use Rattle.text.specs.Class.{inClass};
+ghost use Rattle.text.specs.Marks.{marks, leadOf, firstAndMore, dotWord, leadText, blankText, lineStart};
+ghost use Rattle.text.specs.Trimmed.{Skipped};
+ghost use Rattle.text.specs.Words.{WordAt, WordEnd};
+ghost use Rattle.text.specs.Source.{store, Apart, WritesIn};
+use crate::buffer::Class;
+use crate::buffer::Wrote;
+use crate::buffer::all_in;
+use crate::buffer::ends_with_byte;
+use crate::buffer::ends_with_either;
+use crate::buffer::ends_with_white;
+use crate::buffer::push_byte;
+use crate::buffer::same_bytes;
+use crate::buffer::trim_start_matches;
+use crate::text_utils::ends_with_marker_digits;
+use crate::text_utils::is_ordered_list_marker;
+use spec::ctx::FormatOpts;
+
+// The byte at i of what is read.
+fn byte_at(src: &[u8], text: &[u8], own: bool, i: usize) -> u8
+    requires { ⌜ i < length (store own (now text) (now src)) ⌝ }
+    ensures { λ r. ⌜ r ≡ getD (store own (now (text .entry)) (now (src .entry))) i 0 ⌝ }
+{
+    if own { text[i] } else { src[i] }
+}
+
+// Appends a byte.
+fn put(text: &mut [u8], room: usize, len: usize, b: u8) -> Wrote
+    requires { ⌜ (len ≤ room) × (room ≤ length (now text)) ⌝ }
+    ensures { λ r. ⌜ WritesIn room (now (text .entry)) (now (text .exit)) r (push (b ∷ []) (take len (now (text .entry)))) ⌝ }
+{
+    push_byte(&mut text[..room], len, b)
+}
+
+// Appends a byte, behind a backslash if it is escaped.
+pub fn put_escaped(text: &mut [u8], room: usize, len: usize, escaped: bool, b: u8) -> Wrote
+    requires { ⌜ (len ≤ room) × (room ≤ length (now text)) ⌝ }
+    ensures { λ r. ⌜ WritesIn room (now (text .entry)) (now (text .exit)) r (push (cond escaped (ascii "\\") [] ++ (b ∷ [])) (take len (now (text .entry)))) ⌝ }
+{
+    if escaped {
+        match put(text, room, len, 92) {
+            Wrote::Done(n) => put(text, room, n, b),
+            Wrote::Full => Wrote::Full,
+        }
+    } else {
+        put(text, room, len, b)
+    }
+}
+
+fn is_always_escaped(b: u8) -> bool
+    ensures { λ r. ⌜ r ≡ isin b «ALWAYS_ESCAPED» ⌝ }
+{
+    (b == 92)
+        | ((b == 96)
+            | ((b == 42)
+                | ((b == 95)
+                    | ((b == 91) | ((b == 93) | ((b == 60) | ((b == 124) | (b == 126))))))))
+}
+
+fn is_line_start_escaped(b: u8) -> bool
+    ensures { λ r. ⌜ r ≡ isin b «LINE_START_ESCAPED» ⌝ }
+{
+    (b == 35) | ((b == 62) | ((b == 45) | (b == 43)))
+}
+
+// Whether b is escaped; `bracket` says that `[` follows.
+fn is_escaped(start: bool, marker: bool, underline: bool, b: u8, bracket: bool) -> bool
+    ensures { λ r. ⌜ ((rest : List ℕ) → bracket ≡ startsWith (ascii "[") rest → r ≡ def.isEscaped start marker underline b rest) ⌝ }
+{
+    is_always_escaped(b)
+        | ((start & is_line_start_escaped(b))
+            | (((b == 33) & bracket)
+                | ((marker & ((b == 46) | (b == 41))) | (start & (underline & (b == 61))))))
+}
+
+// Whether b follows at i, before `to`.
+fn follows(src: &[u8], text: &[u8], own: bool, i: usize, to: usize, b: u8) -> bool
+    requires { ⌜ to ≤ length (store own (now text) (now src)) ⌝ }
+    ensures { λ r. ⌜ r ≡ startsWith (b ∷ []) (slice i to (store own (now (text .entry)) (now (src .entry)))) ⌝ }
+{
+    if i < to {
+        byte_at(src, text, own, i) == b
+    } else {
+        false
+    }
+}
+
+fn is_marker_in(src: &[u8], text: &[u8], own: bool, from: usize, to: usize) -> bool
+    requires { ⌜ (from ≤ to) × (to ≤ length (store own (now text) (now src))) ⌝ }
+    ensures { λ r. ⌜ r ≡ def.«is_ordered_list_marker» (slice from to (store own (now (text .entry)) (now (src .entry)))) ⌝ }
+{
+    if own {
+        is_ordered_list_marker(&text[from..to])
+    } else {
+        is_ordered_list_marker(&src[from..to])
+    }
+}
+
+fn all_in_part(src: &[u8], text: &[u8], own: bool, from: usize, to: usize, class: Class) -> bool
+    requires { ⌜ (from ≤ to) × (to ≤ length (store own (now text) (now src))) ⌝ }
+    ensures { λ r. ⌜ r ≡ every (inClass class) (slice from to (store own (now (text .entry)) (now (src .entry)))) ⌝ }
+{
+    if own {
+        all_in(&text[from..to], class)
+    } else {
+        all_in(&src[from..to], class)
+    }
+}
+
+// Appends a part of what is read, from i on; `start` says that it stands at the beginning of a line.
+fn push_marked(
+    src: &[u8],
+    text: &mut [u8],
+    own: bool,
+    from: usize,
+    to: usize,
+    room: usize,
+    len: usize,
+    escape: bool,
+    line_start: bool,
+    marker: bool,
+    underline: bool,
+) -> Wrote
+    requires { ⌜ Apart own (now text) (now src) room from to × (len ≤ room) ⌝ }
+    ensures { λ r. ⌜ WritesIn room (now (text .entry)) (now (text .exit)) r (push (marks escape «line_start» marker underline (slice from to (store own (now (text .entry)) (now (src .entry))))) (take len (now (text .entry)))) ⌝ }
+{
+    let mut n = len;
+    let mut start = line_start;
+    let mut i = from;
+    while i < to {
+        let b = byte_at(src, text, own, i);
+        let bracket = follows(src, text, own, i + 1, to, 91);
+        let escaped = escape & is_escaped(start, marker, underline, b, bracket);
+        match put_escaped(text, room, n, escaped, b) {
+            Wrote::Done(m) => {
+                n = m;
+            }
+            Wrote::Full => {
+                return Wrote::Full;
+            }
+        }
+        start = false;
+        i += 1;
+    }
+    Wrote::Done(n)
+}
+
+// push_escaped_chunk for the chunk between `from` and `to`.
+fn push_escaped_chunk(
+    src: &[u8],
+    text: &mut [u8],
+    own: bool,
+    from: usize,
+    to: usize,
+    room: usize,
+    len: usize,
+    escape: bool,
+    line_start: bool,
+) -> Wrote
+    requires { ⌜ Apart own (now text) (now src) room from to × (len ≤ room) ⌝ }
+    ensures { λ r. ⌜ WritesIn room (now (text .entry)) (now (text .exit)) r (def.«push_escaped_chunk» (slice from to (store own (now (text .entry)) (now (src .entry)))) escape «line_start» (take len (now (text .entry)))) ⌝ }
+{
+    let marker = line_start & is_marker_in(src, text, own, from, to);
+    let underline = all_in_part(src, text, own, from, to, Class::Equals);
+    push_marked(
+        src,
+        text,
+        own,
+        from,
+        to,
+        room,
+        len,
+        escape,
+        line_start,
+        marker,
+        underline,
+    )
+}
+
+// How many bytes of a class a part begins with.
+fn skip_in(src: &[u8], text: &[u8], own: bool, from: usize, to: usize, class: Class) -> usize
+    requires { ⌜ (from ≤ to) × (to ≤ length (store own (now text) (now src))) ⌝ }
+    ensures { λ r. ⌜ Skipped (slice from to (store own (now (text .entry)) (now (src .entry)))) r («trim_start_matches» (inClass class) (slice from to (store own (now (text .entry)) (now (src .entry))))) ⌝ }
+{
+    if own {
+        trim_start_matches(&text[from..to], class)
+    } else {
+        trim_start_matches(&src[from..to], class)
+    }
+}
+
+fn ends_white_in(src: &[u8], text: &[u8], own: bool, from: usize, to: usize) -> bool
+    requires { ⌜ (from ≤ to) × (to ≤ length (store own (now text) (now src))) ⌝ }
+    ensures { λ r. ⌜ r ≡ def.endsWithWhite (slice from to (store own (now (text .entry)) (now (src .entry)))) ⌝ }
+{
+    if own {
+        ends_with_white(&text[from..to])
+    } else {
+        ends_with_white(&src[from..to])
+    }
+}
+
+// Where the first word from i on begins.
+fn next_word(src: &[u8], text: &[u8], own: bool, i: usize, to: usize) -> usize
+    requires { ⌜ (i ≤ to) × (to ≤ length (store own (now text) (now src))) ⌝ }
+    ensures { λ r. ⌜ WordAt (store own (now (text .entry)) (now (src .entry))) i to r ⌝ }
+{
+    i + skip_in(src, text, own, i, to, Class::White)
+}
+
+// Where the word at i ends.
+fn word_end(src: &[u8], text: &[u8], own: bool, i: usize, to: usize) -> usize
+    requires { ⌜ (i < to) × (to ≤ length (store own (now text) (now src))) × (white (getD (store own (now text) (now src)) i 0) ≡ false) ⌝ }
+    ensures { λ r. ⌜ WordEnd (store own (now (text .entry)) (now (src .entry))) i to r ⌝ }
+{
+    i + skip_in(src, text, own, i, to, Class::Black)
+}
+
+// Appends a blank and a word.
+fn push_word(
+    src: &[u8],
+    text: &mut [u8],
+    own: bool,
+    from: usize,
+    to: usize,
+    room: usize,
+    len: usize,
+    escape: bool,
+) -> Wrote
+    requires { ⌜ Apart own (now text) (now src) room from to × (len ≤ room) ⌝ }
+    ensures { λ r. ⌜ WritesIn room (now (text .entry)) (now (text .exit)) r (push (ascii " " ++ def.escapedChunk (slice from to (store own (now (text .entry)) (now (src .entry)))) escape false) (take len (now (text .entry)))) ⌝ }
+{
+    match put(text, room, len, 32) {
+        Wrote::Done(n) => push_escaped_chunk(src, text, own, from, to, room, n, escape, false),
+        Wrote::Full => Wrote::Full,
+    }
+}
+
+// Appends the words from `from` on, each behind a blank.
+fn push_words(
+    src: &[u8],
+    text: &mut [u8],
+    own: bool,
+    from: usize,
+    to: usize,
+    room: usize,
+    len: usize,
+    escape: bool,
+) -> Wrote
+    requires { ⌜ Apart own (now text) (now src) room from to × (len ≤ room) ⌝ }
+    ensures { λ r. ⌜ WritesIn room (now (text .entry)) (now (text .exit)) r (push (def.moreWords escape (words (slice from to (store own (now (text .entry)) (now (src .entry)))))) (take len (now (text .entry)))) ⌝ }
+{
+    let mut n = len;
+    let mut at = next_word(src, text, own, from, to);
+    while at < to {
+        let end = word_end(src, text, own, at, to);
+        match push_word(src, text, own, at, end, room, n, escape) {
+            Wrote::Done(m) => {
+                n = m;
+            }
+            Wrote::Full => {
+                return Wrote::Full;
+            }
+        }
+        at = next_word(src, text, own, end, to);
+    }
+    Wrote::Done(n)
+}
+
+// Appends `lead`, unless it is 0.
+fn push_lead(text: &mut [u8], room: usize, len: usize, lead: u8) -> Wrote
+    requires { ⌜ (len ≤ room) × (room ≤ length (now text)) ⌝ }
+    ensures { λ r. ⌜ WritesIn room (now (text .entry)) (now (text .exit)) r (push (leadOf lead) (take len (now (text .entry)))) ⌝ }
+{
+    if lead == 0 {
+        Wrote::Done(len)
+    } else {
+        put(text, room, len, lead)
+    }
+}
+
+// Appends the words from `from` on, each behind a blank, and `last`.
+fn push_rest(
+    src: &[u8],
+    text: &mut [u8],
+    own: bool,
+    from: usize,
+    to: usize,
+    room: usize,
+    len: usize,
+    escape: bool,
+    last: u8,
+) -> Wrote
+    requires { ⌜ Apart own (now text) (now src) room from to × (len ≤ room) ⌝ }
+    ensures { λ r. ⌜ WritesIn room (now (text .entry)) (now (text .exit)) r (push (def.moreWords escape (words (slice from to (store own (now (text .entry)) (now (src .entry))))) ++ leadOf last) (take len (now (text .entry)))) ⌝ }
+{
+    match push_words(src, text, own, from, to, room, len, escape) {
+        Wrote::Done(n) => push_lead(text, room, n, last),
+        Wrote::Full => Wrote::Full,
+    }
+}
+
+// Appends the word between `from` and `end`, the words behind it, and `last`.
+fn push_text(
+    src: &[u8],
+    text: &mut [u8],
+    own: bool,
+    from: usize,
+    end: usize,
+    to: usize,
+    room: usize,
+    len: usize,
+    escape: bool,
+    line_start: bool,
+    last: u8,
+) -> Wrote
+    requires { ⌜ Apart own (now text) (now src) room from to × (len ≤ room) × (from ≤ end) × (end ≤ to) ⌝ }
+    ensures { λ r. ⌜ WritesIn room (now (text .entry)) (now (text .exit)) r (push (firstAndMore (store own (now (text .entry)) (now (src .entry))) from end to escape «line_start» last) (take len (now (text .entry)))) ⌝ }
+{
+    match push_escaped_chunk(src, text, own, from, end, room, len, escape, line_start) {
+        Wrote::Done(n) => push_rest(src, text, own, end, to, room, n, escape, last),
+        Wrote::Full => Wrote::Full,
+    }
+}
+
+fn is_dot(word: &[u8]) -> bool
+    ensures { λ r. ⌜ r ≡ same (now (word .entry)) (ascii ".") || same (now (word .entry)) (ascii ")") ⌝ }
+{
+    same_bytes(word, b".") | same_bytes(word, b")")
+}
+
+fn is_dot_in(src: &[u8], text: &[u8], own: bool, from: usize, to: usize) -> bool
+    requires { ⌜ (from ≤ to) × (to ≤ length (store own (now text) (now src))) ⌝ }
+    ensures { λ r. ⌜ r ≡ dotWord (slice from to (store own (now (text .entry)) (now (src .entry)))) ⌝ }
+{
+    if own {
+        is_dot(&text[from..to])
+    } else {
+        is_dot(&src[from..to])
+    }
+}
+
+// What stands before the first word, behind the text: a blank, a backslash before a `.` that would make a marker, or nothing.
+fn lead_of(text: &[u8], opts: FormatOpts, white: bool, dot: bool) -> u8
+    ensures { λ r. ⌜ leadOf r ≡ leadText opts (now (text .entry)) white dot ⌝ }
+{
+    let follows = ends_with_either(text, 10, 32) | (text.len() == 0);
+    if (opts.inline | !follows) & white {
+        return 32;
+    }
+    if !(!opts.skip_escape & dot) {
+        return 0;
+    }
+    if ends_with_marker_digits(text) { 92 } else { 0 }
+}
+
+// Appends a blank for a text of white bytes; `some` says that it has one.
+fn push_blank(text: &mut [u8], room: usize, len: usize, some: bool) -> Wrote
+    requires { ⌜ (len ≤ room) × (room ≤ length (now text)) ⌝ }
+    ensures { λ r. ⌜ WritesIn room (now (text .entry)) (now (text .exit)) r (push (blankText (take len (now (text .entry))) some) (take len (now (text .entry)))) ⌝ }
+{
+    if !ends_with_either(&text[..len], 10, 32) & some {
+        put(text, room, len, 32)
+    } else {
+        Wrote::Done(len)
+    }
+}
+
+fn blank_if(some: bool) -> u8
+    ensures { λ r. ⌜ leadOf r ≡ cond some (ascii " ") [] ⌝ }
+{
+    if some { 32 } else { 0 }
+}
+
+fn is_line_start(text: &[u8], opts: FormatOpts) -> bool
+    ensures { λ r. ⌜ r ≡ lineStart opts (now (text .entry)) ⌝ }
+{
+    ((text.len() == 0) | ends_with_byte(text, 10)) | opts.list_item
+}
+
+// push_normalized_text, for the text between `from` and `to`.
+pub fn push_normalized(
+    src: &[u8],
+    text: &mut [u8],
+    own: bool,
+    from: usize,
+    to: usize,
+    room: usize,
+    len: usize,
+    opts: FormatOpts,
+) -> Wrote
+    requires { ⌜ Apart own (now text) (now src) room from to × (len ≤ room) ⌝ }
+    ensures { λ r. ⌜ WritesIn room (now (text .entry)) (now (text .exit)) r (def.«push_normalized_text» (slice from to (store own (now (text .entry)) (now (src .entry)))) opts (take len (now (text .entry)))) ⌝ }
+{
+    let at = next_word(src, text, own, from, to);
+    if at == to {
+        return push_blank(text, room, len, from != to);
+    }
+    let end = word_end(src, text, own, at, to);
+    let dot = is_dot_in(src, text, own, at, end);
+    let last = blank_if(ends_white_in(src, text, own, from, to));
+    let lead = lead_of(&text[..len], opts, at != from, dot);
+    let line_start = is_line_start(&text[..len], opts);
+    match push_lead(text, room, len, lead) {
+        Wrote::Done(n) => push_text(
+            src,
+            text,
+            own,
+            at,
+            end,
+            to,
+            room,
+            n,
+            !opts.skip_escape,
+            line_start,
+            last,
+        ),
+        Wrote::Full => Wrote::Full,
+    }
+}

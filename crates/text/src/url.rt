@@ -1,0 +1,146 @@
+// push_md_url of text_utils.rs with html_escape. The escaped destination is never a text of its own: each byte is replaced
+// as it is appended.
+ghost use mathlib.Core.Path.{_≡_};
+ghost use mathlib.Core.Bool.{cond};
+ghost use Prim.Native.Nat.{ℕ, _+_, _-_, _≤_, _<_, _^_};
+ghost use lib.ListN.{length, take};
+ghost use lib.Dec.{eqb};
+ghost use mathlib.Core.List.{_++_};
+ghost use Rattle.spec.specs.Bytes.{ascii};
+ghost use Rattle.spec.specs.Out.{push};
+ghost use Rattle.spec.specs.Md.TextUtils as def;
+ghost use Rattle.text.specs.Url.{urlByte, pieceOf};
+ghost use Rattle.text.specs.Writes.{Writes};
+use crate::buffer::Wrote;
+use crate::buffer::push_all;
+use crate::buffer::push_byte;
+use crate::buffer::starts_with_byte;
+
+fn wants_wrap(b: u8) -> bool
+    ensures { λ r. ⌜ r ≡ def.wantsWrap b ⌝ }
+{
+    ((b == 32) | (b == 60)) | ((b <= 31) | (b == 127))
+}
+
+// The parentheses open behind b.
+fn next_balance(balance: usize, b: u8) -> usize
+    requires { ⌜ balance + 1 < 2 ^ 64 ⌝ }
+    ensures { λ r. ⌜ r ≡ cond (eqb b 40) (balance + 1) (cond (eqb b 41) (balance - 1) balance) ⌝ }
+{
+    if b == 40 {
+        return balance + 1;
+    }
+    if b != 41 {
+        return balance;
+    }
+    if balance == 0 { 0 } else { balance - 1 }
+}
+
+// Whether a destination stands between `<` and `>`. The replacements of html_escape change nothing in that.
+fn needs_wrap(dest: &[u8]) -> bool
+    ensures { λ r. ⌜ r ≡ def.needsWrap 0 (now (dest .entry)) ⌝ }
+{
+    let mut balance: usize = 0;
+    let mut i = 0;
+    while i < dest.len() {
+        if wants_wrap(dest[i]) | ((dest[i] == 41) & (balance == 0)) {
+            return true;
+        }
+        balance = next_balance(balance, dest[i]);
+        i += 1;
+    }
+    balance != 0
+}
+
+fn push_url_byte(text: &mut [u8], len: usize, b: u8, wrap: bool) -> Wrote
+    requires { ⌜ len ≤ length (now text) ⌝ }
+    ensures { λ r. ⌜ Writes (length (now (text .entry))) (now (text .exit)) r (push (urlByte wrap b) (take len (now (text .entry)))) ⌝ }
+{
+    if b == 92 {
+        return push_all(text, len, b"\\\\");
+    }
+    if !wrap {
+        return push_byte(text, len, b);
+    }
+    if b == 60 {
+        return push_all(text, len, b"\\<");
+    }
+    if b == 62 {
+        return push_all(text, len, b"\\>");
+    }
+    if b == 10 {
+        return push_all(text, len, b"%0A");
+    }
+    if b == 13 {
+        return push_all(text, len, b"%0D");
+    }
+    push_byte(text, len, b)
+}
+
+// Appends what stands for b: `second` says that it ends U+00A0, `nbsp` that it begins it.
+fn push_piece(text: &mut [u8], len: usize, b: u8, wrap: bool, second: bool, nbsp: bool) -> Wrote
+    requires { ⌜ len ≤ length (now text) ⌝ }
+    ensures { λ r. ⌜ Writes (length (now (text .entry))) (now (text .exit)) r (push (pieceOf wrap second nbsp b) (take len (now (text .entry)))) ⌝ }
+{
+    if second {
+        return Wrote::Done(len);
+    }
+    if b == 38 {
+        return push_all(text, len, b"&amp;");
+    }
+    if b == 34 {
+        return push_all(text, len, b"&quot;");
+    }
+    if nbsp {
+        return push_all(text, len, b"&nbsp;");
+    }
+    push_url_byte(text, len, b, wrap)
+}
+
+fn push_dest(text: &mut [u8], len: usize, dest: &[u8], wrap: bool) -> Wrote
+    requires { ⌜ len ≤ length (now text) ⌝ }
+    ensures { λ r. ⌜ Writes (length (now (text .entry))) (now (text .exit)) r (push (def.eachByte (urlByte wrap) (def.«html_escape» (now (dest .entry)))) (take len (now (text .entry)))) ⌝ }
+{
+    let mut n = len;
+    let mut second = false;
+    let mut i = 0;
+    while i < dest.len() {
+        let j = i + 1;
+        let nbsp = (dest[i] == 194) & starts_with_byte(&dest[j..], 160);
+        match push_piece(text, n, dest[i], wrap, second, nbsp) {
+            Wrote::Done(m) => {
+                n = m;
+            }
+            Wrote::Full => {
+                return Wrote::Full;
+            }
+        }
+        second = !second & nbsp;
+        i += 1;
+    }
+    Wrote::Done(n)
+}
+
+fn push_wrapped(text: &mut [u8], len: usize, dest: &[u8]) -> Wrote
+    requires { ⌜ len ≤ length (now text) ⌝ }
+    ensures { λ r. ⌜ Writes (length (now (text .entry))) (now (text .exit)) r (push (ascii "<" ++ (def.eachByte def.wrappedByte (def.«html_escape» (now (dest .entry))) ++ ascii ">")) (take len (now (text .entry)))) ⌝ }
+{
+    match push_byte(text, len, 60) {
+        Wrote::Done(n) => match push_dest(text, n, dest, true) {
+            Wrote::Done(m) => push_byte(text, m, 62),
+            Wrote::Full => Wrote::Full,
+        },
+        Wrote::Full => Wrote::Full,
+    }
+}
+
+pub fn push_md_url(text: &mut [u8], len: usize, dest: &[u8]) -> Wrote
+    requires { ⌜ len ≤ length (now text) ⌝ }
+    ensures { λ r. ⌜ Writes (length (now (text .entry))) (now (text .exit)) r (def.«push_md_url» (now (dest .entry)) (take len (now (text .entry)))) ⌝ }
+{
+    if needs_wrap(dest) {
+        push_wrapped(text, len, dest)
+    } else {
+        push_dest(text, len, dest, false)
+    }
+}
