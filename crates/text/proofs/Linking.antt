@@ -5,11 +5,11 @@ use mathlib.Core.Bool.{Bool, true, false, cond, not, _&&_, _||_, false≢true}
 use mathlib.Core.List.{List, [], _∷_, _++_, append-assoc}
 use native.Mathlib.Omega.{arith}
 use native.Mathlib.Numerals.{add-one}
-use lib.ListN.{length, take, drop, getD}
+use lib.ListN.{length, drop, getD}
 use lib.Seq.{drop-cons}
-use lib.Dec.{eqb, leb}
-use borrow.Author.Tests.{eq-eqb, ne-eqb, eqb-true}
-use Rattle.spec.specs.Bytes.{Bytes, ascii, isin, startsWith, same}
+use lib.Dec.{eqb}
+use borrow.Author.Tests.{ne-eqb, eqb-true}
+use Rattle.spec.specs.Bytes.{ascii, isin, startsWith, same}
 use Rattle.spec.specs.Out.{andThen, push}
 use Rattle.spec.specs.Md.TextUtils.{wantsWrap, needsWrap, wrappedByte, backslashTwice, eachByte, htmlFrom, entity, isNbsp, «html_escape», destination, «push_md_url»}
 use Rattle.text.specs.Url.{urlByte, pieceOf}

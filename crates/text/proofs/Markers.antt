@@ -1,14 +1,13 @@
 -- Markers of list items at the end of a text. Assumes nothing.
-use Prim.Native.Nat.{ℕ, zero, suc, _+_, _-_, _≤_, _<_}
-use mathlib.Core.Path.{_≡_, refl, sym, ap, subst, _∙_}
+use Prim.Native.Nat.{ℕ, _-_, _≤_, _<_}
+use mathlib.Core.Path.{_≡_, refl, sym, ap, _∙_}
 use mathlib.Core.Bool.{Bool, true, false, cond, not, _&&_, _||_}
-use mathlib.Core.List.{List, [], _∷_, _++_}
+use mathlib.Core.List.{List, [], _∷_}
 use native.Mathlib.Omega.{arith}
 use lib.ListN.{length, take, drop}
 use lib.Seq.{length-take-le, take-take, take-length}
-use lib.Dec.{leb}
 use borrow.Author.Tests.{le-leb, lt-leb}
-use Rattle.spec.specs.Bytes.{ascii, same, isin, startsWith, endsWith, every, null, digit, one, «trim_end_matches», blank}
+use Rattle.spec.specs.Bytes.{ascii, same, isin, endsWith, every, null, digit, one, «trim_end_matches», blank}
 use Rattle.spec.specs.Md.TextUtils.{«is_ordered_list_marker», beforeMarker, atIndent, «ends_with_marker_digits»}
 use Rattle.text.specs.Trimmed.{Trimmed}
 use Rattle.text.proofs.Reading.{null-none, null-some, drop-take}

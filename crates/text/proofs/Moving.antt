@@ -6,7 +6,7 @@ use native.Mathlib.Numerals.{add-one}
 use mathlib.Core.Logic.{⊎-elim}
 use native.Mathlib.Omega.{arith}
 use native.Mathlib.Nat.{eq-or-lt-of-le}
-use lib.ListN.{length, take, drop, set, getD, length-set, length-take, length-drop, length-append}
+use lib.ListN.{length, take, drop, set, getD, length-set, length-drop, length-append}
 use lib.Seq.{getD-set-same, getD-set-other, getD-take, getD-drop, ext-getD, length-take-le, take-take, set-split, take-append-add}
 use Rattle.spec.specs.Out.{replace}
 use Rattle.text.specs.Writes.{Written, Refused}

@@ -1,6 +1,6 @@
 -- The parts of a normalized text. Assumes nothing.
-use Prim.Native.Nat.{ℕ, _≤_, _<_}
-use mathlib.Core.Path.{_≡_, refl, sym, ap, subst, _∙_}
+use Prim.Native.Nat.{ℕ, _≤_}
+use mathlib.Core.Path.{_≡_, refl, sym, ap, _∙_}
 use mathlib.Core.Bool.{Bool, true, false, cond, not, _&&_, _||_}
 use mathlib.Core.List.{List, [], _∷_, _++_}
 use native.Mathlib.Omega.{arith}
@@ -8,12 +8,12 @@ use lib.ListN.{length}
 use lib.Dec.{eqb}
 use lib.Seq.{slice, length-slice}
 use borrow.Author.Tests.{eq-eqb, ne-eqb, eqb-true, eqb-false}
-use Rattle.spec.specs.Bytes.{Bytes, ascii, null, same, endsWith, isBlank, words, split, parts, filled}
+use Rattle.spec.specs.Bytes.{ascii, null, endsWith, isBlank, words, split, parts, filled}
 use Rattle.spec.specs.Out.{push}
 use Rattle.spec.specs.Md.TextUtils.{«ends_with_marker_digits», «push_normalized_text», normalized, normalizedWords, startsWithWhite, endsWithWhite, escapedChunk, moreWords}
 use Rattle.spec.specs.declared.ctx.FormatOpts.{FormatOpts}
 use Rattle.text.specs.Marks.{leadOf, dotWord, leadText, blankText, lineStart}
-use Rattle.text.specs.Words.{WordAt, WordEnd}
+use Rattle.text.specs.Words.{WordAt}
 use Rattle.text.proofs.Sourcing.{part-none}
 use Rattle.text.proofs.Wording.{null-is}
 

@@ -1,11 +1,11 @@
 -- A loop that appends: d is the memory, and its first `len` bytes are the text. Assumes nothing.
 use Prim.Native.Nat.{ℕ, _+_, _-_, _≤_, _<_}
-use mathlib.Core.Path.{_≡_, refl, sym, ap, subst, _∙_}
+use mathlib.Core.Path.{_≡_, sym, ap, _∙_}
 use mathlib.Core.List.{List, [], _∷_, _++_}
 use native.Mathlib.Omega.{arith}
 use native.Mathlib.Numerals.{add-one}
-use lib.ListN.{length, take, drop, set, getD, length-append, length-set, replicate, length-replicate}
-use lib.Seq.{length-take-le, take-suc-set, take-all, take-paste, paste, paste-suc, length-paste}
+use lib.ListN.{length, take, set, length-append, length-set}
+use lib.Seq.{length-take-le, take-suc-set, take-all, take-paste, paste, length-paste}
 use Rattle.spec.specs.Out.{push}
 use Rattle.text.specs.Writes.{Written, Refused}
 

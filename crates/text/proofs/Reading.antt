@@ -1,8 +1,8 @@
 -- Tests on texts, byte by byte. Assumes nothing.
 use Prim.Native.Nat.{ℕ, zero, suc, _+_, _-_, _≤_, _<_}
-use mathlib.Core.Path.{_≡_, refl, sym, ap, subst, _∙_}
+use mathlib.Core.Path.{_≡_, refl, sym, ap, _∙_}
 use mathlib.Core.Bool.{Bool, true, false, not, _&&_, _||_, false≢true}
-use mathlib.Core.List.{List, [], _∷_, _++_}
+use mathlib.Core.List.{List, [], _∷_}
 use native.Mathlib.Omega.{arith}
 use native.Mathlib.Numerals.{add-one}
 use lib.ListN.{length, take, drop, getD, length-take, length-drop}
@@ -28,26 +28,6 @@ not-long (x ∷ a) (y ∷ b) h = rw (not-long a b (λ e. h (ap suc e))) (both-fa
     both-false : (t : Bool) → t && false ≡ false
     both-false true = refl
     both-false false = refl
-
--- one byte more
-pub same-on : (a b : List ℕ) (i : ℕ) → i < length a → i < length b → getD a i 0 ≡ getD b i 0 → same (drop i a) (drop i b) ≡ same (drop (i + 1) a) (drop (i + 1) b)
-unfolding same
-same-on a b i h k e =
-    rw (drop-cons a i 0 h, drop-cons b i 0 k, add-one i, eq-eqb (getD a i 0) (getD b i 0) e)
-
-pub same-off : (a b : List ℕ) (i : ℕ) → i < length a → i < length b → (getD a i 0 ≡ getD b i 0 → ⊥) → same (drop i a) (drop i b) ≡ false
-unfolding same
-same-off a b i h k e = rw (drop-cons a i 0 h, drop-cons b i 0 k, ne-eqb (getD a i 0) (getD b i 0) e)
-
-pub same-all : (a b : List ℕ) (i : ℕ) → length a ≤ i → length a ≡ length b → same (drop i a) (drop i b) ≡ true
-unfolding same
-same-all a b i h e = rw (none a i h, none b i (omega arith))
-  where
-    none : (l : List ℕ) (j : ℕ) → length l ≤ j → drop j l ≡ []
-    none [] zero k = refl
-    none [] (suc j) k = refl
-    none (x ∷ l) zero k = absurd (omega arith)
-    none (x ∷ l) (suc j) k = none l j (omega arith)
 
 pub ends-short : (s x : List ℕ) → length s < length x → endsWith x s ≡ false
 unfolding endsWith

@@ -1,5 +1,5 @@
 -- Texts that are appended from a source: what is read stays as it is, and what is written stays before the room. Assumes nothing.
-use Prim.Native.Nat.{ℕ, zero, suc, _+_, _-_, _≤_, _<_}
+use Prim.Native.Nat.{ℕ, suc, _+_, _-_, _≤_, _<_}
 use mathlib.Core.Path.{_≡_, refl, sym, ap, subst, subst₂, _∙_}
 use mathlib.Core.Bool.{Bool, true, false, cond, _&&_, false≢true}
 use mathlib.Core.List.{List, [], _∷_, _++_, append-assoc}
@@ -13,11 +13,11 @@ use Rattle.spec.specs.Out.{Out, Step, andThen, keep, push}
 use Rattle.spec.specs.Md.TextUtils.{isEscaped, escapedFrom, escapedChunk, «push_escaped_chunk», «is_ordered_list_marker»}
 use Rattle.text.specs.Marks.{marks}
 use Rattle.text.specs.Source.{store, Apart, WritesIn}
-use Rattle.text.specs.Writes.{Written, Refused, Writes}
+use Rattle.text.specs.Writes.{Writes}
 use Rattle.text.specs.declared.buffer.Wrote.{Wrote}
 use Rattle.text.specs.declared.buffer.Wrote.the-variants.{Done, Full}
 use Rattle.text.proofs.Reading.{drop-take, starts-byte, starts-short}
-use Rattle.text.proofs.Writing.{alike, done, full, Owes, owes-all, owes-last, owes-on, owes-over, owes-none, owes-nothing, push-both, reaches}
+use Rattle.text.proofs.Writing.{alike, done, full, Owes, owes-all, owes-last, owes-on, owes-over, owes-none, owes-nothing, push-both}
 
 -- ---- the same part
 

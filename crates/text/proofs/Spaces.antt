@@ -1,14 +1,14 @@
 -- Blanks and line breaks at the end of a text. Assumes nothing.
 use Prim.Native.Nat.{ℕ, zero, suc, _+_, _-_, _≤_, _<_}
-use mathlib.Core.Path.{_≡_, refl, sym, ap, subst, _∙_}
-use mathlib.Core.Bool.{Bool, true, false, cond, _||_}
+use mathlib.Core.Path.{_≡_, refl, sym, ap, _∙_}
+use mathlib.Core.Bool.{Bool, true, false, _||_}
 use mathlib.Core.List.{List, [], _∷_, _++_, append-assoc}
 use native.Mathlib.Omega.{arith}
-use native.Mathlib.Numerals.{add-one, sub-one}
+use native.Mathlib.Numerals.{add-one}
 use lib.ListN.{length, take, drop, set, length-append, length-set}
 use lib.Seq.{length-take-le, take-take, take-suc-set}
-use Rattle.spec.specs.Bytes.{endsWith, null, one, white, «trim_end_matches», «trim_start_matches», «trim_ascii_end», «trim_ascii_start»}
-use Rattle.spec.specs.Out.{Out, Step, cut, keep, push, replace, andThen}
+use Rattle.spec.specs.Bytes.{endsWith, one, white, «trim_end_matches», «trim_start_matches», «trim_ascii_end», «trim_ascii_start»}
+use Rattle.spec.specs.Out.{cut, keep, push, replace, andThen}
 use Rattle.spec.specs.Md.TextUtils.{«escape_trailing_bang», endsWithWhite, «push_block_space», «trim_space», breaksUntil}
 use Rattle.text.specs.Trimmed.{Trimmed, Skipped}
 use Rattle.text.specs.Writes.{Written, Refused}

@@ -1,12 +1,12 @@
 -- Trims, byte by byte from the end or from the front. Assumes nothing.
 use Prim.Native.Nat.{ℕ, zero, suc, _+_, _-_, _≤_, _<_}
-use mathlib.Core.Path.{_≡_, refl, sym, ap, subst, _∙_}
-use mathlib.Core.Bool.{Bool, true, false, cond}
+use mathlib.Core.Path.{_≡_, refl, sym, ap, _∙_}
+use mathlib.Core.Bool.{Bool, true, false}
 use mathlib.Core.List.{List, [], _∷_, _++_}
 use native.Mathlib.Omega.{arith}
 use native.Mathlib.Numerals.{add-one}
 use lib.ListN.{length, take, drop, getD}
-use lib.Seq.{drop-cons, take-suc, take-length}
+use lib.Seq.{drop-cons, take-suc}
 use Rattle.spec.specs.Bytes.{one, unless, «trim_end_matches», «trim_start_matches»}
 
 -- a byte of the class at the end goes

@@ -1,14 +1,14 @@
 -- Words: where they begin and end. Assumes nothing.
 use Prim.Native.Nat.{ℕ, zero, suc, _+_, _-_, _≤_, _<_}
-use mathlib.Core.Path.{_≡_, refl, sym, ap, subst, _∙_}
+use mathlib.Core.Path.{_≡_, refl, sym, ap, _∙_}
 use mathlib.Core.Bool.{Bool, true, false, cond, not, _&&_}
 use mathlib.Core.List.{List, [], _∷_, _++_}
 use native.Mathlib.Omega.{arith}
-use lib.ListN.{length, take, drop, getD, length-drop, length-take}
-use lib.Seq.{slice, length-slice, drop-drop, getD-drop, getD-take, length-take-le, drop-length, take-take, take-nil, drop-nil}
+use lib.ListN.{length, take, drop, getD, length-drop}
+use lib.Seq.{slice, length-slice, drop-drop, getD-drop, getD-take, length-take-le, take-take, take-nil, drop-nil}
 use lib.Dec.{eqb}
 use borrow.Author.Tests.{eq-eqb, ne-eqb, eqb-true, eqb-false}
-use Rattle.spec.specs.Bytes.{Bytes, white, null, every, isBlank, words, split, parts, cutAt, filled, «trim_start_matches»}
+use Rattle.spec.specs.Bytes.{white, null, every, isBlank, words, split, parts, cutAt, filled, «trim_start_matches»}
 use Rattle.spec.specs.Bytes.{ascii, firstWord}
 use Rattle.spec.specs.Out.{andThen, push}
 use Rattle.spec.specs.Md.TextUtils.{startsWithWhite, moreWords, escapedChunk}

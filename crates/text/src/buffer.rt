@@ -12,6 +12,7 @@ ghost use Rattle.text.specs.Class.{inClass};
 ghost use Rattle.text.specs.Trimmed.{Trimmed, Skipped, WhiteEnd};
 ghost use Rattle.text.specs.Lifted.{Lifted};
 ghost use Rattle.text.specs.Writes.{Writes};
+use tree::fields::is_same;
 
 // Whether a text had room, and how long it is then.
 pub enum Wrote {
@@ -98,23 +99,6 @@ fn is_in_word(b: u8) -> bool
     b != 10
 }
 
-// Whether the two have the same bytes.
-pub fn same_bytes(a: &[u8], b: &[u8]) -> bool
-    ensures { λ r. ⌜ r ≡ same (now (a .entry)) (now (b .entry)) ⌝ }
-{
-    if a.len() != b.len() {
-        return false;
-    }
-    let mut i = 0;
-    while i < a.len() {
-        if a[i] != b[i] {
-            return false;
-        }
-        i += 1;
-    }
-    true
-}
-
 pub fn ends_with(s: &[u8], x: &[u8]) -> bool
     ensures { λ r. ⌜ r ≡ endsWith (now (x .entry)) (now (s .entry)) ⌝ }
 {
@@ -122,7 +106,7 @@ pub fn ends_with(s: &[u8], x: &[u8]) -> bool
         return false;
     }
     let from = s.len() - x.len();
-    same_bytes(&s[from..], x)
+    is_same(&s[from..], x)
 }
 
 pub fn starts_with(s: &[u8], x: &[u8]) -> bool
@@ -132,7 +116,7 @@ pub fn starts_with(s: &[u8], x: &[u8]) -> bool
         return false;
     }
     let to = x.len();
-    same_bytes(&s[..to], x)
+    is_same(&s[..to], x)
 }
 
 pub fn ends_with_byte(s: &[u8], b: u8) -> bool

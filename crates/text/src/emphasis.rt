@@ -9,8 +9,8 @@ use crate::buffer::Wrote;
 use crate::buffer::ends_with;
 use crate::buffer::ends_with_byte;
 use crate::buffer::push_byte;
-use crate::buffer::same_bytes;
 use crate::buffer::trim_end_matches;
+use tree::fields::is_same;
 
 // How many backslashes s ends with.
 pub fn backslashes(s: &[u8]) -> usize
@@ -26,7 +26,7 @@ pub fn is_exact_marker_end(tail: &[u8], marker: &[u8]) -> bool
         return false;
     }
     let n = tail.len() - marker.len();
-    let longer = same_bytes(marker, b"*") & ends_with_byte(&tail[..n], 42);
+    let longer = is_same(marker, b"*") & ends_with_byte(&tail[..n], 42);
     let count = backslashes(&tail[..n]);
     !longer & (count % 2 == 0)
 }
@@ -39,7 +39,7 @@ pub fn ends_with_emphasis(marker: &[u8], acc: &[u8]) -> bool
         return false;
     }
     let n = trim_end_matches(acc, Class::White);
-    if !((n == acc.len()) | same_bytes(&acc[n..], b" ")) {
+    if !((n == acc.len()) | is_same(&acc[n..], b" ")) {
         return false;
     }
     is_exact_marker_end(&acc[..n], marker)

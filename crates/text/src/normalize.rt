@@ -22,11 +22,11 @@ use crate::buffer::ends_with_byte;
 use crate::buffer::ends_with_either;
 use crate::buffer::ends_with_white;
 use crate::buffer::push_byte;
-use crate::buffer::same_bytes;
 use crate::buffer::trim_start_matches;
 use crate::text_utils::ends_with_marker_digits;
 use crate::text_utils::is_ordered_list_marker;
 use spec::ctx::FormatOpts;
+use tree::fields::is_same;
 
 // The byte at i of what is read.
 fn byte_at(src: &[u8], text: &[u8], own: bool, i: usize) -> u8
@@ -338,7 +338,7 @@ fn push_text(
 fn is_dot(word: &[u8]) -> bool
     ensures { λ r. ⌜ r ≡ same (now (word .entry)) (ascii ".") || same (now (word .entry)) (ascii ")") ⌝ }
 {
-    same_bytes(word, b".") | same_bytes(word, b")")
+    is_same(word, b".") | is_same(word, b")")
 }
 
 fn is_dot_in(src: &[u8], text: &[u8], own: bool, from: usize, to: usize) -> bool

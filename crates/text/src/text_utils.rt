@@ -20,11 +20,11 @@ use crate::buffer::ends_with_either;
 use crate::buffer::ends_with_white;
 use crate::buffer::push_all;
 use crate::buffer::push_byte;
-use crate::buffer::same_bytes;
 use crate::buffer::trim_end_matches;
 use crate::buffer::trim_start_matches;
 use crate::normalize::push_normalized;
 use spec::ctx::FormatOpts;
+use tree::fields::is_same;
 
 // An ordered-list marker like `3.` or `12)`.
 pub fn is_ordered_list_marker(chunk: &[u8]) -> bool
@@ -44,10 +44,10 @@ pub fn is_ordered_list_marker(chunk: &[u8]) -> bool
 fn is_marker(word: &[u8]) -> bool
     ensures { λ r. ⌜ r ≡ same (now (word .entry)) (ascii "-") || (same (now (word .entry)) (ascii "+") || def.«is_ordered_list_marker» (now (word .entry))) ⌝ }
 {
-    if same_bytes(word, b"-") {
+    if is_same(word, b"-") {
         return true;
     }
-    if same_bytes(word, b"+") {
+    if is_same(word, b"+") {
         return true;
     }
     is_ordered_list_marker(word)

@@ -27,13 +27,6 @@ quad-same a b j g =
     let q : wordAt b (j + 2) ≡ wordAt a (j + 2) = word-same a b (j + 2) (λ i l h. g i (omega arith) (omega arith)) in
     cc
 
-pub long-same : (a b : Bytes) (j : ℕ) → Agree a b j 8 → longAt b j ≡ longAt a j
-unfolding longAt
-long-same a b j g =
-    let p : quadAt b j ≡ quadAt a j = quad-same a b j (λ i l h. g i l (omega arith)) in
-    let q : quadAt b (j + 4) ≡ quadAt a (j + 4) = quad-same a b (j + 4) (λ i l h. g i (omega arith) (omega arith)) in
-    cc
-
 pub stored-word : (a : Bytes) (j v : ℕ) → j + 1 < length a → Stored wordAt 2 j v a (set (set a j (v / 256)) (j + 1) (v % 256))
 unfolding wordAt word
 stored-word a j v h =

@@ -5,7 +5,7 @@ use mathlib.Core.Path.{_≡_, _∙_}
 use borrow.Author.Tests.{eq-eqb, ne-eqb}
 use Rattle.spec.specs.Bytes.{Bytes}
 use Rattle.tree.specs.Memory.{wordAt, quadAt, Stored}
-use Rattle.tree.specs.Kinds.{opens, closes, texts, comments, aside, kindOf, Placed}
+use Rattle.tree.specs.Kinds.{opens, closes, texts, comments, kindOf, Placed}
 use Rattle.tree.proofs.Numbers.{word-same, quad-same}
 
 pub placed : (i place end parent : ℕ) {a b c d : Bytes} → Stored quadAt 4 (i * 24) place a b → Stored wordAt 2 (i * 24 + 4) end b c
@@ -35,6 +35,3 @@ module _ (tag : ℕ) where
       module _ (n4 : tag ≡ 4 → ⊥) where
         pub is-comment : tag ≡ 5 → kindOf tag ≡ comments
         is-comment e = rw (ne-eqb tag 1 n1, ne-eqb tag 6 n6, ne-eqb tag 4 n4, eq-eqb tag 5 e)
-
-        pub is-aside : (tag ≡ 5 → ⊥) → kindOf tag ≡ aside
-        is-aside n5 = rw (ne-eqb tag 1 n1, ne-eqb tag 6 n6, ne-eqb tag 4 n4, ne-eqb tag 5 n5)

@@ -1,5 +1,5 @@
 -- `spec::ctx::digits` meets its contract. Assumes nothing.
-use Prim.Native.Nat.{ℕ, _≤_, _+_, _/_}
+use Prim.Native.Nat.{_+_}
 use mathlib.Core.Path.{_≡_}
 use lib.ListN.{length}
 use Rattle.spec.specs.Bytes.{decimal}

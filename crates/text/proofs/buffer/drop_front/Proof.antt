@@ -1,7 +1,6 @@
 -- `text::buffer::drop_front` meets its contract. Assumes nothing.
-use Prim.Native.Nat.{ℕ, _≤_, _-_, _+_, zero-le}
+use Prim.Native.Nat.{_≤_, _-_, zero-le}
 use Rattle.text.proofs.Moving.{Dropping, dropping-none, dropping-on, dropping-all}
-use borrow.Author.Needs.{needs}
 use native.Mathlib.Omega.{arith}
 use Rattle.text.proofs.buffer.drop_front.Statement.{statement}
 use Rattle.text.proofs.buffer.drop_front.Tie as tie

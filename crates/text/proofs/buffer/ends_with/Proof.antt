@@ -1,13 +1,11 @@
 -- `text::buffer::ends_with` meets its contract. Assumes nothing.
 use Prim.Native.Nat.{ℕ, _-_}
-use mathlib.Core.Path.{_≡_, sym, _∙_, ap}
+use mathlib.Core.Path.{sym, _∙_, ap}
 use mathlib.Core.List.{List}
-use lib.ListN.{length, drop, take, length-drop}
-use lib.Seq.{take-all}
+use lib.ListN.{length}
 use Rattle.spec.specs.Bytes.{same, endsWith}
 use Rattle.text.proofs.Reading.{ends-short, rest-part}
 use borrow.Author.Needs.{needs}
-use native.Mathlib.Omega.{arith}
 use Rattle.text.proofs.buffer.ends_with.Statement.{statement}
 use Rattle.text.proofs.buffer.ends_with.Tie as tie
 
@@ -18,23 +16,23 @@ returns c =
 sub-from : tie.Need-sub-from
 sub-from c = search needs
 
-sub-same-bytes : tie.Need-sub-same-bytes
-sub-same-bytes c = search needs
+sub-is-same : tie.Need-sub-is-same
+sub-is-same c = search needs
 
-part-same-bytes-start : tie.Need-part-same-bytes-start
-part-same-bytes-start c = search needs
+part-is-same-start : tie.Need-part-is-same-start
+part-is-same-start c = search needs
 
-part-same-bytes-end : tie.Need-part-same-bytes-end
-part-same-bytes-end c = search needs
+part-is-same-end : tie.Need-part-is-same-end
+part-is-same-end c = search needs
 
-same-bytes-requires : tie.Need-same-bytes-requires
-same-bytes-requires c κs = search needs
+is-same-requires : tie.Need-is-same-requires
+is-same-requires c κs = search needs
 
 returns-2 : tie.Need-returns-2
 unfolding endsWith
 returns-2 c =
     let a = c .before .before .before .before .before .args in
-    c .same-bytes .ensures ∙ ap (λ (l : List ℕ). same l (a .x .now)) (rest-part (length (a .s .now) - length (a .x .now)) (a .s .now))
+    c .is-same .ensures ∙ ap (λ (l : List ℕ). same l (a .x .now)) (rest-part (length (a .s .now) - length (a .x .now)) (a .s .now))
 
 pub ends-with-spec : {M : Type 1} → statement M
-ends-with-spec = tie.close (tie.spec returns sub-from sub-same-bytes part-same-bytes-start part-same-bytes-end same-bytes-requires returns-2)
+ends-with-spec = tie.close (tie.spec returns sub-from sub-is-same part-is-same-start part-is-same-end is-same-requires returns-2)

@@ -4,7 +4,6 @@ use mathlib.Core.Bool.{Bool, _||_}
 use mathlib.Core.List.{[], _∷_}
 use Rattle.spec.specs.Bytes.{endsWith}
 use borrow.Author.Needs.{needs}
-use native.Mathlib.Omega.{arith}
 use Rattle.text.proofs.buffer.ends_with_either.Statement.{statement}
 use Rattle.text.proofs.buffer.ends_with_either.Tie as tie
 

@@ -1,7 +1,6 @@
 -- `text::buffer::ends_with_white` meets its contract. Assumes nothing.
 use Rattle.text.proofs.Reading.{ends-white}
 use borrow.Author.Needs.{needs}
-use native.Mathlib.Omega.{arith}
 use Rattle.text.proofs.buffer.ends_with_white.Statement.{statement}
 use Rattle.text.proofs.buffer.ends_with_white.Tie as tie
 

@@ -1,8 +1,6 @@
 -- `text::buffer::is_digit` meets its contract. Assumes nothing.
 use Rattle.spec.specs.Bytes.{digit}
 use borrow.Author.Tests.{lt-leb, le-leb}
-use borrow.Author.Needs.{needs}
-use native.Mathlib.Omega.{arith}
 use Rattle.text.proofs.buffer.is_digit.Statement.{statement}
 use Rattle.text.proofs.buffer.is_digit.Tie as tie
 

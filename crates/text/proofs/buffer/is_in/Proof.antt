@@ -1,12 +1,10 @@
 -- `text::buffer::is_in` meets its contract. Assumes nothing.
 use Rattle.spec.specs.Bytes.{blank}
 use mathlib.Core.Path.{_∙_, sym, ap}
-use Prim.Native.Nat.{ℕ}
-use mathlib.Core.Bool.{Bool, not}
+use mathlib.Core.Bool.{not}
 use Rattle.text.specs.Class.{inClass}
 use Rattle.text.specs.declared.buffer.Class.{Class}
 use borrow.Author.Needs.{needs}
-use native.Mathlib.Omega.{arith}
 use Rattle.text.proofs.buffer.is_in.Statement.{statement}
 use Rattle.text.proofs.buffer.is_in.Tie as tie
 

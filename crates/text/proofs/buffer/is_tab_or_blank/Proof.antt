@@ -3,8 +3,6 @@ use Rattle.spec.specs.Bytes.{isin}
 use Rattle.spec.specs.Md.Elements.Code.{isTabOrBlank}
 use borrow.Author.Tests.{eq-eqb, ne-eqb}
 use Rattle.text.proofs.Reading.{or-false}
-use borrow.Author.Needs.{needs}
-use native.Mathlib.Omega.{arith}
 use Rattle.text.proofs.buffer.is_tab_or_blank.Statement.{statement}
 use Rattle.text.proofs.buffer.is_tab_or_blank.Tie as tie
 

@@ -2,8 +2,6 @@
 use Rattle.spec.specs.Bytes.{isin, white}
 use borrow.Author.Tests.{eq-eqb, ne-eqb}
 use Rattle.text.proofs.Reading.{or-false}
-use borrow.Author.Needs.{needs}
-use native.Mathlib.Omega.{arith}
 use Rattle.text.proofs.buffer.is_white.Statement.{statement}
 use Rattle.text.proofs.buffer.is_white.Tie as tie
 

@@ -2,8 +2,6 @@
 use Rattle.spec.specs.Bytes.{isWhiteSpace, among, whiteSpace, same}
 use Rattle.text.proofs.Reading.{or-false}
 use Rattle.text.proofs.WhiteSpace.{and-false, and-true}
-use borrow.Author.Needs.{needs}
-use native.Mathlib.Omega.{arith}
 use Rattle.text.proofs.buffer.is_white_space_2.Statement.{statement}
 use Rattle.text.proofs.buffer.is_white_space_2.Tie as tie
 

@@ -1,5 +1,5 @@
 -- `text::buffer::lift` meets its contract. Assumes nothing.
-use Prim.Native.Nat.{ℕ, _≤_, _-_}
+use Prim.Native.Nat.{_≤_, _-_}
 use Rattle.text.proofs.Moving.{Lifting, lifting-none, lifting-on, lifting-all}
 use borrow.Author.Needs.{needs}
 use native.Mathlib.Omega.{arith}

@@ -1,6 +1,6 @@
 -- `text::buffer::push_repeated` meets its contract. Assumes nothing.
 use native.Mathlib.Numerals.{add-one}
-use Prim.Native.Nat.{ℕ, _≤_, _<_, _-_, _+_, zero-le}
+use Prim.Native.Nat.{_≤_, _-_, _+_, zero-le}
 use mathlib.Core.Path.{_≡_, refl, sym, _∙_, ap}
 use lib.ListN.{length, length-set, replicate, length-replicate, getD-replicate, set}
 use lib.Seq.{paste, paste-zero, paste-suc}

@@ -1,13 +1,10 @@
 -- `text::buffer::starts_with` meets its contract. Assumes nothing.
-use Prim.Native.Nat.{ℕ, _-_}
-use mathlib.Core.Path.{_≡_, sym, _∙_, ap}
-use mathlib.Core.List.{List}
-use lib.ListN.{length, drop, take, length-drop}
+use mathlib.Core.Path.{sym}
+use lib.ListN.{length}
 use lib.Seq.{length-take-le}
-use Rattle.spec.specs.Bytes.{same, startsWith}
+use Rattle.spec.specs.Bytes.{startsWith}
 use Rattle.text.proofs.Reading.{starts-short}
 use borrow.Author.Needs.{needs}
-use native.Mathlib.Omega.{arith}
 use Rattle.text.proofs.buffer.starts_with.Statement.{statement}
 use Rattle.text.proofs.buffer.starts_with.Tie as tie
 
@@ -15,18 +12,18 @@ returns : tie.Need-returns
 returns c =
     sym (starts-short (c .before .before .before .args .s .now) (c .before .before .before .args .x .now) (c .if1 .taken))
 
-slice-aggregate-same-bytes : tie.Need-slice-aggregate-same-bytes
-slice-aggregate-same-bytes c =
+slice-aggregate-is-same : tie.Need-slice-aggregate-is-same
+slice-aggregate-is-same c =
     sym (length-take-le (length (c .before .before .before .before .args .x .now)) (c .before .before .before .before .args .s .now) (c .before .if1 .left))
 
-same-bytes-requires : tie.Need-same-bytes-requires
-same-bytes-requires c κs = search needs
+is-same-requires : tie.Need-is-same-requires
+is-same-requires c κs = search needs
 
 returns-2 : tie.Need-returns-2
 unfolding startsWith
 returns-2 c =
     let a = c .before .before .before .before .before .args in
-    c .same-bytes .ensures
+    c .is-same .ensures
 
 pub starts-with-spec : {M : Type 1} → statement M
-starts-with-spec = tie.close (tie.spec returns slice-aggregate-same-bytes same-bytes-requires returns-2)
+starts-with-spec = tie.close (tie.spec returns slice-aggregate-is-same is-same-requires returns-2)

@@ -1,11 +1,10 @@
 -- `text::buffer::trim_end` meets its contract. Assumes nothing.
-use Prim.Native.Nat.{ℕ, _≤_, _<_, _-_}
+use Prim.Native.Nat.{_≤_}
 use mathlib.Core.Path.{_≡_, sym, _∙_, ap}
 use lib.ListN.{length, take}
 use lib.Seq.{take-length}
 use Rattle.spec.specs.Bytes.{«trim_end»}
 use Rattle.text.proofs.WhiteSpace.{end-empty}
-use borrow.Author.Needs.{needs}
 use native.Mathlib.Omega.{arith}
 use Rattle.text.proofs.buffer.trim_end.Statement.{statement}
 use Rattle.text.proofs.buffer.trim_end.Tie as tie

@@ -1,5 +1,5 @@
 -- `text::buffer::white_end` meets its contract. Assumes nothing.
-use mathlib.Core.Path.{_≡_, sym, _∙_}
+use mathlib.Core.Path.{sym, _∙_}
 use Rattle.text.proofs.WhiteSpace.{end-one, end-two, end-three, end-none}
 use borrow.Author.Needs.{needs}
 use native.Mathlib.Omega.{arith}

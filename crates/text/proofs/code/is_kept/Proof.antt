@@ -3,7 +3,6 @@ use Rattle.spec.specs.Bytes.{isin}
 use Rattle.spec.specs.Md.Elements.Code.{isAlphanumeric}
 use Rattle.text.proofs.Reading.{or-false}
 use borrow.Author.Needs.{needs}
-use native.Mathlib.Omega.{arith}
 use Rattle.text.proofs.code.is_kept.Statement.{statement}
 use Rattle.text.proofs.code.is_kept.Tie as tie
 

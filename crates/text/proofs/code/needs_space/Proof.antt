@@ -1,7 +1,6 @@
 -- `text::code::needs_space` meets its contract. Assumes nothing.
 use Rattle.spec.specs.Md.Elements.Code.{needsSpace}
 use borrow.Author.Needs.{needs}
-use native.Mathlib.Omega.{arith}
 use Rattle.text.proofs.code.needs_space.Statement.{statement}
 use Rattle.text.proofs.code.needs_space.Tie as tie
 

@@ -1,12 +1,11 @@
 -- `text::code::push_kept` meets its contract. Assumes nothing.
-use mathlib.Core.Path.{_≡_, ap, sym, _∙_}
+use mathlib.Core.Path.{ap, sym, _∙_}
 use mathlib.Core.Bool.{Bool, cond}
 use mathlib.Core.List.{[], _∷_}
 use lib.ListN.{take}
 use Rattle.spec.specs.Out.{push}
 use Rattle.text.proofs.Writing.{alike, keeps-nothing}
 use borrow.Author.Needs.{needs}
-use native.Mathlib.Omega.{arith}
 use Rattle.text.proofs.code.push_kept.Statement.{statement}
 use Rattle.text.proofs.code.push_kept.Tie as tie
 

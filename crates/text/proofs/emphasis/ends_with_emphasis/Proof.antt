@@ -2,7 +2,6 @@
 use Prim.Native.Nat.{ℕ}
 use mathlib.Core.List.{List, [], _∷_}
 use mathlib.Core.Path.{sym, _∙_, ap}
-use lib.ListN.{length}
 use lib.Seq.{length-take-le}
 use borrow.Author.Tests.{not-true, not-false}
 use Rattle.spec.specs.Bytes.{same}
@@ -20,29 +19,29 @@ returns c =
 trim-end-matches-requires : tie.Need-trim-end-matches-requires
 trim-end-matches-requires c κs = search needs
 
-sub-same-bytes : tie.Need-sub-same-bytes
-sub-same-bytes c =
+sub-is-same : tie.Need-sub-is-same
+sub-is-same c =
     c .trim-end-matches .ensures .within
 
-part-same-bytes-start : tie.Need-part-same-bytes-start
-part-same-bytes-start c =
+part-is-same-start : tie.Need-part-is-same-start
+part-is-same-start c =
     c .trim-end-matches .ensures .within
 
-part-same-bytes-end : tie.Need-part-same-bytes-end
-part-same-bytes-end c =
+part-is-same-end : tie.Need-part-is-same-end
+part-is-same-end c =
     omega arith
 
-slice-aggregate-same-bytes : tie.Need-slice-aggregate-same-bytes
-slice-aggregate-same-bytes c = search needs
+slice-aggregate-is-same : tie.Need-slice-aggregate-is-same
+slice-aggregate-is-same c = search needs
 
-same-bytes-requires : tie.Need-same-bytes-requires
-same-bytes-requires c κs = search needs
+is-same-requires : tie.Need-is-same-requires
+is-same-requires c κs = search needs
 
 returns-2 : tie.Need-returns-2
 returns-2 c =
     let a = c .before .before .before .before .before .before .before .before .args in
-    sym (emphasis-not (a .marker .now) (a .acc .now) (c .before .before .before .before .trim-end-matches .result) (c .before .same-bytes .result) (c .before .before .before .before .before .if1 .left) (c .before .before .before .before .trim-end-matches .ensures)
-    (c .before .same-bytes .ensures ∙ ap (λ (l : List ℕ). same l (32 ∷ [])) (rest-part (c .before .before .before .before .trim-end-matches .result) (a .acc .now))) (not-true _ (c .if2 .taken)))
+    sym (emphasis-not (a .marker .now) (a .acc .now) (c .before .before .before .before .trim-end-matches .result) (c .before .is-same .result) (c .before .before .before .before .before .if1 .left) (c .before .before .before .before .trim-end-matches .ensures)
+    (c .before .is-same .ensures ∙ ap (λ (l : List ℕ). same l (32 ∷ [])) (rest-part (c .before .before .before .before .trim-end-matches .result) (a .acc .now))) (not-true _ (c .if2 .taken)))
 
 slice-aggregate-is-exact-marker-end : tie.Need-slice-aggregate-is-exact-marker-end
 slice-aggregate-is-exact-marker-end c =
@@ -54,8 +53,8 @@ is-exact-marker-end-requires c κs = search needs
 returns-3 : tie.Need-returns-3
 returns-3 c =
     let a = c .before .before .before .before .before .before .before .before .before .before .args in
-    emphasis-is (a .marker .now) (a .acc .now) (c .before .before .before .before .before .before .trim-end-matches .result) (c .before .before .before .same-bytes .result) (c .before .before .before .before .before .before .before .if1 .left) (c .before .before .before .before .before .before .trim-end-matches .ensures)
-    (c .before .before .before .same-bytes .ensures ∙ ap (λ (l : List ℕ). same l (32 ∷ [])) (rest-part (c .before .before .before .before .before .before .trim-end-matches .result) (a .acc .now))) (c .is-exact-marker-end .result) (not-false _ (c .before .before .if2 .left)) (c .is-exact-marker-end .ensures)
+    emphasis-is (a .marker .now) (a .acc .now) (c .before .before .before .before .before .before .trim-end-matches .result) (c .before .before .before .is-same .result) (c .before .before .before .before .before .before .before .if1 .left) (c .before .before .before .before .before .before .trim-end-matches .ensures)
+    (c .before .before .before .is-same .ensures ∙ ap (λ (l : List ℕ). same l (32 ∷ [])) (rest-part (c .before .before .before .before .before .before .trim-end-matches .result) (a .acc .now))) (c .is-exact-marker-end .result) (not-false _ (c .before .before .if2 .left)) (c .is-exact-marker-end .ensures)
 
 pub ends-with-emphasis-spec : {M : Type 1} → statement M
-ends-with-emphasis-spec = tie.close (tie.spec returns trim-end-matches-requires sub-same-bytes part-same-bytes-start part-same-bytes-end slice-aggregate-same-bytes same-bytes-requires returns-2 slice-aggregate-is-exact-marker-end is-exact-marker-end-requires returns-3)
+ends-with-emphasis-spec = tie.close (tie.spec returns trim-end-matches-requires sub-is-same part-is-same-start part-is-same-end slice-aggregate-is-same is-same-requires returns-2 slice-aggregate-is-exact-marker-end is-exact-marker-end-requires returns-3)

@@ -22,11 +22,11 @@ sub-n c =
     let a = c .before .before .before .before .args in
     omega (arith, ends-long (a .tail .now) (a .marker .now) (sym (c .before .ends-with .ensures) ∙ not-false _ (c .if1 .left)))
 
-slice-aggregate-same-bytes : tie.Need-slice-aggregate-same-bytes
-slice-aggregate-same-bytes c = search needs
+slice-aggregate-is-same : tie.Need-slice-aggregate-is-same
+slice-aggregate-is-same c = search needs
 
-same-bytes-requires : tie.Need-same-bytes-requires
-same-bytes-requires c κs = search needs
+is-same-requires : tie.Need-is-same-requires
+is-same-requires c κs = search needs
 
 slice-aggregate-ends-with-byte : tie.Need-slice-aggregate-ends-with-byte
 slice-aggregate-ends-with-byte c =
@@ -47,7 +47,7 @@ backslashes-requires c κs = search needs
 returns-2 : tie.Need-returns-2
 returns-2 c =
     let a = c .before .before .before .before .before .before .before .before .before .before .args in
-    exact-is (a .tail .now) (a .marker .now) (c .before .before .before .before .same-bytes .result) (c .before .before .ends-with-byte .result) (c .backslashes .result) (sym (c .before .before .before .before .before .before .before .ends-with .ensures) ∙ not-false _ (c .before .before .before .before .before .before .if1 .left)) (c .before .before .before .before .same-bytes .ensures) (c .before .before .ends-with-byte .ensures) (c .backslashes .ensures)
+    exact-is (a .tail .now) (a .marker .now) (c .before .before .before .before .is-same .result) (c .before .before .ends-with-byte .result) (c .backslashes .result) (sym (c .before .before .before .before .before .before .before .ends-with .ensures) ∙ not-false _ (c .before .before .before .before .before .before .if1 .left)) (c .before .before .before .before .is-same .ensures) (c .before .before .ends-with-byte .ensures) (c .backslashes .ensures)
 
 pub is-exact-marker-end-spec : {M : Type 1} → statement M
-is-exact-marker-end-spec = tie.close (tie.spec ends-with-requires returns sub-n slice-aggregate-same-bytes same-bytes-requires slice-aggregate-ends-with-byte ends-with-byte-requires slice-aggregate-backslashes backslashes-requires returns-2)
+is-exact-marker-end-spec = tie.close (tie.spec ends-with-requires returns sub-n slice-aggregate-is-same is-same-requires slice-aggregate-ends-with-byte ends-with-byte-requires slice-aggregate-backslashes backslashes-requires returns-2)

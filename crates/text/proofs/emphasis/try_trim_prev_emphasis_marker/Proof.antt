@@ -1,7 +1,7 @@
 -- `text::emphasis::try_trim_prev_emphasis_marker` meets its contract. Assumes nothing.
-use mathlib.Core.Path.{_≡_, ap, sym, _∙_, refl}
+use mathlib.Core.Path.{sym, _∙_, refl}
 use mathlib.Core.List.{[], _∷_}
-use Prim.Native.Nat.{_+_, _-_}
+use Prim.Native.Nat.{_+_}
 use lib.ListN.{take, length}
 use lib.Seq.{length-take-le}
 use borrow.Author.Tests.{not-true, not-false}

@@ -1,6 +1,6 @@
 -- `text::heading::escape_closing_hashes` meets its contract. Assumes nothing.
 use Prim.Native.Nat.{ℕ}
-use mathlib.Core.Path.{_≡_, sym, ap, _∙_}
+use mathlib.Core.Path.{sym, ap, _∙_}
 use mathlib.Core.Bool.{Bool, cond}
 use mathlib.Core.List.{List, _∷_, _++_}
 use lib.ListN.{take, drop}

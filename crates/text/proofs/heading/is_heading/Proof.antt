@@ -2,8 +2,6 @@
 use Rattle.spec.specs.Bytes.{isin}
 use Rattle.spec.specs.Md.Heading.{«is_heading»}
 use Rattle.text.proofs.Reading.{or-false}
-use borrow.Author.Needs.{needs}
-use native.Mathlib.Omega.{arith}
 use Rattle.text.proofs.heading.is_heading.Statement.{statement}
 use Rattle.text.proofs.heading.is_heading.Tie as tie
 

@@ -1,13 +1,12 @@
 -- `text::heading::push_md_prefix` meets its contract. Assumes nothing.
 use Prim.Native.Nat.{ℕ}
-use mathlib.Core.Path.{_≡_, sym, ap, _∙_}
+use mathlib.Core.Path.{ap}
 use lib.ListN.{take}
 use borrow.Author.Tests.{ne-eqb}
 use Rattle.spec.specs.Out.{push}
 use Rattle.spec.specs.Md.Heading.{«md_prefix»}
 use Rattle.text.proofs.Writing.{alike, keeps-nothing}
 use borrow.Author.Needs.{needs}
-use native.Mathlib.Omega.{arith}
 use Rattle.text.proofs.heading.push_md_prefix.Statement.{statement}
 use Rattle.text.proofs.heading.push_md_prefix.Tie as tie
 

@@ -1,5 +1,5 @@
 -- `text::list::boundary` meets its contract. Assumes nothing.
-use Prim.Native.Nat.{ℕ, _≤_, _<_, _-_}
+use Prim.Native.Nat.{_≤_}
 use mathlib.Core.Path.{_≡_, sym, _∙_, refl}
 use borrow.Author.Tests.{not-true, not-false}
 use Rattle.spec.specs.Md.Elements.List.{boundary}

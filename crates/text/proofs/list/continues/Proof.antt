@@ -3,7 +3,6 @@ use mathlib.Core.Path.{sym, refl}
 use Rattle.spec.specs.Md.Elements.List.{continuation}
 use Rattle.text.proofs.Boundary.{none-behind}
 use borrow.Author.Needs.{needs}
-use native.Mathlib.Omega.{arith}
 use Rattle.text.proofs.list.continues.Statement.{statement}
 use Rattle.text.proofs.list.continues.Tie as tie
 

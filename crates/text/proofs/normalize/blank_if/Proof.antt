@@ -1,10 +1,8 @@
 -- `text::normalize::blank_if` meets its contract. Assumes nothing.
-use mathlib.Core.Path.{_≡_, ap, sym}
+use mathlib.Core.Path.{ap, sym}
 use mathlib.Core.Bool.{Bool, cond}
 use mathlib.Core.List.{[]}
 use Rattle.spec.specs.Bytes.{ascii}
-use borrow.Author.Needs.{needs}
-use native.Mathlib.Omega.{arith}
 use Rattle.text.proofs.normalize.blank_if.Statement.{statement}
 use Rattle.text.proofs.normalize.blank_if.Tie as tie
 

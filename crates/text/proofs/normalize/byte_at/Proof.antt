@@ -1,11 +1,9 @@
 -- `text::normalize::byte_at` meets its contract. Assumes nothing.
-use Prim.Native.Nat.{ℕ, _<_}
-use mathlib.Core.Path.{_≡_, sym, ap, subst}
+use Prim.Native.Nat.{_<_}
+use mathlib.Core.Path.{sym, ap, subst}
 use mathlib.Core.Bool.{Bool}
 use lib.ListN.{length, getD}
 use Rattle.text.specs.Source.{store}
-use borrow.Author.Needs.{needs}
-use native.Mathlib.Omega.{arith}
 use Rattle.text.proofs.normalize.byte_at.Statement.{statement}
 use Rattle.text.proofs.normalize.byte_at.Tie as tie
 

@@ -1,16 +1,13 @@
 -- `text::normalize::ends_white_in` meets its contract. Assumes nothing.
-use Prim.Native.Nat.{ℕ, _≤_}
-use mathlib.Core.Path.{_≡_, sym, ap, _∙_, subst}
+use Prim.Native.Nat.{_≤_}
+use mathlib.Core.Path.{sym, ap, _∙_, subst}
 use mathlib.Core.Bool.{Bool}
 use lib.ListN.{length}
 use lib.Seq.{slice}
-use Rattle.spec.specs.Bytes.{every}
 use Rattle.spec.specs.Md.TextUtils.{endsWithWhite}
-use Rattle.text.specs.Class.{inClass}
 use Rattle.text.specs.Source.{store}
 use Rattle.text.proofs.Sourcing.{part-is}
 use borrow.Author.Needs.{needs}
-use native.Mathlib.Omega.{arith}
 use Rattle.text.proofs.normalize.ends_white_in.Statement.{statement}
 use Rattle.text.proofs.normalize.ends_white_in.Tie as tie
 

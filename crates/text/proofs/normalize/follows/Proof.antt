@@ -1,10 +1,9 @@
 -- `text::normalize::follows` meets its contract. Assumes nothing.
-use mathlib.Core.Path.{_≡_, sym, ap, _∙_}
+use mathlib.Core.Path.{ap, _∙_}
 use Prim.Native.Nat.{ℕ}
 use lib.Dec.{eqb}
 use Rattle.text.specs.Source.{store}
 use Rattle.text.proofs.Sourcing.{follows-some, follows-none}
-use borrow.Author.Needs.{needs}
 use native.Mathlib.Omega.{arith}
 use Rattle.text.proofs.normalize.follows.Statement.{statement}
 use Rattle.text.proofs.normalize.follows.Tie as tie

@@ -3,7 +3,6 @@ use Rattle.spec.specs.Bytes.{isin}
 use Rattle.spec.specs.Md.TextUtils.{isEscaped}
 use Rattle.text.proofs.Reading.{or-false}
 use borrow.Author.Needs.{needs}
-use native.Mathlib.Omega.{arith}
 use Rattle.text.proofs.normalize.is_escaped.Statement.{statement}
 use Rattle.text.proofs.normalize.is_escaped.Tie as tie
 

@@ -1,13 +1,12 @@
 -- `text::normalize::is_line_start` meets its contract. Assumes nothing.
-use mathlib.Core.Path.{_≡_, ap, sym, _∙_}
+use mathlib.Core.Path.{ap, sym, _∙_}
 use mathlib.Core.Bool.{Bool, _||_}
 use mathlib.Core.List.{[], _∷_}
 use lib.ListN.{length}
 use lib.Dec.{eqb}
-use Rattle.spec.specs.Bytes.{null, endsWith}
+use Rattle.spec.specs.Bytes.{endsWith}
 use Rattle.text.proofs.Wording.{null-is}
 use borrow.Author.Needs.{needs}
-use native.Mathlib.Omega.{arith}
 use Rattle.text.proofs.normalize.is_line_start.Statement.{statement}
 use Rattle.text.proofs.normalize.is_line_start.Tie as tie
 

@@ -2,7 +2,6 @@
 use borrow.Author.Tests.{not-true, not-false}
 use Rattle.text.proofs.Normal.{lead-blank, lead-none, lead-slash, lead-plain}
 use borrow.Author.Needs.{needs}
-use native.Mathlib.Omega.{arith}
 use Rattle.text.proofs.normalize.lead_of.Statement.{statement}
 use Rattle.text.proofs.normalize.lead_of.Tie as tie
 

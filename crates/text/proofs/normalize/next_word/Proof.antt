@@ -2,7 +2,6 @@
 use lib.Seq.{length-slice}
 use Rattle.text.specs.Source.{store}
 use Rattle.text.proofs.Wording.{word-at}
-use borrow.Author.Needs.{needs}
 use native.Mathlib.Omega.{arith}
 use Rattle.text.proofs.normalize.next_word.Statement.{statement}
 use Rattle.text.proofs.normalize.next_word.Tie as tie

@@ -1,5 +1,5 @@
 -- `text::normalize::push_blank` meets its contract. Assumes nothing.
-use mathlib.Core.Path.{_≡_, ap, refl, sym, _∙_}
+use mathlib.Core.Path.{ap, refl, sym, _∙_}
 use mathlib.Core.Bool.{Bool, cond, not, _&&_}
 use mathlib.Core.List.{[]}
 use lib.ListN.{take}

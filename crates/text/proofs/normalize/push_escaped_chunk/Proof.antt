@@ -3,8 +3,6 @@ use lib.ListN.{take}
 use lib.Seq.{slice}
 use Rattle.text.specs.Source.{store}
 use Rattle.text.proofs.Sourcing.{chunk-is, alike-in}
-use borrow.Author.Needs.{needs}
-use native.Mathlib.Omega.{arith}
 use Rattle.text.proofs.normalize.push_escaped_chunk.Statement.{statement}
 use Rattle.text.proofs.normalize.push_escaped_chunk.Tie as tie
 

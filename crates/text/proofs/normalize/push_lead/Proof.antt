@@ -1,16 +1,13 @@
 -- `text::normalize::push_lead` meets its contract. Assumes nothing.
-use mathlib.Core.Path.{_≡_, ap, refl}
+use mathlib.Core.Path.{ap, refl}
 use Prim.Native.Nat.{ℕ}
 use mathlib.Core.Bool.{Bool, cond}
-use mathlib.Core.List.{List, [], _∷_}
+use mathlib.Core.List.{[], _∷_}
 use lib.ListN.{take}
-use lib.Dec.{eqb}
 use borrow.Author.Tests.{ne-eqb}
 use Rattle.spec.specs.Out.{push}
 use Rattle.text.specs.Marks.{leadOf}
 use Rattle.text.proofs.Sourcing.{owed-all, owed-nothing, alike-in}
-use borrow.Author.Needs.{needs}
-use native.Mathlib.Omega.{arith}
 use Rattle.text.proofs.normalize.push_lead.Statement.{statement}
 use Rattle.text.proofs.normalize.push_lead.Tie as tie
 

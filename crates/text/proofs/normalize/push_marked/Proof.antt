@@ -1,9 +1,9 @@
 -- `text::normalize::push_marked` meets its contract. Assumes nothing.
-use Prim.Native.Nat.{ℕ, _≤_, _<_, _+_, _-_}
-use mathlib.Core.Path.{_≡_, sym, ap, _∙_, subst, refl}
-use mathlib.Core.Bool.{Bool, false, cond, _&&_}
+use Prim.Native.Nat.{_≤_, _+_, _-_}
+use mathlib.Core.Path.{ap, _∙_, refl}
+use mathlib.Core.Bool.{false, cond, _&&_}
 use mathlib.Core.List.{[], _∷_, _++_}
-use lib.ListN.{length, take}
+use lib.ListN.{take}
 use lib.Seq.{slice}
 use Rattle.spec.specs.Bytes.{ascii, startsWith}
 use Rattle.spec.specs.Out.{push}

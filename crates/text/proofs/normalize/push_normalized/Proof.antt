@@ -1,19 +1,18 @@
 -- `text::normalize::push_normalized` meets its contract. Assumes nothing.
-use Prim.Native.Nat.{ℕ}
-use mathlib.Core.Path.{_≡_, ap, refl, sym, _∙_}
+use mathlib.Core.Path.{ap, refl, sym, _∙_}
 use mathlib.Core.Bool.{Bool, cond, not}
-use mathlib.Core.List.{List, [], _∷_, _++_}
+use mathlib.Core.List.{[], _++_}
 use lib.ListN.{take}
 use lib.Dec.{eqb}
 use lib.Seq.{slice, length-take-le}
 use borrow.Author.Tests.{ne-eqb}
 use Rattle.spec.specs.Bytes.{ascii, words}
 use Rattle.spec.specs.Md.TextUtils.{moreWords, escapedChunk}
-use Rattle.text.specs.Marks.{leadOf, firstAndMore}
-use Rattle.text.specs.Source.{store, Apart}
+use Rattle.text.specs.Marks.{leadOf}
+use Rattle.text.specs.Source.{store}
 use Rattle.text.proofs.Normal.{normal-blank, normal-words}
 use Rattle.text.proofs.Wording.{first-kept}
-use Rattle.text.proofs.Sourcing.{pair-go, pair-stop, owed-last, owed-reach, owed-as, slice-kept, apart-kept, alike-in}
+use Rattle.text.proofs.Sourcing.{pair-go, pair-stop, owed-last, owed-reach, owed-as, apart-kept, alike-in}
 use borrow.Author.Needs.{needs}
 use native.Mathlib.Omega.{arith}
 use Rattle.text.proofs.normalize.push_normalized.Statement.{statement}

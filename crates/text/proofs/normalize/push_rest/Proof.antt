@@ -1,5 +1,5 @@
 -- `text::normalize::push_rest` meets its contract. Assumes nothing.
-use mathlib.Core.Path.{_≡_, ap, refl, _∙_}
+use mathlib.Core.Path.{_∙_}
 use lib.Seq.{slice}
 use Rattle.spec.specs.Bytes.{words}
 use Rattle.spec.specs.Md.TextUtils.{moreWords}

@@ -1,12 +1,12 @@
 -- `text::normalize::push_text` meets its contract. Assumes nothing.
 use Prim.Native.Nat.{ℕ}
 use mathlib.Core.List.{List, _++_}
-use mathlib.Core.Path.{_≡_, ap, refl, sym, _∙_}
+use mathlib.Core.Path.{ap, sym, _∙_}
 use lib.Seq.{slice}
 use Rattle.spec.specs.Bytes.{words}
 use Rattle.spec.specs.Md.TextUtils.{moreWords, escapedChunk, «push_escaped_chunk»}
 use Rattle.text.specs.Marks.{leadOf}
-use Rattle.text.specs.Source.{store, Apart}
+use Rattle.text.specs.Source.{store}
 use Rattle.text.proofs.Sourcing.{pair-go, pair-stop, owed-last, owed-reach, owed-as, slice-kept, apart-kept}
 use borrow.Author.Needs.{needs}
 use native.Mathlib.Omega.{arith}

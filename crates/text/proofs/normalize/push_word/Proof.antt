@@ -1,7 +1,7 @@
 -- `text::normalize::push_word` meets its contract. Assumes nothing.
-use mathlib.Core.Path.{_≡_, ap, sym, refl, _∙_}
+use mathlib.Core.Path.{ap, sym, refl, _∙_}
 use mathlib.Core.Bool.{false}
-use mathlib.Core.List.{List, [], _∷_, _++_}
+use mathlib.Core.List.{List, [], _∷_}
 use Prim.Native.Nat.{ℕ}
 use lib.ListN.{take}
 use lib.Seq.{slice}
@@ -9,7 +9,7 @@ use Rattle.spec.specs.Out.{push}
 use Rattle.spec.specs.Md.TextUtils.{escapedChunk, «push_escaped_chunk»}
 use Rattle.text.specs.Source.{store}
 use Rattle.text.proofs.Writing.{push-both}
-use Rattle.text.proofs.Sourcing.{OwesIn, owed-all, owed-step, owed-stop, owed-last, owed-reach, owed-as, slice-kept, apart-kept}
+use Rattle.text.proofs.Sourcing.{owed-all, owed-step, owed-stop, owed-last, owed-reach, owed-as, slice-kept, apart-kept}
 use borrow.Author.Needs.{needs}
 use native.Mathlib.Omega.{arith}
 use Rattle.text.proofs.normalize.push_word.Statement.{statement}

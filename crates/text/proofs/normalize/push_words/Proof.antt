@@ -1,7 +1,7 @@
 -- `text::normalize::push_words` meets its contract. Assumes nothing.
-use mathlib.Core.Path.{_≡_, ap, sym, refl, _∙_}
+use mathlib.Core.Path.{_≡_, ap, _∙_}
 use mathlib.Core.Bool.{false}
-use mathlib.Core.List.{List, [], _∷_, _++_}
+use mathlib.Core.List.{List, _++_}
 use Prim.Native.Nat.{ℕ, _≤_, _<_, _-_}
 use lib.ListN.{take, getD}
 use lib.Seq.{slice}

@@ -1,10 +1,9 @@
 -- `text::normalize::put` meets its contract. Assumes nothing.
-use mathlib.Core.Path.{_≡_, sym, ap, subst, refl}
+use mathlib.Core.Path.{sym}
 use mathlib.Core.List.{[], _∷_}
 use lib.Seq.{length-take-le}
 use Rattle.spec.specs.Out.{push}
 use Rattle.text.proofs.Sourcing.{lent-front}
-use borrow.Author.Needs.{needs}
 use native.Mathlib.Omega.{arith}
 use Rattle.text.proofs.normalize.put.Statement.{statement}
 use Rattle.text.proofs.normalize.put.Tie as tie

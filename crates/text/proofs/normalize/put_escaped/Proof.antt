@@ -1,13 +1,12 @@
 -- `text::normalize::put_escaped` meets its contract. Assumes nothing.
-use mathlib.Core.Path.{_≡_, sym, ap, subst, refl, _∙_}
-use mathlib.Core.List.{List, [], _∷_, _++_}
-use Prim.Native.Nat.{ℕ}
+use mathlib.Core.Path.{ap, refl, _∙_}
+use mathlib.Core.List.{[], _∷_, _++_}
 use mathlib.Core.Bool.{Bool, cond}
 use lib.ListN.{take}
 use Rattle.spec.specs.Bytes.{ascii}
 use Rattle.spec.specs.Out.{push}
 use Rattle.text.proofs.Writing.{push-both}
-use Rattle.text.proofs.Sourcing.{OwesIn, owed-all, owed-step, owed-stop, owed-last, owed-reach, alike-in}
+use Rattle.text.proofs.Sourcing.{owed-all, owed-step, owed-stop, owed-last, owed-reach, alike-in}
 use borrow.Author.Needs.{needs}
 use native.Mathlib.Omega.{arith}
 use Rattle.text.proofs.normalize.put_escaped.Statement.{statement}

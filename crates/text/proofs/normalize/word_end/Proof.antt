@@ -2,7 +2,6 @@
 use lib.Seq.{length-slice}
 use Rattle.text.specs.Source.{store}
 use Rattle.text.proofs.Wording.{word-end}
-use borrow.Author.Needs.{needs}
 use native.Mathlib.Omega.{arith}
 use Rattle.text.proofs.normalize.word_end.Statement.{statement}
 use Rattle.text.proofs.normalize.word_end.Tie as tie

@@ -1,16 +1,16 @@
 -- `text::table::add_cell_block_break` meets its contract. Assumes nothing.
-use mathlib.Core.Path.{_≡_, sym, _∙_, refl, ap}
-use mathlib.Core.Bool.{Bool, cond, _||_, true}
+use mathlib.Core.Path.{sym, _∙_, refl, ap}
+use mathlib.Core.Bool.{Bool, cond, _||_}
 use mathlib.Core.List.{List}
-use Prim.Native.Nat.{ℕ, _≤_}
-use lib.ListN.{length, take}
+use Prim.Native.Nat.{ℕ}
+use lib.ListN.{take}
 use lib.Seq.{length-take-le}
 use Rattle.spec.specs.Bytes.{null}
 use Rattle.spec.specs.Out.{Step, push, keep}
 use Rattle.spec.specs.Md.TextUtils.{«trim_trailing_space», trimBlanks}
 use Rattle.spec.specs.Md.Elements.Table.{«add_cell_block_break», «ends_with_cell_break»}
 use Rattle.text.proofs.Reading.{null-none, null-some}
-use Rattle.text.proofs.Writing.{alike, Owes, owes-all, owes-on, owes-last, owes-none}
+use Rattle.text.proofs.Writing.{alike, owes-all, owes-on, owes-last, owes-none}
 use Rattle.text.proofs.Spaces.{cut-done, or-true}
 use borrow.Author.Needs.{needs}
 use native.Mathlib.Omega.{arith}

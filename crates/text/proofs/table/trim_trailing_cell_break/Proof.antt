@@ -1,6 +1,6 @@
 -- `text::table::trim_trailing_cell_break` meets its contract. Assumes nothing.
-use Prim.Native.Nat.{ℕ, _≤_, _<_, _-_}
-use mathlib.Core.Path.{_≡_, sym, _∙_, ap, refl}
+use Prim.Native.Nat.{_≤_, _-_}
+use mathlib.Core.Path.{_≡_, sym, _∙_, ap}
 use lib.ListN.{length, take}
 use lib.Seq.{length-take-le, take-length}
 use borrow.Author.Tests.{not-true, not-false}

@@ -1,11 +1,11 @@
 -- `text::text_utils::add_linebreaks` meets its contract. Assumes nothing.
-use Prim.Native.Nat.{ℕ, _-_}
-use mathlib.Core.Path.{_≡_, sym, _∙_, refl}
+use Prim.Native.Nat.{_-_}
+use mathlib.Core.Path.{sym, _∙_, refl}
 use lib.ListN.{length, take}
 use lib.Seq.{length-take-le}
 use Rattle.spec.specs.Out.{push}
 use Rattle.spec.specs.Md.TextUtils.{«add_linebreaks», breaksUntil, «trim_trailing_space», trimBlanks}
-use Rattle.text.proofs.Writing.{alike, keeps, Owes, owes-all, owes-on, owes-step, owes-stop, owes-none}
+use Rattle.text.proofs.Writing.{Owes, owes-all, owes-on, owes-step, owes-stop, owes-none}
 use Rattle.text.proofs.Spaces.{cut-done, breaks-none, breaks-ended, breaks-more}
 use borrow.Author.Needs.{needs}
 use native.Mathlib.Omega.{arith}

@@ -3,7 +3,6 @@ use mathlib.Core.Path.{sym, _∙_}
 use lib.Seq.{length-take-le}
 use Rattle.text.proofs.Markers.{indent-none, indent-some}
 use borrow.Author.Needs.{needs}
-use native.Mathlib.Omega.{arith}
 use Rattle.text.proofs.text_utils.at_indent.Statement.{statement}
 use Rattle.text.proofs.text_utils.at_indent.Tie as tie
 

@@ -1,5 +1,5 @@
 -- `text::text_utils::before_marker` meets its contract. Assumes nothing.
-use mathlib.Core.Path.{sym, _∙_, ap, ap₂}
+use mathlib.Core.Path.{sym, _∙_}
 use Prim.Native.Nat.{_-_}
 use lib.ListN.{length}
 use lib.Seq.{length-take-le, take-length}

@@ -1,10 +1,9 @@
 -- `text::text_utils::ends_with_double_linebreak` meets its contract. Assumes nothing.
-use mathlib.Core.Path.{_≡_, ap, sym, _∙_}
+use mathlib.Core.Path.{ap, sym, _∙_}
 use mathlib.Core.Bool.{Bool}
 use Rattle.spec.specs.Bytes.{endsWith}
 use Rattle.spec.specs.Md.LineBreak.{«double_linebreak»}
 use borrow.Author.Needs.{needs}
-use native.Mathlib.Omega.{arith}
 use Rattle.text.proofs.text_utils.ends_with_double_linebreak.Statement.{statement}
 use Rattle.text.proofs.text_utils.ends_with_double_linebreak.Tie as tie
 

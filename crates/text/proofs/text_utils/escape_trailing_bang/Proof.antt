@@ -1,5 +1,5 @@
 -- `text::text_utils::escape_trailing_bang` meets its contract. Assumes nothing.
-use mathlib.Core.Path.{sym, _∙_, refl}
+use mathlib.Core.Path.{sym, _∙_}
 use lib.ListN.{take, length-set}
 use lib.Seq.{length-take-le}
 use borrow.Author.Tests.{not-true, not-false}

@@ -1,11 +1,10 @@
 -- `text::text_utils::push_block_space` meets its contract. Assumes nothing.
-use mathlib.Core.Path.{sym, _∙_, refl}
+use mathlib.Core.Path.{sym, _∙_}
 use lib.ListN.{take}
 use lib.Seq.{length-take-le}
 use Rattle.text.proofs.Writing.{alike, keeps}
 use Rattle.text.proofs.Spaces.{space-none, space-white, space-push}
 use borrow.Author.Needs.{needs}
-use native.Mathlib.Omega.{arith}
 use Rattle.text.proofs.text_utils.push_block_space.Statement.{statement}
 use Rattle.text.proofs.text_utils.push_block_space.Tie as tie
 

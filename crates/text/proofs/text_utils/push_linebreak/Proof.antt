@@ -1,12 +1,11 @@
 -- `text::text_utils::push_linebreak` meets its contract. Assumes nothing.
-use mathlib.Core.Path.{_≡_, ap}
+use mathlib.Core.Path.{ap}
 use mathlib.Core.Bool.{Bool}
 use lib.ListN.{take}
 use Rattle.spec.specs.Out.{push}
 use Rattle.spec.specs.Md.LineBreak.{linebreak}
 use Rattle.text.proofs.Writing.{alike}
 use borrow.Author.Needs.{needs}
-use native.Mathlib.Omega.{arith}
 use Rattle.text.proofs.text_utils.push_linebreak.Statement.{statement}
 use Rattle.text.proofs.text_utils.push_linebreak.Tie as tie
 

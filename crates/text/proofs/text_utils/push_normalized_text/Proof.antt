@@ -5,7 +5,6 @@ use lib.ListN.{take}
 use Rattle.spec.specs.Md.TextUtils.{«push_normalized_text»}
 use Rattle.text.proofs.Sourcing.{whole-apart, whole-writes}
 use borrow.Author.Needs.{needs}
-use native.Mathlib.Omega.{arith}
 use Rattle.text.proofs.text_utils.push_normalized_text.Statement.{statement}
 use Rattle.text.proofs.text_utils.push_normalized_text.Tie as tie
 

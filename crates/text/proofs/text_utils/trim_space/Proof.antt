@@ -1,6 +1,5 @@
 -- `text::text_utils::trim_space` meets its contract. Assumes nothing.
-use mathlib.Core.Path.{sym, _∙_, refl}
-use lib.ListN.{take}
+use mathlib.Core.Path.{sym}
 use lib.Seq.{length-take-le}
 use Rattle.text.proofs.Spaces.{trim-space-done}
 use borrow.Author.Needs.{needs}

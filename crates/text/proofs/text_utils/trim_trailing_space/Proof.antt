@@ -1,7 +1,6 @@
 -- `text::text_utils::trim_trailing_space` meets its contract. Assumes nothing.
 use Rattle.spec.specs.Md.TextUtils.{trimBlanks}
 use borrow.Author.Needs.{needs}
-use native.Mathlib.Omega.{arith}
 use Rattle.text.proofs.text_utils.trim_trailing_space.Statement.{statement}
 use Rattle.text.proofs.text_utils.trim_trailing_space.Tie as tie
 

@@ -1,5 +1,5 @@
 -- `text::title::contains_byte` meets its contract. Assumes nothing.
-use Prim.Native.Nat.{ℕ, _≤_, _-_, zero-le}
+use Prim.Native.Nat.{_≤_, _-_, zero-le}
 use mathlib.Core.Path.{_≡_, refl, sym, _∙_}
 use lib.ListN.{length, drop}
 use Rattle.spec.specs.Bytes.{isin}

@@ -1,9 +1,9 @@
 -- `text::title::push_quoted` meets its contract. Assumes nothing.
-use Prim.Native.Nat.{ℕ, _+_, _≤_, _<_, _-_}
-use mathlib.Core.Path.{_≡_, refl, sym, ap, _∙_}
+use Prim.Native.Nat.{_+_, _≤_, _-_}
+use mathlib.Core.Path.{refl, _∙_}
 use mathlib.Core.Bool.{true, cond}
-use mathlib.Core.List.{List, [], _∷_, _++_}
-use lib.ListN.{length, take, getD}
+use mathlib.Core.List.{[], _∷_, _++_}
+use lib.ListN.{take, getD}
 use lib.Dec.{eqb}
 use lib.Seq.{slice}
 use Rattle.spec.specs.Bytes.{ascii}

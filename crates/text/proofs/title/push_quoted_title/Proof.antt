@@ -1,15 +1,13 @@
 -- `text::title::push_quoted_title` meets its contract. Assumes nothing.
-use Prim.Native.Nat.{ℕ, _+_, _-_}
-use mathlib.Core.Path.{_≡_, refl, sym, ap, subst, _∙_}
-use mathlib.Core.List.{List, []}
-use lib.ListN.{length, take}
+use mathlib.Core.Path.{refl, sym, ap, _∙_}
+use mathlib.Core.List.{[]}
+use lib.ListN.{length}
 use Rattle.spec.specs.Out.{push, beside}
 use Rattle.spec.specs.Md.Ctx.{new}
 use Rattle.spec.specs.Md.TextUtils.{eachByte, quoteEscaped, quotedTitle, «push_normalized_text»}
 use Rattle.spec.specs.declared.ctx.FormatOpts.{FormatOpts}
-use Rattle.text.specs.Writes.{Writes}
 use Rattle.text.proofs.Writing.{alike, done, full}
-use Rattle.text.proofs.Temporary.{lent, back, temp-full, temp-fits, back-length, lifted-long, temp-writes}
+use Rattle.text.proofs.Temporary.{temp-full, temp-fits, back-length, temp-writes}
 use borrow.Author.Needs.{needs}
 use native.Mathlib.Omega.{arith}
 use Rattle.text.proofs.title.push_quoted_title.Statement.{statement}

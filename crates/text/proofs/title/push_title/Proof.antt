@@ -1,16 +1,15 @@
 -- `text::title::push_title` meets its contract. Assumes nothing.
 use Prim.Native.Nat.{ℕ}
-use mathlib.Core.Path.{_≡_, refl, sym, ap, subst, _∙_}
-use mathlib.Core.Bool.{Bool, cond}
+use mathlib.Core.Path.{refl}
+use mathlib.Core.Bool.{cond}
 use mathlib.Core.List.{List}
-use lib.ListN.{length, take}
+use lib.ListN.{take}
 use Rattle.spec.specs.Bytes.{ascii, isin}
 use Rattle.spec.specs.Out.{push, andThen}
 use Rattle.spec.specs.Md.Ctx.{new}
 use Rattle.spec.specs.Md.TextUtils.{quotedTitle, «push_normalized_text», «push_title»}
-use Rattle.text.proofs.Writing.{Owes, owes-all, owes-step, owes-stop, owes-last, then-assoc}
+use Rattle.text.proofs.Writing.{owes-all, owes-step, owes-stop, owes-last, then-assoc}
 use borrow.Author.Needs.{needs}
-use native.Mathlib.Omega.{arith}
 use Rattle.text.proofs.title.push_title.Statement.{statement}
 use Rattle.text.proofs.title.push_title.Tie as tie
 

@@ -1,13 +1,12 @@
 -- `text::title::push_title_text` meets its contract. Assumes nothing.
-use mathlib.Core.Path.{_≡_, refl, sym, ap, subst, _∙_}
+use mathlib.Core.Path.{sym, ap, _∙_}
 use mathlib.Core.Bool.{Bool, cond}
-use lib.ListN.{length, take}
+use lib.ListN.{take}
 use Rattle.spec.specs.Md.Ctx.{new}
 use Rattle.spec.specs.Md.TextUtils.{quotedTitle, «push_normalized_text»}
 use Rattle.spec.specs.declared.ctx.FormatOpts.{FormatOpts}
 use Rattle.text.proofs.Writing.{alike}
 use borrow.Author.Needs.{needs}
-use native.Mathlib.Omega.{arith}
 use Rattle.text.proofs.title.push_title_text.Statement.{statement}
 use Rattle.text.proofs.title.push_title_text.Tie as tie
 

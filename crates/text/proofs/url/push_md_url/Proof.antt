@@ -1,10 +1,9 @@
 -- `text::url::push_md_url` meets its contract. Assumes nothing.
-use mathlib.Core.Path.{_≡_, sym, ap, _∙_, refl}
+use mathlib.Core.Path.{sym, _∙_}
 use lib.ListN.{take}
 use Rattle.text.proofs.Writing.{alike}
 use Rattle.text.proofs.Linking.{url-wrapped, url-plain}
 use borrow.Author.Needs.{needs}
-use native.Mathlib.Omega.{arith}
 use Rattle.text.proofs.url.push_md_url.Statement.{statement}
 use Rattle.text.proofs.url.push_md_url.Tie as tie
 

@@ -1,19 +1,16 @@
 -- `text::url::push_piece` meets its contract. Assumes nothing.
 use Prim.Native.Nat.{ℕ}
-use mathlib.Core.Path.{_≡_, sym, ap, _∙_, refl}
+use mathlib.Core.Path.{ap, _∙_}
 use mathlib.Core.Bool.{Bool, cond}
-use mathlib.Core.List.{List, [], _∷_}
+use mathlib.Core.List.{List}
 use lib.ListN.{take}
 use lib.Dec.{eqb}
-use borrow.Author.Tests.{not-true, not-false, eq-eqb, ne-eqb}
-use Rattle.spec.specs.Bytes.{ascii, isin}
+use borrow.Author.Tests.{eq-eqb, ne-eqb}
+use Rattle.spec.specs.Bytes.{ascii}
 use Rattle.spec.specs.Out.{push}
-use Rattle.spec.specs.Md.TextUtils.{wrappedByte}
 use Rattle.text.specs.Url.{urlByte, pieceOf}
 use Rattle.text.proofs.Writing.{alike, keeps-nothing}
-use Rattle.text.proofs.Linking.{byte-backslash, byte-plain, byte-wrapped, byte-other}
 use borrow.Author.Needs.{needs}
-use native.Mathlib.Omega.{arith}
 use Rattle.text.proofs.url.push_piece.Statement.{statement}
 use Rattle.text.proofs.url.push_piece.Tie as tie
 

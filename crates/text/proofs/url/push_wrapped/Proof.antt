@@ -1,13 +1,12 @@
 -- `text::url::push_wrapped` meets its contract. Assumes nothing.
-use mathlib.Core.Path.{_≡_, sym, ap, _∙_, refl}
-use mathlib.Core.List.{List, [], _∷_, _++_}
+use mathlib.Core.Path.{refl}
+use mathlib.Core.List.{_++_}
 use lib.ListN.{take}
 use Rattle.spec.specs.Bytes.{ascii}
 use Rattle.spec.specs.Out.{push}
 use Rattle.spec.specs.Md.TextUtils.{eachByte, wrappedByte, «html_escape»}
-use Rattle.text.proofs.Writing.{Owes, owes-all, owes-step, owes-stop, owes-last, push-both}
+use Rattle.text.proofs.Writing.{owes-all, owes-step, owes-stop, owes-last, push-both}
 use borrow.Author.Needs.{needs}
-use native.Mathlib.Omega.{arith}
 use Rattle.text.proofs.url.push_wrapped.Statement.{statement}
 use Rattle.text.proofs.url.push_wrapped.Tie as tie
 

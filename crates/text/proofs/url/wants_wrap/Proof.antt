@@ -2,8 +2,6 @@
 use Rattle.spec.specs.Bytes.{isin}
 use Rattle.spec.specs.Md.TextUtils.{wantsWrap}
 use Rattle.text.proofs.Reading.{or-false}
-use borrow.Author.Needs.{needs}
-use native.Mathlib.Omega.{arith}
 use Rattle.text.proofs.url.wants_wrap.Statement.{statement}
 use Rattle.text.proofs.url.wants_wrap.Tie as tie
 

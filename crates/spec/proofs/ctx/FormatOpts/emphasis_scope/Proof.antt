@@ -4,7 +4,6 @@ use Rattle.spec.specs.Md.Ctx.{«emphasis_scope»}
 use Rattle.spec.specs.declared.ctx.EmphasisScope.{EmphasisScope}
 use Rattle.spec.specs.declared.ctx.FormatOpts.{FormatOpts}
 use borrow.Author.Needs.{needs}
-use native.Mathlib.Omega.{arith}
 use Rattle.spec.proofs.ctx.FormatOpts.emphasis_scope.Statement.{statement}
 use Rattle.spec.proofs.ctx.FormatOpts.emphasis_scope.Tie as tie
 

@@ -1,8 +1,7 @@
 -- `spec::ctx::ListContext::advance_ol_number` meets its contract. Assumes nothing.
-use mathlib.Core.Path.{_≡_, ap, _∙_, sym, refl}
-use Prim.Native.Nat.{ℕ, _+_, min}
+use mathlib.Core.Path.{ap, _∙_, sym}
+use Prim.Native.Nat.{ℕ, _+_}
 use Rattle.spec.specs.Md.Ctx.{advanced, «advance_ol_number», offsetOf, offset}
-use Rattle.spec.specs.Md.Constants.{«MAX_LIST_NUMBER»}
 use Rattle.spec.specs.declared.ctx.ListKind.{ListKind}
 use Rattle.spec.specs.declared.ctx.ListKind.the-variants.{Ol}
 use Rattle.spec.specs.declared.ctx.FormatOpts.{FormatOpts}

@@ -1,8 +1,8 @@
 -- `spec::ctx::ListContext::new` meets its contract. Assumes nothing.
-use mathlib.Core.Path.{_≡_, ap, _∙_, sym, refl}
+use mathlib.Core.Path.{ap, _∙_}
 use mathlib.Core.Bool.{false}
 use Prim.Native.Nat.{ℕ, _+_}
-use Rattle.spec.specs.Md.Ctx.{listContext, offsetOf, offset, setNode}
+use Rattle.spec.specs.Md.Ctx.{listContext, offset, setNode}
 use Rattle.spec.specs.declared.ctx.FormatOpts.{FormatOpts}
 use Rattle.spec.specs.declared.ctx.ListContext.{ListContext}
 use Rattle.spec.specs.declared.ctx.ListKind.{ListKind}

@@ -1,6 +1,6 @@
 -- `spec::ctx::ListKind::offset` meets its contract. Assumes nothing.
-use mathlib.Core.Path.{_≡_, ap, _∙_, sym, refl}
-use Prim.Native.Nat.{ℕ, _+_, _≤_, max}
+use mathlib.Core.Path.{_≡_, ap, _∙_, sym}
+use Prim.Native.Nat.{_+_, max}
 use lib.ListN.{length}
 use Rattle.spec.specs.Bytes.{decimal}
 use Rattle.spec.specs.Md.Ctx.{offsetOf}
