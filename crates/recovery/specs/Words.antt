@@ -1,0 +1,153 @@
+-- Words: those of a plain text, and words put in one line with a blank between them, which part there again. Assumes nothing.
+use Prim.Native.Nat.{ℕ, zero, suc}
+use mathlib.Core.Path.{_≡_, refl, sym, ap, _∙_}
+use mathlib.Core.Bool.{Bool, true, false, cond, not, _&&_, _||_, true≢false, false≢true}
+use mathlib.Core.List.{List, [], _∷_, _++_, append-nil, append-assoc}
+use lib.Dec.{eqb}
+use borrow.Author.Tests.{eqb-false, ne-eqb}
+use Rattle.spec.specs.Bytes.{Bytes, null, isin, every, white, cutAt, parts, split, filled, words}
+use Rattle.spec.specs.Plain.{without, plainEnds, plainText}
+use Rattle.recovery.specs.Tests.{clash, and-l, and-r, or-l, or-r, not-t, every-imp}
+
+-- ---- the words of plain texts
+
+unfoldable pub kept : ℕ → Bool
+kept b = not (isin b (0 ∷ 11 ∷ 38 ∷ []))
+
+-- a byte of a plain text's words
+unfoldable pub plainByte : ℕ → Bool
+plainByte b = not (white b) && kept b
+
+unfoldable pub plainWord : Bytes → Bool
+plainWord w = not (null w) && every plainByte w
+
+unfoldable pub plainWords : List Bytes → Bool
+plainWords [] = true
+plainWords (w ∷ ws) = plainWord w && plainWords ws
+
+pub plain-bytes : (w : Bytes) → plainWord w ≡ true → every plainByte w ≡ true
+unfolding plainWord
+plain-bytes w h = and-r (not (null w)) _ h
+
+pub plain-black : (b : ℕ) → plainByte b ≡ true → white b ≡ false
+unfolding plainByte
+plain-black b h = not-t (white b) (and-l (not (white b)) _ h)
+
+-- ---- parts
+
+pub parts-word : (w r : Bytes) → every plainByte w ≡ true → parts white (w ++ r) ≡ (w ++ parts white r .0, parts white r .1)
+unfolding every parts cutAt
+parts-word [] r h = refl
+parts-word (b ∷ w) r h = rw (plain-black b (and-l (plainByte b) _ h), parts-word w r (and-r (plainByte b) _ h))
+
+-- the words with a blank before each
+unfoldable pub blanked : List Bytes → Bytes
+blanked [] = []
+blanked (w ∷ ws) = 32 ∷ (w ++ blanked ws)
+
+parts-blanked : (ws : List Bytes) → plainWords ws ≡ true → parts white (blanked ws) ≡ ([], ws)
+unfolding blanked parts plainWords cutAt white isin
+parts-blanked [] h = refl
+parts-blanked (w ∷ ws) h =
+    rw (
+      parts-word w (blanked ws) (plain-bytes w (and-l (plainWord w) _ h)),
+      parts-blanked ws (and-r (plainWord w) _ h),
+      append-nil w,
+    )
+
+pub filled-plain : (ws : List Bytes) → plainWords ws ≡ true → filled ws ≡ ws
+unfolding filled plainWords plainWord
+filled-plain [] h = refl
+filled-plain (w ∷ ws) h =
+    rw (not-t (null w) (and-l (not (null w)) _ (and-l (plainWord w) _ h)), filled-plain ws (and-r (plainWord w) _ h))
+
+-- words in one line part where they were joined
+pub words-line : (w : Bytes) (ws : List Bytes) → plainWords (w ∷ ws) ≡ true → words (w ++ blanked ws) ≡ w ∷ ws
+unfolding words split plainWords
+words-line w ws h =
+    rw (
+      parts-word w (blanked ws) (plain-bytes w (and-l (plainWord w) _ h)),
+      parts-blanked ws (and-r (plainWord w) _ h),
+      append-nil w,
+    )
+    (filled-plain (w ∷ ws) h)
+
+pub words-blanked : (ws : List Bytes) → plainWords ws ≡ true → words (blanked ws) ≡ ws
+unfolding words split filled null
+words-blanked ws h = rw (parts-blanked ws h) (filled-plain ws h)
+
+-- ---- a plain text's words are such words
+
+unfoldable allPlain : List Bytes → Bool
+allPlain [] = true
+allPlain (w ∷ ws) = every plainByte w && allPlain ws
+
+Parted : Bytes × List Bytes → Type 0
+Parted r = (every plainByte (r .0) ≡ true) × (allPlain (r .1) ≡ true)
+
+cut-plain : (t : Bool) (b : ℕ) (r : Bytes × List Bytes) → white b ≡ t → kept b ≡ true → Parted r → Parted (cutAt t b r)
+unfolding cutAt every allPlain Parted plainByte
+cut-plain true b r e k h = (refl, rw (h .0) (h .1))
+cut-plain false b r e k h = (rw (e, k) (h .0), h .1)
+
+parts-plain : (s : Bytes) → every kept s ≡ true → Parted (parts white s)
+unfolding parts every Parted
+parts-plain [] h = (refl, unfold allPlain in refl)
+parts-plain (b ∷ s) h = cut-plain (white b) b (parts white s) refl (and-l (kept b) _ h) (parts-plain s (and-r (kept b) _ h))
+
+plain-word : (w : Bytes) → null w ≡ false → every plainByte w ≡ true → plainWord w ≡ true
+unfolding plainWord
+plain-word w e h = rw (e, h)
+
+filled-all : (ws : List Bytes) → allPlain ws ≡ true → plainWords (filled ws) ≡ true
+unfolding allPlain filled plainWords
+filled-all [] h = refl
+filled-all (w ∷ ws) h = go (null w) refl (filled-all ws (and-r (every plainByte w) _ h))
+  where
+    go : (t : Bool) → null w ≡ t → plainWords (filled ws) ≡ true → plainWords (cond t (filled ws) (w ∷ filled ws)) ≡ true
+    go true e ih = ih
+    go false e ih = rw (plain-word w e (and-l (every plainByte w) _ h)) ih
+
+pub absent : (x : ℕ) (s : Bytes) → isin x s ≡ false → every (λ b. not (eqb b x)) s ≡ true
+unfolding isin every
+absent x [] h = refl
+absent x (b ∷ s) h =
+    rw (ne-eqb b x (λ e. eqb-false x b (or-l (eqb x b) _ h) (sym e))) (absent x s (or-r (eqb x b) _ h))
+
+kept-all : (s : Bytes) → every (λ b. not (eqb b 0)) s ≡ true → every (λ b. not (eqb b 11)) s ≡ true
+    → every (λ b. not (eqb b 38)) s ≡ true → every kept s ≡ true
+unfolding every kept isin
+kept-all [] f g h = refl
+kept-all (b ∷ s) f g h =
+    rw (
+      not-t (eqb b 0) (and-l (not (eqb b 0)) _ f),
+      not-t (eqb b 11) (and-l (not (eqb b 11)) _ g),
+      not-t (eqb b 38) (and-l (not (eqb b 38)) _ h),
+    )
+    (kept-all s (and-r (not (eqb b 0)) _ f) (and-r (not (eqb b 11)) _ g) (and-r (not (eqb b 38)) _ h))
+
+without-kept : (s : Bytes) → without (0 ∷ 11 ∷ 38 ∷ []) s ≡ true → every kept s ≡ true
+unfolding without
+without-kept s h =
+    let more : (not (isin 11 s) && (not (isin 38 s) && true)) ≡ true = and-r (not (isin 0 s)) _ h in
+    let last : (not (isin 38 s) && true) ≡ true = and-r (not (isin 11 s)) _ more in
+    kept-all s (absent 0 s (not-t _ (and-l (not (isin 0 s)) _ h))) (absent 11 s (not-t _ (and-l (not (isin 11 s)) _ more)))
+    (absent 38 s (not-t _ (and-l (not (isin 38 s)) true last)))
+
+words-plain : (s : Bytes) → every kept s ≡ true → plainWords (words s) ≡ true
+unfolding words split Parted
+words-plain s h = filled-all _ (unfold allPlain in rw (parts-plain s h .0) (parts-plain s h .1))
+
+-- what is known of a plain text: its bytes, its words, and that it has some
+pub text-kept : (s : Bytes) → plainText s ≡ true → every kept s ≡ true
+unfolding plainText
+text-kept s h = without-kept s (and-r (not (null (words s))) _ (and-l (not (null (words s)) && without (0 ∷ 11 ∷ 38 ∷ []) s) _ h))
+
+pub text-words : (s : Bytes) → plainText s ≡ true → plainWords (words s) ≡ true
+text-words s h = words-plain s (text-kept s h)
+
+pub text-some : (s : Bytes) → plainText s ≡ true → null (words s) ≡ false
+unfolding plainText
+text-some s h =
+    not-t (null (words s))
+    (and-l (not (null (words s))) _ (and-l (not (null (words s)) && without (0 ∷ 11 ∷ 38 ∷ []) s) _ h))

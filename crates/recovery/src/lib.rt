@@ -1,0 +1,1 @@
+// No code: this crate holds laws about the definitions of `spec`.
