@@ -1,24 +1,24 @@
 -- The reading of a plain sheet's lines, block by block. Assumes nothing.
-use Prim.Native.Nat.{ℕ, zero, suc, _+_, _-_, _≤_, _<_}
+use Prim.Native.Nat.{ℕ, suc, _<_}
 use native.Mathlib.Omega.{arith}
 use mathlib.Core.Path.{_≡_, refl, sym, ap, _∙_, subst, subst₂}
-use mathlib.Core.Bool.{Bool, true, false, cond, not, _&&_, _||_, true≢false, false≢true}
+use mathlib.Core.Bool.{Bool, true, false, cond, _&&_, true≢false, false≢true}
 use mathlib.Core.List.{List, [], _∷_, _++_, append-nil, append-assoc, map}
-use mathlib.Core.Option.{Option, none, some}
-use lib.Dec.{eqb, leb}
+use mathlib.Core.Option.{Option, none}
+use lib.Dec.{eqb}
 use borrow.Author.Tests.{eqb-true}
 use Rattle.spec.specs.Bytes.{Bytes, null, isin, words}
 use Rattle.spec.specs.Names as tag
 use Rattle.spec.specs.Names.{tagOf}
 use Rattle.spec.specs.Tree.{Attr, Forest, nothing, text, comment, element}
-use Rattle.spec.specs.Entries.{Piece, word, Entry, paragraph}
+use Rattle.spec.specs.Entries.{word, Entry, paragraph}
 use Rattle.spec.specs.ListNumber.{firstDue}
-use Rattle.spec.specs.Plain.{plainText, fixedText, noNode, oneText, isList, isWrapper, holdsText, leaf, plainTable, block, blocks, items, lists}
-use Rattle.spec.specs.SheetList.{firstText, wordsOf, isHeading, own, depthInside, dueBehind, entries}
+use Rattle.spec.specs.Plain.{plainText, fixedText, noNode, oneText, isList, isWrapper, holdsText, leaf, plainTable, block, blocks, lists}
+use Rattle.spec.specs.SheetList.{firstText, wordsOf, isHeading, own, entries}
 use Rattle.spec.specs.Reading.Held.{State, state, noLeaf}
 use Rattle.spec.specs.Reading.Step.{kept, step}
 use Rattle.spec.specs.Reading.{readLines}
-use Rattle.recovery.specs.Tests.{and-l, and-r, or-elim, not-t}
+use Rattle.recovery.specs.Tests.{and-l, and-r, or-elim}
 use Rattle.recovery.specs.Words.{plainWords, text-words, text-some}
 use Rattle.recovery.specs.Steps.{Reached, step-empty, read-rule, read-heading, read-paragraph}
 use Rattle.recovery.specs.Fences.{read-fixed}

@@ -1,21 +1,21 @@
 -- The cells of a row: they part where they were joined, and each gives its words. Assumes nothing.
-use Prim.Native.Nat.{ℕ, zero, suc, _+_, _-_, _≤_, _<_, max}
+use Prim.Native.Nat.{ℕ, zero, suc, _-_, max}
 use native.Mathlib.Omega.{arith}
-use mathlib.Core.Path.{_≡_, refl, sym, ap, _∙_}
-use mathlib.Core.Bool.{Bool, true, false, cond, not, _&&_, _||_, and-false, and-true, or-true, true≢false, false≢true}
+use mathlib.Core.Path.{_≡_, refl, ap, _∙_}
+use mathlib.Core.Bool.{Bool, true, false, not}
 use mathlib.Core.List.{List, [], _∷_, _++_, append-nil, append-assoc, map}
-use lib.Dec.{eqb, leb}
+use lib.Dec.{eqb}
 use lib.ListN.{length, replicate}
-use borrow.Author.Tests.{eqb-true, eq-eqb}
-use Rattle.spec.specs.Bytes.{Bytes, ascii, null, same, isin, every, startsWith, white, cutAt, parts, split, filled, words}
-use Rattle.spec.specs.Entries.{Piece, word}
+use borrow.Author.Tests.{eqb-true, not-true}
+use Rattle.spec.specs.Bytes.{Bytes, null, same, isin, every, startsWith, white, cutAt, parts, split, filled, words}
+use Rattle.spec.specs.Entries.{word}
 use Rattle.spec.specs.Reading.Lines.{punctuation, headIs, dropWhile, dropRun}
 use Rattle.spec.specs.Reading.Inline as reading
-use Rattle.spec.specs.Reading.Inline.{escaped, slashed, unescape, behind, anywhere, mark, beginsBy, begins, pieces, inline}
+use Rattle.spec.specs.Reading.Inline.{escaped, slashed, unescape, anywhere, mark, beginsBy, begins, pieces, inline}
 use Rattle.spec.specs.Reading.Tables.{Cells, cellBlank, blankCell, inCell, cellByte, cells, untrailed, piped, rowBy, row, dropColon, hyphens, delimiterCell, delimiterCells, delimiterRow, fit}
-use Rattle.recovery.specs.Tests.{and-l, and-r, and-no, not-t, apart}
-use Rattle.recovery.specs.Words.{plainByte, plainWord, plainWords, plain-bytes, blanked, parts-word, filled-plain}
-use Rattle.recovery.specs.Escapes.{bare, bare-not, Esc, enil, ebare, eback, begins-bare, begins-back, phrase-Esc}
+use Rattle.recovery.specs.Tests.{and-l, and-r, and-no}
+use Rattle.recovery.specs.Words.{plainWord, plainWords, plain-bytes, blanked, parts-word}
+use Rattle.recovery.specs.Escapes.{bare, bare-not, Esc, enil, ebare, eback, begins-bare, begins-back}
 use Rattle.recovery.specs.Closed as closed
 use Rattle.recovery.specs.Closed.{phrase, rowTail, rowLine}
 
@@ -117,7 +117,7 @@ filled-padded : (ws : List Bytes) → plainWords ws ≡ true → filled (ws ++ (
 unfolding filled plainWords plainWord null
 filled-padded [] h = refl
 filled-padded (w ∷ ws) h =
-    rw (not-t (null w) (and-l (not (null w)) _ (and-l (plainWord w) _ h)), filled-padded ws (and-r (plainWord w) _ h))
+    rw (not-true (null w) (and-l (not (null w)) _ (and-l (plainWord w) _ h)), filled-padded ws (and-r (plainWord w) _ h))
 
 words-padded : (w : Bytes) (ws : List Bytes) → plainWords (w ∷ ws) ≡ true → words (padded (w ++ blanked ws)) ≡ w ∷ ws
 unfolding words split padded parts cutAt white isin filled null plainWords

@@ -1,13 +1,12 @@
 -- The lines of a plain sheet hold no line end and no NUL, and the last of them is not empty. Assumes nothing.
-use Prim.Native.Nat.{ℕ, zero, suc, _+_, _-_, _≤_, _<_, max}
-use native.Mathlib.Omega.{arith}
-use mathlib.Core.Path.{_≡_, refl, sym, ap, _∙_, subst}
-use mathlib.Core.Bool.{Bool, true, false, cond, not, _&&_, _||_, true≢false, false≢true}
-use mathlib.Core.List.{List, [], _∷_, _++_, append-nil, append-assoc, map}
+use Prim.Native.Nat.{ℕ, zero, suc, _+_, max}
+use mathlib.Core.Path.{_≡_, refl, sym, ap, subst}
+use mathlib.Core.Bool.{Bool, true, false, cond, not, _&&_, true≢false, false≢true}
+use mathlib.Core.List.{List, [], _∷_, _++_, append-nil, map}
 use mathlib.Core.Option.{Option, none, some}
-use lib.Dec.{eqb, leb}
+use lib.Dec.{eqb}
 use lib.ListN.{length, replicate}
-use borrow.Author.Tests.{eqb-true}
+use borrow.Author.Tests.{eqb-true, not-true}
 use Rattle.spec.specs.Bytes.{Bytes, ascii, null, isin, every, digit, decimal, words}
 use Rattle.spec.specs.Names as tag
 use Rattle.spec.specs.Names.{tagOf}
@@ -17,12 +16,12 @@ use Rattle.spec.specs.Plain as plain
 use Rattle.spec.specs.Plain.{without, plainText, fixedText, noNode, oneText, isCell, isList, isWrapper, holdsText, countNodes, equalRows, tableParts, plainTable, leaf, block, blocks, items, itemContent, lists}
 use Rattle.spec.specs.SheetList.{firstText, allTh, isHeading}
 use Rattle.spec.specs.Md.Elements.Code.{«max_backtick_run»}
-use Rattle.recovery.specs.Tests.{and-l, and-r, or-elim, not-t, apart, every-app, every-imp, every-replicate}
+use Rattle.recovery.specs.Tests.{and-l, and-r, or-elim, apart, every-app, every-imp, every-replicate}
 use Rattle.recovery.specs.Digits.{decimal-digits}
 use Rattle.recovery.specs.Words.{plainWords, text-words, text-some, absent}
 use Rattle.recovery.specs.Escapes.{phrase-Esc, heading-Esc}
 use Rattle.recovery.specs.Joined.{inLine, clean, clean-app, lastSome}
-use Rattle.recovery.specs.Markers.{solid, opens-phrase, opens-solid, solid-null, smallNumber, marker-solid}
+use Rattle.recovery.specs.Markers.{solid, opens-phrase, opens-solid, solid-null, marker-solid}
 use Rattle.recovery.specs.Cells.{in-cell}
 use Rattle.recovery.specs.Tables.{cell-line}
 use Rattle.recovery.specs.TableBlocks.{kids-text, allCells, table-rows}
@@ -226,7 +225,7 @@ fixed-clean : (s : Bytes) → every (λ b. not (eqb b 0)) s ≡ true → every (
 unfolding every fixedLines
 fixed-clean [] h k = unfold clean in refl
 fixed-clean (b ∷ s) h k =
-    byte-clean (eqb b 10) b (fixedLines s) refl (not-t (eqb b 0) (and-l (not (eqb b 0)) _ h)) (not-t (eqb b 13) (and-l (not (eqb b 13)) _ k))
+    byte-clean (eqb b 10) b (fixedLines s) refl (not-true (eqb b 0) (and-l (not (eqb b 0)) _ h)) (not-true (eqb b 13) (and-l (not (eqb b 13)) _ k))
     (fixed-clean s (and-r (not (eqb b 0)) _ h) (and-r (not (eqb b 13)) _ k))
 
 tick-line : inLine 96 ≡ true
@@ -244,7 +243,7 @@ unfolding fixedText without fencedLines
 fixed-full s h =
     full-behind (fenceOf s ∷ []) (fence-full s .whole)
     (full-behind (fixedLines s)
-    (fixed-clean s (absent 0 s (not-t (isin 0 s) (and-l (not (isin 0 s)) _ h))) (absent 13 s (not-t (isin 13 s) (and-l (not (isin 13 s)) true (and-r (not (isin 0 s)) _ h)))))
+    (fixed-clean s (absent 0 s (not-true (isin 0 s) (and-l (not (isin 0 s)) _ h))) (absent 13 s (not-true (isin 13 s) (and-l (not (isin 13 s)) true (and-r (not (isin 0 s)) _ h)))))
     (fence-full s))
 
 -- ---- tables

@@ -1,17 +1,16 @@
 -- Escapes: what is written of words is, for the reading, those words and nothing else. Assumes nothing.
-use Prim.Native.Nat.{ℕ, zero, suc}
-use mathlib.Core.Path.{_≡_, refl, sym, ap, _∙_}
-use mathlib.Core.Bool.{Bool, true, false, cond, not, _&&_, _||_, true≢false, false≢true}
+use Prim.Native.Nat.{ℕ}
+use mathlib.Core.Path.{_≡_, refl, ap, _∙_}
+use mathlib.Core.Bool.{Bool, true, false, cond, not, _&&_, false≢true}
 use mathlib.Core.List.{List, [], _∷_, _++_, map}
-use lib.Dec.{eqb, leb}
-use lib.ListN.{length, take}
+use lib.Dec.{eqb}
 use Rattle.spec.specs.Bytes.{Bytes, ascii, null, same, isin, every, startsWith, white, parts, split, filled, words}
-use Rattle.spec.specs.Entries.{Piece, word, other}
+use Rattle.spec.specs.Entries.{word}
 use Rattle.spec.specs.Md.TextUtils.{isEscaped, escapedFrom, escapedChunk, moreWords}
 use Rattle.spec.specs.Reading.Lines.{punctuation, headIs}
 use Rattle.spec.specs.Reading.Inline as reading
-use Rattle.spec.specs.Reading.Inline.{escaped, slashed, unescape, behind, anywhere, mark, Mark, spaceMark, noMark, beginsBy, begins, pieces, inline}
-use Rattle.recovery.specs.Tests.{clash, and-l, and-r, and-no, or-l, or-r, or-elim, not-t, apart, isin-no, isin-yes, eqb-yes, every-app, every-imp}
+use Rattle.spec.specs.Reading.Inline.{escaped, slashed, unescape, anywhere, mark, spaceMark, noMark, beginsBy, begins, pieces, inline}
+use Rattle.recovery.specs.Tests.{and-l, and-r, and-no, or-l, or-elim, apart, isin-no, isin-yes, eqb-yes}
 use Rattle.recovery.specs.Words.{kept, plainByte, plainWord, plainWords, plain-bytes, blanked, words-line, words-blanked}
 use Rattle.recovery.specs.Closed.{phrase, hash, headingWord, headingWords}
 

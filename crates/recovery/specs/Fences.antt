@@ -1,24 +1,24 @@
 -- Fixed text: a fence shields its content byte for byte, and the content reads back with its final LF. Assumes nothing.
-use Prim.Native.Nat.{ℕ, zero, suc, _+_, _-_, _≤_, _<_, max}
+use Prim.Native.Nat.{ℕ, zero, suc, _+_, _≤_, _<_, max}
 use native.Mathlib.Omega.{arith}
 use mathlib.Core.Path.{_≡_, refl, sym, ap, _∙_}
-use mathlib.Core.Bool.{Bool, true, false, cond, not, _&&_, _||_, and-false, and-true, or-true, true≢false}
+use mathlib.Core.Bool.{Bool, true, false, cond, and-false, or-true}
 use mathlib.Core.List.{List, [], _∷_, _++_, append-nil, append-assoc}
 use lib.Dec.{eqb, leb}
-use lib.ListN.{length, replicate, take, drop}
+use lib.ListN.{length, replicate}
 use borrow.Author.Tests.{eqb-true, le-leb, lt-leb}
 use Rattle.spec.specs.Bytes.{Bytes, ascii, null, same, isin, every, endsWith}
 use Rattle.spec.specs.Entries.{Entry, fixed}
 use Rattle.spec.specs.SheetList.{withFinalLf}
 use Rattle.spec.specs.Md.Elements.Code.{longestRun, «max_backtick_run»}
 use Rattle.spec.specs.Reading.Lines.{spaceOrTab, blankLine, dropWhile, run, dropRun, column, strip, unindent}
-use Rattle.spec.specs.Reading.Starts.{Start, fenceStart, fenceBy, fence, closingFence, lead, startBy, start}
-use Rattle.spec.specs.Reading.Held.{State, state, Leaf, noLeaf, fenceLeaf, closed, entryIf, addLine, isRaw}
+use Rattle.spec.specs.Reading.Starts.{fenceStart, fenceBy, fence, closingFence, lead, startBy, start}
+use Rattle.spec.specs.Reading.Held.{State, state, noLeaf, fenceLeaf, closed, entryIf, addLine, isRaw}
 use Rattle.spec.specs.Reading.Step.{kept, allKept, base, lineBy, rawLine, rawStep, stepBy, step}
 use Rattle.spec.specs.Reading.{readLines}
-use Rattle.recovery.specs.Tests.{and-l, and-r, not-t, or-l, apart}
+use Rattle.recovery.specs.Tests.{apart}
 use Rattle.recovery.specs.Starts.{one-less}
-use Rattle.recovery.specs.Markers.{solid, indented-column, indented-strip}
+use Rattle.recovery.specs.Markers.{solid}
 use Rattle.recovery.specs.Steps.{Reached, step-zero, reached-flat}
 use Rattle.recovery.specs.Closed.{fixedByte, fixedLines, fenceOf, fencedLines}
 

@@ -1,19 +1,17 @@
 -- Headings: the line of a heading reads as a heading of its level, and no word of it is taken for a closing sequence. Assumes nothing.
-use Prim.Native.Nat.{ℕ, zero, suc, _+_, _≤_, _<_}
-use native.Mathlib.Omega.{arith}
-use mathlib.Core.Path.{_≡_, refl, sym, ap, _∙_}
-use mathlib.Core.Bool.{Bool, true, false, cond, not, _&&_, _||_, true≢false, false≢true, and-false, and-true}
-use mathlib.Core.List.{List, [], _∷_, _++_, append-nil, append-assoc, map}
-use lib.Dec.{eqb, leb}
-use lib.ListN.{length, replicate}
-use borrow.Author.Tests.{eqb-true, le-leb}
+use Prim.Native.Nat.{ℕ, zero, suc, _<_}
+use mathlib.Core.Path.{_≡_, refl, ap, _∙_}
+use mathlib.Core.Bool.{Bool, true, false, cond, not, _&&_, true≢false, false≢true, and-true}
+use mathlib.Core.List.{List, [], _∷_, _++_}
+use lib.Dec.{eqb}
+use lib.ListN.{replicate}
+use borrow.Author.Tests.{le-leb, not-true}
 use Rattle.spec.specs.Bytes.{Bytes, null, isin, every, white}
-use Rattle.spec.specs.Entries.{Piece, word}
 use Rattle.spec.specs.Reading.Lines.{spaceOrTab, blankLine, run, dropRun}
-use Rattle.spec.specs.Reading.Starts.{Start, headingStart, closingSequence, withoutClosing, ends, atxHeadingBy, atxHeading, lead, startBy, start}
-use Rattle.recovery.specs.Tests.{clash, and-l, and-r, not-t, apart, every-imp}
-use Rattle.recovery.specs.Words.{kept, plainByte, plainWord, plainWords, plain-bytes, blanked}
-use Rattle.recovery.specs.Escapes.{Esc, every-Esc, every-plain, null-Esc, word-Esc}
+use Rattle.spec.specs.Reading.Starts.{headingStart, closingSequence, withoutClosing, ends, atxHeadingBy, atxHeading, lead, startBy, start}
+use Rattle.recovery.specs.Tests.{and-l, and-r, apart, every-imp}
+use Rattle.recovery.specs.Words.{plainByte, plainWord, plainWords, plain-bytes}
+use Rattle.recovery.specs.Escapes.{every-Esc, every-plain, null-Esc, word-Esc}
 use Rattle.recovery.specs.Closed.{hash, headingWord, headingWords, headingLine}
 
 -- ---- a word of a heading
@@ -32,7 +30,7 @@ word-dense t l w e h =
 
 word-some : (t l : Bool) (w : Bytes) → (l && every hash w) ≡ t → plainWord w ≡ true → null (headingWord t w) ≡ false
 unfolding plainWord
-word-some t l w e h = null-Esc (word-Esc t l w e h) ∙ not-t (null w) (and-l (not (null w)) _ h)
+word-some t l w e h = null-Esc (word-Esc t l w e h) ∙ not-true (null w) (and-l (not (null w)) _ h)
 
 -- ---- runs of #
 
@@ -49,12 +47,12 @@ drop-dense (b ∷ e) t d h = go (eqb b 35) refl h (drop-dense e t (and-r (dense 
     go : (s : Bool) → eqb b 35 ≡ s → (s && every hash e) ≡ false → (every hash e ≡ false → blankLine (dropRun 35 (e ++ t)) ≡ false)
         → blankLine (cond s (dropRun 35 (e ++ t)) (b ∷ (e ++ t))) ≡ false
     go true q h ih = ih h
-    go false q h ih = rw (not-t (spaceOrTab b) (and-l (not (spaceOrTab b)) _ d))
+    go false q h ih = rw (not-true (spaceOrTab b) (and-l (not (spaceOrTab b)) _ d))
 
 dense-blank : (e t : Bytes) → every dense e ≡ true → null e ≡ false → blankLine (e ++ t) ≡ false
 unfolding every blankLine null dense
 dense-blank [] t d h = absurd (true≢false h)
-dense-blank (b ∷ e) t d h = rw (not-t (spaceOrTab b) (and-l (not (spaceOrTab b)) _ d))
+dense-blank (b ∷ e) t d h = rw (not-true (spaceOrTab b) (and-l (not (spaceOrTab b)) _ d))
 
 -- words behind a run of # keep it from closing the heading
 words-blank : (ws : List Bytes) → plainWords ws ≡ true → null ws ≡ false → blankLine (dropRun 35 (headingWords ws)) ≡ false
@@ -85,7 +83,7 @@ keep-dense : (e t : Bytes) → every dense e ≡ true → withoutClosing (e ++ t
 unfolding every withoutClosing dense
 keep-dense [] t d = refl
 keep-dense (b ∷ e) t d =
-    rw (not-t (spaceOrTab b) (and-l (not (spaceOrTab b)) _ d)) (ap (λ (r : Bytes). b ∷ r) (keep-dense e t (and-r (dense b) _ d)))
+    rw (not-true (spaceOrTab b) (and-l (not (spaceOrTab b)) _ d)) (ap (λ (r : Bytes). b ∷ r) (keep-dense e t (and-r (dense b) _ d)))
 
 -- nothing of a heading's words is taken for its closing sequence
 pub heading-kept : (ws : List Bytes) → plainWords ws ≡ true → withoutClosing (headingWords ws) ≡ headingWords ws

@@ -1,45 +1,28 @@
 -- The line of an item: it opens the item at its content column, with its number and its words. Assumes nothing.
-use Prim.Native.Nat.{ℕ, zero, suc, _+_, _-_, _≤_, _<_, max, min}
+use Prim.Native.Nat.{ℕ, zero, suc, _+_, _≤_, _<_, min}
 use native.Mathlib.Omega.{arith}
 use native.Mathlib.Nat.{zero-add}
-use mathlib.Core.Path.{_≡_, refl, sym, ap, _∙_}
-use mathlib.Core.Bool.{Bool, true, false, cond, not, _&&_, _||_, and-false, and-true, true≢false, false≢true}
-use mathlib.Core.List.{List, [], _∷_, _++_, append-nil, append-assoc, map}
+use mathlib.Core.Path.{_≡_, refl, ap, _∙_}
+use mathlib.Core.Bool.{Bool, true, false, _&&_, and-false, false≢true}
+use mathlib.Core.List.{List, [], _∷_, _++_, map}
 use mathlib.Core.Option.{Option, none, some}
-use lib.Dec.{eqb, leb}
-use lib.ListN.{length, length-append, replicate}
+use lib.Dec.{leb}
+use lib.ListN.{length, replicate}
 use borrow.Author.Tests.{leb-true, leb-false, le-leb, lt-leb}
-use Rattle.spec.specs.Bytes.{Bytes, null, isin, every, decimal}
+use Rattle.spec.specs.Bytes.{Bytes, null, every, decimal}
 use Rattle.spec.specs.Entries.{Piece, word, Entry, item}
 use Rattle.spec.specs.ListNumber.{largestNumber}
 use Rattle.spec.specs.Reading.Lines.{spaceOrTab, blankLine, column, width, strip, dropWhile}
-use Rattle.spec.specs.Reading.Inline.{inline}
-use Rattle.spec.specs.Reading.Starts.{Start, itemStart, textStart, start, startIn}
-use Rattle.spec.specs.Reading.Held.{State, state, Leaf, noLeaf, textLeaf, itemRole, closed, textEntries, isRaw, isFresh, isParagraph, isTable, isQuote, addLine, withLine}
-use Rattle.spec.specs.Reading.Step.{
-  kept,
-  allKept,
-  base,
-  contentColumn,
-  textBy,
-  goesOn,
-  textLine,
-  opened,
-  itemLine,
-  Line,
-  lineBy,
-  lineIn,
-  line,
-  leafStep,
-  stepBy,
-  step,
-}
+use Rattle.spec.specs.Reading.Starts.{startIn}
+use Rattle.spec.specs.Reading.Held.{state, Leaf, textLeaf, itemRole, closed, textEntries, isRaw, isFresh, isParagraph, isTable, isQuote, addLine, withLine}
+use Rattle.spec.specs.Reading.Step.{kept, allKept, base, contentColumn, textBy, goesOn, textLine, opened, itemLine, lineBy, lineIn, line, leafStep, stepBy, step}
+use Rattle.spec.specs.Decimal.{length-least}
 use Rattle.recovery.specs.Tests.{and-l, and-r}
-use Rattle.recovery.specs.Digits.{Near, decimal-one, decimal-next}
+use Rattle.recovery.specs.Digits.{Near, decimal-next}
 use Rattle.recovery.specs.Words.{plainWords}
 use Rattle.recovery.specs.Escapes.{inline-phrase}
 use Rattle.recovery.specs.Starts.{start-phrase}
-use Rattle.recovery.specs.Markers.{opens, opens-phrase, opens-definition, opens-solid, solid, solid-null, indented-blank, indented-column, indented-strip, markerWidth, smallNumber, start-item, marker-solid}
+use Rattle.recovery.specs.Markers.{opens, opens-phrase, opens-definition, opens-solid, solid, indented-blank, indented-column, indented-strip, markerWidth, smallNumber, start-item, marker-solid}
 use Rattle.recovery.specs.Closed as closed
 use Rattle.recovery.specs.Closed.{phrase, marker, deeper, interrupts}
 
@@ -152,7 +135,7 @@ unfolding content deeper markerWidth smallNumber largestNumber
 deeper-near i none h = omega arith
 deeper-near i (some n) h =
     let next : Near (length (decimal n)) (length (decimal (min (suc n) 999999999))) = next-digits n (leb-true n 999999999 h) in
-    omega (arith, decimal-one n)
+    omega (arith, length-least n)
 
 pub content-beyond : (i : ℕ) (number : Option ℕ) → i < content i number
 unfolding content

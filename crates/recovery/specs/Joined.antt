@@ -1,17 +1,17 @@
 -- Lines joined by LF: the reading's `lines` gives them back, and empty lines before the first block change nothing. Assumes nothing.
-use Prim.Native.Nat.{ℕ, zero, suc}
-use mathlib.Core.Path.{_≡_, refl, sym, ap, _∙_}
-use mathlib.Core.Bool.{Bool, true, false, cond, not, _&&_, _||_, true≢false, false≢true}
-use mathlib.Core.List.{List, [], _∷_, _++_, append-nil, append-assoc}
+use Prim.Native.Nat.{ℕ}
+use mathlib.Core.Path.{_≡_, refl}
+use mathlib.Core.Bool.{Bool, true, false, cond, not, _&&_}
+use mathlib.Core.List.{List, [], _∷_, _++_, append-nil}
 use lib.Dec.{eqb}
+use borrow.Author.Tests.{not-true}
 use Rattle.spec.specs.Bytes.{Bytes, ascii, null, isin, every, joinRest, join}
 use Rattle.spec.specs.Tree.{Forest}
-use Rattle.spec.specs.Entries.{Entry}
-use Rattle.spec.specs.Reading.Lines.{spaceOrTab, headIs, safeByte, safe, endsLine, lineByte, cutLines, withoutLast, lines, blankLine}
+use Rattle.spec.specs.Reading.Lines.{safeByte, safe, endsLine, lineByte, cutLines, withoutLast, lines, blankLine}
 use Rattle.spec.specs.Reading.Held.{State, state, noLeaf, closed, isRaw, isFresh}
 use Rattle.spec.specs.Reading.Step.{blankStep, leafStep, stepBy, step}
 use Rattle.spec.specs.Reading.{readLines, finish, read}
-use Rattle.recovery.specs.Tests.{and-l, and-r, not-t, apart}
+use Rattle.recovery.specs.Tests.{and-l, and-r, apart}
 use Rattle.recovery.specs.Closed.{fromFirst, sheetLines, closedForm}
 
 -- ---- lines
@@ -82,7 +82,7 @@ cut-rest (l ∷ ls) h =
 last-same : (ls : List Bytes) → lastSome ls ≡ true → withoutLast ls ≡ ls
 unfolding lastSome withoutLast null
 last-same [] h = refl
-last-same (l ∷ []) h = rw (not-t (null l) h)
+last-same (l ∷ []) h = rw (not-true (null l) h)
 last-same (l ∷ m ∷ ls) h = rw (last-same (m ∷ ls) h)
 
 pub lines-join : (ls : List Bytes) → clean ls ≡ true → lastSome ls ≡ true → lines (join (ascii "\n") ls) ≡ ls
@@ -110,7 +110,7 @@ from-clean (l ∷ ls) h = go (null l) (from-clean ls (and-r (every inLine l) _ h
 from-some : (ls : List Bytes) → lastSome ls ≡ true → lastSome (fromFirst ls) ≡ true
 unfolding lastSome fromFirst null
 from-some [] h = refl
-from-some (l ∷ []) h = rw (not-t (null l) h) h
+from-some (l ∷ []) h = rw (not-true (null l) h) h
 from-some (l ∷ m ∷ ls) h = go (null l) (from-some (m ∷ ls) h)
   where
     go : (t : Bool) → lastSome (fromFirst (m ∷ ls)) ≡ true → lastSome (cond t (fromFirst (m ∷ ls)) (l ∷ m ∷ ls)) ≡ true

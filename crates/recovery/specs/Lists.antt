@@ -1,27 +1,27 @@
 -- Lists: the lines of nested lists read as their items, each with its depth, its number and its words. Assumes nothing.
-use Prim.Native.Nat.{ℕ, zero, suc, _+_, _-_, _≤_, _<_, min}
+use Prim.Native.Nat.{ℕ, suc, _+_, _≤_, _<_, min}
 use native.Mathlib.Omega.{arith}
 use mathlib.Core.Path.{_≡_, refl, sym, ap, _∙_, subst₂}
-use mathlib.Core.Bool.{Bool, true, false, cond, not, _&&_, _||_, and-false, and-true, true≢false, false≢true}
+use mathlib.Core.Bool.{Bool, true, false, cond, not, _&&_, _||_, and-false, true≢false, false≢true}
 use mathlib.Core.Logic.{_⊎_, inl, inr, ⊎-elim}
 use mathlib.Core.List.{List, [], _∷_, _++_, append-nil, append-assoc, map}
 use mathlib.Core.Option.{Option, none, some}
-use lib.Dec.{eqb, leb}
+use lib.Dec.{eqb}
 use lib.ListN.{length, length-append}
-use borrow.Author.Tests.{eqb-true, le-leb}
+use borrow.Author.Tests.{eqb-true, le-leb, not-true}
 use Rattle.spec.specs.Bytes.{Bytes, ascii, null, isin, every, words, «trim_ascii_start»}
 use Rattle.spec.specs.Names as tag
 use Rattle.spec.specs.Names.{tagOf}
 use Rattle.spec.specs.Tree.{Attr, attr, Forest, nothing, text, comment, element}
-use Rattle.spec.specs.Entries.{Piece, word, Entry, item}
+use Rattle.spec.specs.Entries.{word, Entry, item}
 use Rattle.spec.specs.ListNumber.{largestNumber, digitsValue, positive, negative, signedValue, listNumber, asNumber, orElse, firstDue, itemValue, itemNumber, nextDue}
 use Rattle.spec.specs.Plain.{plainText, noNode, only, isList, listAttrs, countsOn, items, itemContent, lists}
 use Rattle.spec.specs.SheetList.{firstText, wordsOf, isHeading, own, depthInside, dueBehind, entries}
 use Rattle.spec.specs.Reading.Lines.{blankLine}
 use Rattle.spec.specs.Reading.Held.{State, state, Leaf, noLeaf, textLeaf, itemRole, closed, isRaw, isFresh, isParagraph}
-use Rattle.spec.specs.Reading.Step.{kept, allKept, base, withoutInnermost, blankStep, leafStep, stepBy, step}
+use Rattle.spec.specs.Reading.Step.{kept, allKept, base, blankStep, leafStep, stepBy, step}
 use Rattle.spec.specs.Reading.{readLines, finish}
-use Rattle.recovery.specs.Tests.{and-l, and-r, or-elim, not-t}
+use Rattle.recovery.specs.Tests.{and-l, and-r, or-elim}
 use Rattle.recovery.specs.Words.{plainWords, text-words, text-some}
 use Rattle.recovery.specs.Markers.{opens-phrase, opens-solid, solid-null, smallNumber}
 use Rattle.recovery.specs.Steps.{Reached}
@@ -328,7 +328,7 @@ list-ok name attrs kids rest h =
     let y : b ≡ true = and-r a _ x in
     record {
       isL = and-l (isList (tagOf name)) _ (and-l a _ x);
-      some-item = not-t (noNode kids) (and-l (not (noNode kids)) _ y);
+      some-item = not-true (noNode kids) (and-l (not (noNode kids)) _ y);
       inner = and-r (not (noNode kids)) _ y;
       others = and-r (a && b) _ h;
     }

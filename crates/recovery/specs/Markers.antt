@@ -1,44 +1,22 @@
 -- The beginnings of lines: the first byte of words, the blanks before it, and the markers of items. Assumes nothing.
-use Prim.Native.Nat.{ℕ, zero, suc, _+_, _-_, _≤_, _<_}
+use Prim.Native.Nat.{ℕ, zero, suc, _+_, _≤_}
 use native.Mathlib.Omega.{arith}
-use native.Mathlib.Nat.{add-zero}
-use mathlib.Core.Path.{_≡_, refl, sym, ap, _∙_}
-use mathlib.Core.Bool.{Bool, true, false, cond, not, _&&_, _||_, true≢false, false≢true, and-false, and-true, or-false, or-true}
-use mathlib.Core.List.{List, [], _∷_, _++_, append-nil, append-assoc}
+use mathlib.Core.Path.{_≡_, refl, ap, _∙_}
+use mathlib.Core.Bool.{Bool, true, false, cond, not, _||_, false≢true, or-true}
+use mathlib.Core.List.{List, [], _∷_, _++_, append-assoc}
 use mathlib.Core.Option.{Option, none, some}
 use lib.Dec.{eqb, leb}
 use lib.ListN.{length, replicate}
-use borrow.Author.Tests.{eqb-true, le-leb, leb-true}
+use borrow.Author.Tests.{le-leb, leb-true, not-true}
 use Rattle.spec.specs.Bytes.{Bytes, ascii, null, isin, every, white, digit, takeWhile, valueFrom, decimal}
 use Rattle.spec.specs.ListNumber.{largestNumber}
-use Rattle.spec.specs.Md.TextUtils.{«is_ordered_list_marker», isEscaped, escapedFrom, escapedChunk, moreWords}
+use Rattle.spec.specs.Md.TextUtils.{isEscaped, escapedFrom, escapedChunk, moreWords}
 use Rattle.spec.specs.Reading.Lines.{spaceOrTab, blankLine, dropWhile, dropRun, column, width, strip}
 use Rattle.spec.specs.Reading.Definitions.{definition}
-use Rattle.spec.specs.Reading.Starts.{
-  Start,
-  textStart,
-  itemStart,
-  thematicBreak,
-  ends,
-  underline,
-  bulletBy,
-  bullet,
-  ruleOr,
-  numberBy,
-  number,
-  Lead,
-  digitLead,
-  lead,
-  startBy,
-  start,
-  startsAtOne,
-  startIf,
-  interrupting,
-  underlineOr,
-  startIn,
-}
-use Rattle.recovery.specs.Tests.{and-l, and-r, and-no, or-l, or-r, or-elim, not-t, apart}
-use Rattle.recovery.specs.Digits.{decimal-value, decimal-digits, decimal-nine, decimal-one}
+use Rattle.spec.specs.Reading.Starts.{itemStart, thematicBreak, ends, underline, bulletBy, bullet, ruleOr, numberBy, number, digitLead, lead, startBy, start, startsAtOne, startIf, interrupting, underlineOr, startIn}
+use Rattle.spec.specs.Decimal.{length-nine, length-least}
+use Rattle.recovery.specs.Tests.{and-l, and-r, apart}
+use Rattle.recovery.specs.Digits.{decimal-value, decimal-digits}
 use Rattle.recovery.specs.Words.{kept, plainByte, plainWord, plainWords, plain-bytes}
 use Rattle.recovery.specs.Starts.{mild, bare-mild}
 use Rattle.recovery.specs.Closed.{phrase, marker, interrupts}
@@ -97,17 +75,17 @@ solid-null (b ∷ r) h = refl
 solid-blank : (r : Bytes) → solid r ≡ true → blankLine r ≡ false
 unfolding solid blankLine every
 solid-blank [] h = absurd (false≢true h)
-solid-blank (b ∷ r) h = rw (not-t (spaceOrTab b) h)
+solid-blank (b ∷ r) h = rw (not-true (spaceOrTab b) h)
 
 solid-column : (c : ℕ) (r : Bytes) → solid r ≡ true → column c r ≡ c
 unfolding solid column
 solid-column c [] h = absurd (false≢true h)
-solid-column c (b ∷ r) h = rw (not-t (spaceOrTab b) h)
+solid-column c (b ∷ r) h = rw (not-true (spaceOrTab b) h)
 
 solid-strip : (r : Bytes) → solid r ≡ true → strip r ≡ r
 unfolding solid strip dropWhile
 solid-strip [] h = absurd (false≢true h)
-solid-strip (b ∷ r) h = rw (not-t (spaceOrTab b) h)
+solid-strip (b ∷ r) h = rw (not-true (spaceOrTab b) h)
 
 -- i blanks and then r
 pub indented-blank : (i : ℕ) (r : Bytes) → solid r ≡ true → blankLine (replicate i 32 ++ r) ≡ false
@@ -179,7 +157,7 @@ start-digits (b ∷ ds) t h k l =
 start-number : (n : ℕ) (t : Bytes) → n ≤ 999999999
     → start (decimal n ++ (46 ∷ 32 ∷ t)) ≡ itemStart (some n) (suc (length (decimal n))) (32 ∷ t)
 start-number n t h =
-    start-digits (decimal n) t (decimal-digits n) (decimal-one n) (decimal-nine n h)
+    start-digits (decimal n) t (decimal-digits n) (length-least n) (length-nine n h)
     ∙ ap (λ (v : ℕ). itemStart (some v) (suc (length (decimal n))) (32 ∷ t)) (decimal-value n)
 
 -- ---- the markers of items
@@ -211,7 +189,7 @@ marker-underline : (number : Option ℕ) (t : Bytes) → opens t ≡ true → un
 unfolding marker underline dropRun blankLine every spaceOrTab
 marker-underline none t h = solid-blank t (opens-solid t h)
 marker-underline (some n) t h =
-    rw (append-assoc (decimal n) (46 ∷ 32 ∷ []) t) (digits-underline (decimal n) (46 ∷ 32 ∷ t) (decimal-digits n) (decimal-one n))
+    rw (append-assoc (decimal n) (46 ∷ 32 ∷ []) t) (digits-underline (decimal n) (46 ∷ 32 ∷ t) (decimal-digits n) (length-least n))
 
 starts-at-one : (number : Option ℕ) → startsAtOne number ≡ interrupts number
 unfolding startsAtOne interrupts
@@ -241,4 +219,4 @@ pub marker-solid : (number : Option ℕ) (t : Bytes) → solid (marker number ++
 unfolding marker solid spaceOrTab
 marker-solid none t = refl
 marker-solid (some n) t =
-    rw (append-assoc (decimal n) (46 ∷ 32 ∷ []) t) (digits-solid (decimal n) (46 ∷ 32 ∷ t) (decimal-digits n) (decimal-one n))
+    rw (append-assoc (decimal n) (46 ∷ 32 ∷ []) t) (digits-solid (decimal n) (46 ∷ 32 ∷ t) (decimal-digits n) (length-least n))

@@ -1,13 +1,13 @@
 -- List numbers: the writer's `parse_list_number` is the number of document 01, for every value. Assumes nothing.
 use Prim.Native.Nat.{ℕ, zero, suc, _+_, _-_, _*_, _≤_, _<_, min}
 use native.Mathlib.Omega.{arith}
-use mathlib.Core.Path.{_≡_, refl, sym, ap, _∙_}
-use mathlib.Core.Bool.{Bool, true, false, cond, not, _&&_, _||_}
-use mathlib.Core.List.{List, [], _∷_, _++_}
+use mathlib.Core.Path.{_≡_, refl, ap}
+use mathlib.Core.Bool.{Bool, true, false, cond, _&&_, _||_}
+use mathlib.Core.List.{List, [], _∷_}
 use mathlib.Core.Option.{Option, none, some}
 use lib.Dec.{eqb, leb, ltb}
-use lib.ListN.{length, take, drop}
-use borrow.Author.Tests.{eqb-true, eqb-false, ltb-true, ltb-false, leb-true}
+use lib.ListN.{length, drop}
+use borrow.Author.Tests.{eqb-true, eqb-false, ltb-true, leb-true}
 use Rattle.spec.specs.Bytes.{Bytes, ascii, null, same, every, startsWith, white, digit, «trim_start_matches», «trim_ascii_start», takeWhile, valueFrom}
 use Rattle.spec.specs.ListNumber.{largestNumber, digitsValue, positive, negative, signedValue, listNumber, asNumber, orElse}
 use Rattle.spec.specs.Tree.{Attr, attr}

@@ -1,5 +1,5 @@
 -- The reading's half of demand 3: the reading of the closed form is the sheet's list. Assumes nothing.
-use mathlib.Core.Path.{_≡_, refl, _∙_}
+use mathlib.Core.Path.{_≡_, _∙_}
 use mathlib.Core.Bool.{true}
 use mathlib.Core.List.{[]}
 use Rattle.spec.specs.Tree.{Forest}

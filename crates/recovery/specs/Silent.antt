@@ -1,16 +1,15 @@
 -- What stands inside a leaf gives nothing to the sheet's list. Assumes nothing.
-use Prim.Native.Nat.{ℕ, zero, suc}
-use mathlib.Core.Path.{_≡_, refl, sym, ap, _∙_}
-use mathlib.Core.Bool.{Bool, true, false, cond, not, _&&_, _||_, true≢false, false≢true}
-use mathlib.Core.List.{List, [], _∷_, _++_, append-nil}
-use mathlib.Core.Option.{Option, none, some}
+use Prim.Native.Nat.{ℕ}
+use mathlib.Core.Path.{_≡_, refl}
+use mathlib.Core.Bool.{Bool, true, false, cond, _&&_, false≢true}
+use mathlib.Core.List.{List, [], _∷_, _++_}
+use mathlib.Core.Option.{Option, none}
 use lib.Dec.{eqb}
 use borrow.Author.Tests.{eqb-true}
 use Rattle.spec.specs.Bytes.{Bytes, null, isin}
 use Rattle.spec.specs.Names as tag
 use Rattle.spec.specs.Names.{tagOf}
 use Rattle.spec.specs.Tree.{Attr, Forest, nothing, text, comment, element}
-use Rattle.spec.specs.Entries.{Entry}
 use Rattle.spec.specs.ListNumber.{firstDue, itemNumber, nextDue}
 use Rattle.spec.specs.Plain as plain
 use Rattle.spec.specs.Plain.{plainText, fixedText, noNode, oneText, isCell, isRowGroup, isList, isWrapper, holdsText, tableParts, plainTable, leaf}

@@ -1,17 +1,17 @@
 -- An escaped line begins no block: at the beginning of a line or of an item, words are text. Assumes nothing.
-use Prim.Native.Nat.{ℕ, zero, suc, _+_, _-_}
+use Prim.Native.Nat.{ℕ, suc, _-_}
 use native.Mathlib.Omega.{arith}
 use mathlib.Core.Path.{_≡_, refl, sym, ap, _∙_}
-use mathlib.Core.Bool.{Bool, true, false, cond, not, _&&_, _||_, true≢false, false≢true, and-false, and-true, or-false, or-true}
+use mathlib.Core.Bool.{Bool, true, false, cond, not, _&&_, _||_, true≢false, false≢true, and-false, and-true, or-false}
 use mathlib.Core.List.{List, [], _∷_, _++_}
 use lib.Dec.{eqb, leb}
 use lib.ListN.{length, take, drop}
 use borrow.Author.Tests.{eqb-true}
-use Rattle.spec.specs.Bytes.{Bytes, ascii, null, same, isin, every, startsWith, endsWith, white, digit, takeWhile}
+use Rattle.spec.specs.Bytes.{Bytes, ascii, null, same, isin, every, endsWith, white, digit}
 use Rattle.spec.specs.Md.TextUtils.{«is_ordered_list_marker», isEscaped, escapedFrom, escapedChunk, moreWords}
 use Rattle.spec.specs.Reading.Lines.{spaceOrTab, dropWhile}
-use Rattle.spec.specs.Reading.Starts.{Start, textStart, ends, numberBy, number, Lead, digitLead, otherLead, lead, startBy, start}
-use Rattle.recovery.specs.Tests.{clash, and-l, and-r, and-no, or-l, or-r, or-elim, not-t, apart, isin-no, isin-yes, eqb-yes}
+use Rattle.spec.specs.Reading.Starts.{textStart, ends, numberBy, number, digitLead, otherLead, lead, startBy, start}
+use Rattle.recovery.specs.Tests.{and-l, and-r, or-l, or-r, or-elim, apart, isin-no}
 use Rattle.recovery.specs.Words.{kept, plainByte, plainWord, plainWords, plain-bytes}
 use Rattle.recovery.specs.Closed.{phrase}
 
@@ -24,10 +24,6 @@ dot b = eqb b 46 || eqb b 41
 unfoldable pub dotEnds : Bytes → Bool
 dotEnds [] = false
 dotEnds (b ∷ w) = cond (digit b) (dotEnds w) (dot b && null w)
-
-digit-dot : (b : ℕ) → digit b ≡ true → dot b ≡ false
-unfolding dot digit
-digit-dot b h = rw (apart digit b 46 h refl, apart digit b 41 h refl)
 
 dot-digit : (b : ℕ) → dot b ≡ true → digit b ≡ false
 unfolding dot digit

@@ -1,45 +1,25 @@
 -- The reading of blocks that are one line: a rule, a heading, a paragraph, behind an empty line. Assumes nothing.
-use Prim.Native.Nat.{ℕ, zero, suc, _+_, _-_, _≤_, _<_}
-use mathlib.Core.Path.{_≡_, refl, sym, ap, _∙_}
-use mathlib.Core.Bool.{Bool, true, false, cond, not, _&&_, _||_, and-false}
-use mathlib.Core.List.{List, [], _∷_, _++_, append-nil, append-assoc, map}
-use mathlib.Core.Option.{Option, none, some}
-use lib.Dec.{eqb, leb}
-use lib.ListN.{length, replicate}
-use Rattle.spec.specs.Bytes.{Bytes, ascii, null, isin, every}
-use Rattle.spec.specs.Entries.{Piece, word, Entry, rule, heading, paragraph}
-use Rattle.spec.specs.Reading.Lines.{spaceOrTab, blankLine, column, strip}
+use Prim.Native.Nat.{ℕ, suc, _<_}
+use mathlib.Core.Path.{_≡_, refl, ap}
+use mathlib.Core.Bool.{true, false, and-false}
+use mathlib.Core.List.{List, [], _∷_, _++_, append-nil, map}
+use lib.ListN.{length}
+use Rattle.spec.specs.Bytes.{Bytes, ascii, null, every}
+use Rattle.spec.specs.Entries.{word, Entry, rule, heading, paragraph}
+use Rattle.spec.specs.Reading.Lines.{spaceOrTab, blankLine}
 use Rattle.spec.specs.Reading.Inline.{inline}
 use Rattle.spec.specs.Reading.Definitions.{definition}
-use Rattle.spec.specs.Reading.Starts.{Start, textStart, ruleStart, headingStart, thematicBreak, ruleOr, bullet, lead, startBy, start, startIn}
-use Rattle.spec.specs.Reading.Held.{State, state, Leaf, noLeaf, textLeaf, freeRole, closed, textEntries, isRaw, isFresh, isParagraph, isTable, isQuote}
-use Rattle.spec.specs.Reading.Step.{
-  kept,
-  allKept,
-  base,
-  alone,
-  roleIn,
-  textBy,
-  goesOn,
-  textLine,
-  oneLine,
-  Line,
-  lineBy,
-  lineIn,
-  line,
-  blankStep,
-  leafStep,
-  stepBy,
-  step,
-}
-use Rattle.spec.specs.Reading.{readLines, finish}
+use Rattle.spec.specs.Reading.Starts.{ruleStart, thematicBreak, ruleOr, bullet, lead, startBy, start, startIn}
+use Rattle.spec.specs.Reading.Held.{State, state, noLeaf, textLeaf, freeRole, closed, textEntries, isRaw, isFresh, isParagraph, isTable, isQuote}
+use Rattle.spec.specs.Reading.Step.{kept, allKept, base, alone, roleIn, textBy, goesOn, textLine, oneLine, lineBy, lineIn, line, blankStep, leafStep, stepBy, step}
+use Rattle.spec.specs.Reading.{finish}
 use Rattle.recovery.specs.Words.{plainWords}
 use Rattle.recovery.specs.Escapes.{inline-phrase, inline-heading}
 use Rattle.recovery.specs.Starts.{start-phrase}
 use Rattle.recovery.specs.Markers.{opens, opens-phrase, opens-definition, opens-solid, solid, solid-null, indented-blank, indented-column, indented-strip}
 use Rattle.recovery.specs.Headings.{start-heading}
 use Rattle.recovery.specs.Joined.{begun}
-use Rattle.recovery.specs.Closed.{phrase, headingWords, headingLine}
+use Rattle.recovery.specs.Closed.{phrase, headingLine}
 
 -- ---- what the reading has reached
 

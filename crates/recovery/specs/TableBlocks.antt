@@ -1,34 +1,34 @@
 -- A plain table's lines read as the table of the sheet's list. Assumes nothing.
-use Prim.Native.Nat.{ℕ, zero, suc, _+_, _-_, _≤_, _<_}
+use Prim.Native.Nat.{ℕ, zero, suc, _≤_}
 use native.Mathlib.Omega.{arith}
 use mathlib.Core.Path.{_≡_, refl, sym, ap, ap₂, _∙_}
-use mathlib.Core.Bool.{Bool, true, false, cond, not, _&&_, _||_, true≢false, false≢true}
-use mathlib.Core.List.{List, [], _∷_, _++_, append-nil, map}
-use mathlib.Core.Option.{Option, none, some}
+use mathlib.Core.Bool.{Bool, true, false, cond, _&&_, _||_, true≢false, false≢true}
+use mathlib.Core.List.{List, [], _∷_, _++_, map}
+use mathlib.Core.Option.{none, some}
 use lib.Dec.{eqb, leb}
 use lib.ListN.{length, length-replicate, replicate}
 use borrow.Author.Tests.{eqb-true, leb-true}
-use Rattle.spec.specs.Bytes.{Bytes, null, isin, every, white, parts, cutAt, split, filled, words}
+use Rattle.spec.specs.Bytes.{Bytes, null, isin, white, parts, cutAt, split, filled, words}
 use Rattle.spec.specs.Names as tag
 use Rattle.spec.specs.Names.{tagOf}
 use Rattle.spec.specs.Tree.{Attr, Forest, nothing, text, comment, element}
 use Rattle.spec.specs.Entries.{Piece, word, Entry, table}
 use Rattle.spec.specs.Plain as plain
-use Rattle.spec.specs.Plain.{plainText, noNode, oneText, isCell, isRowGroup, countNodes, allHave, equalRows, tableParts, plainTable}
+use Rattle.spec.specs.Plain.{plainText, oneText, isCell, isRowGroup, countNodes, allHave, equalRows, tableParts, plainTable}
 use Rattle.spec.specs.SheetList as list
 use Rattle.spec.specs.SheetList.{firstText, wordsOf, cellsOf, allTh}
 use Rattle.spec.specs.Reading.Inline.{inline}
 use Rattle.spec.specs.Reading.Held as held
-use Rattle.spec.specs.Reading.Held.{State, state, noLeaf, blankRow, headings, cellPieces}
+use Rattle.spec.specs.Reading.Held.{state, noLeaf, blankRow, headings, cellPieces}
 use Rattle.spec.specs.Reading.Step.{kept}
 use Rattle.spec.specs.Reading.{readLines}
-use Rattle.recovery.specs.Tests.{and-l, and-r, or-elim, not-t}
+use Rattle.recovery.specs.Tests.{and-l, and-r, or-elim}
 use Rattle.recovery.specs.Words.{plainWords, blanked, text-words, text-some}
-use Rattle.recovery.specs.Escapes.{bare, phrase-Esc}
+use Rattle.recovery.specs.Escapes.{phrase-Esc}
 use Rattle.recovery.specs.Cells.{Celled, cnil, cbare, InCell, in-cell, padded, padded-Celled, inline-Celled, inline-padded, Rowed, rnil, rcons, paddedAll, blank-bare}
 use Rattle.recovery.specs.Tables.{Rows, lastRow, moreRows, rowLines, paddedRows, read-table}
 use Rattle.recovery.specs.Steps.{Reached}
-use Rattle.recovery.specs.Closed.{phrase, cellPhrases, rowLine, hyphens, dataLines, underHeadings, blankHeadings, tableBy, tableLines}
+use Rattle.recovery.specs.Closed.{phrase, cellPhrases, rowLine, dataLines, underHeadings, blankHeadings, tableBy, tableLines}
 
 -- ---- cells
 

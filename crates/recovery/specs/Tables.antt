@@ -1,17 +1,16 @@
 -- Tables: the lines of a table read as its headings and rows. Assumes nothing.
-use Prim.Native.Nat.{ℕ, zero, suc, _+_, _-_, _≤_, _<_}
-use native.Mathlib.Omega.{arith}
+use Prim.Native.Nat.{ℕ}
 use mathlib.Core.Path.{_≡_, refl, sym, ap, _∙_}
-use mathlib.Core.Bool.{Bool, true, false, cond, not, _&&_, _||_, and-false, and-true, true≢false, false≢true}
+use mathlib.Core.Bool.{Bool, true, false, and-false}
 use mathlib.Core.List.{List, [], _∷_, _++_, append-nil, append-assoc, map}
-use lib.Dec.{eqb, leb}
+use lib.Dec.{eqb}
 use lib.ListN.{length, length-map}
 use borrow.Author.Tests.{eqb-false, ne-eqb, eq-eqb}
 use Rattle.spec.specs.Bytes.{Bytes, null, isin, every, digit, cutAt, parts, split}
-use Rattle.spec.specs.Entries.{Piece, word, Entry}
-use Rattle.spec.specs.Reading.Lines.{spaceOrTab, punctuation, blankLine, column, strip}
-use Rattle.spec.specs.Reading.Starts.{Start, textStart, underline, interrupting, underlineOr, lead, startBy, start, startIn}
-use Rattle.spec.specs.Reading.Tables.{row, delimiterRow, fit}
+use Rattle.spec.specs.Entries.{Entry}
+use Rattle.spec.specs.Reading.Lines.{spaceOrTab, punctuation, blankLine}
+use Rattle.spec.specs.Reading.Starts.{textStart, underline, interrupting, underlineOr, lead, startBy, start, startIn}
+use Rattle.spec.specs.Reading.Tables.{row}
 use Rattle.spec.specs.Reading.Held as held
 use Rattle.spec.specs.Reading.Held.{
   State,

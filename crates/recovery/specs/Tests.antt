@@ -2,14 +2,11 @@
 use Prim.Native.Nat.{ℕ, zero, suc}
 use mathlib.Core.Path.{_≡_, refl, sym, ap, _∙_}
 use mathlib.Core.Bool.{Bool, true, false, not, _&&_, _||_, true≢false, false≢true}
-use mathlib.Core.List.{List, [], _∷_, _++_}
+use mathlib.Core.List.{[], _∷_, _++_}
 use lib.Dec.{eqb}
 use lib.ListN.{replicate}
-use borrow.Author.Tests.{eqb-true, ne-eqb}
+use borrow.Author.Tests.{not-true, eqb-true, ne-eqb}
 use Rattle.spec.specs.Bytes.{Bytes, isin, every}
-
-pub clash {ℓ} : {A : Type ℓ} (b : Bool) → b ≡ true → b ≡ false → A
-clash b p q = absurd (true≢false (sym p ∙ q))
 
 pub and-l : (a b : Bool) → (a && b) ≡ true → a ≡ true
 and-l true b h = refl
@@ -35,10 +32,6 @@ pub and-no : (a b : Bool) → b ≡ false → (a && b) ≡ false
 and-no true b h = h
 and-no false b h = refl
 
-pub not-t : (a : Bool) → not a ≡ true → a ≡ false
-not-t true h = sym h
-not-t false h = refl
-
 -- a class has b, and not x: they differ
 pub apart : (q : ℕ → Bool) (b x : ℕ) → q b ≡ true → q x ≡ false → eqb b x ≡ false
 apart q b x p n = ne-eqb b x (λ e. true≢false (sym p ∙ (ap q e ∙ n)))
@@ -48,7 +41,7 @@ pub isin-no : (q : ℕ → Bool) (b : ℕ) (l : Bytes) → q b ≡ true → ever
 unfolding isin every
 isin-no q b [] p h = refl
 isin-no q b (x ∷ l) p h =
-    rw (apart q b x p (not-t (q x) (and-l (not (q x)) _ h)), isin-no q b l p (and-r (not (q x)) _ h))
+    rw (apart q b x p (not-true (q x) (and-l (not (q x)) _ h)), isin-no q b l p (and-r (not (q x)) _ h))
 
 -- b is one of l, and a class has all of l
 pub isin-yes : (q : ℕ → Bool) (b : ℕ) (l : Bytes) → isin b l ≡ true → every q l ≡ true → q b ≡ true

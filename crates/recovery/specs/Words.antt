@@ -1,13 +1,13 @@
 -- Words: those of a plain text, and words put in one line with a blank between them, which part there again. Assumes nothing.
-use Prim.Native.Nat.{ℕ, zero, suc}
-use mathlib.Core.Path.{_≡_, refl, sym, ap, _∙_}
-use mathlib.Core.Bool.{Bool, true, false, cond, not, _&&_, _||_, true≢false, false≢true}
-use mathlib.Core.List.{List, [], _∷_, _++_, append-nil, append-assoc}
+use Prim.Native.Nat.{ℕ}
+use mathlib.Core.Path.{_≡_, refl, sym}
+use mathlib.Core.Bool.{Bool, true, false, cond, not, _&&_}
+use mathlib.Core.List.{List, [], _∷_, _++_, append-nil}
 use lib.Dec.{eqb}
-use borrow.Author.Tests.{eqb-false, ne-eqb}
+use borrow.Author.Tests.{eqb-false, ne-eqb, not-true}
 use Rattle.spec.specs.Bytes.{Bytes, null, isin, every, white, cutAt, parts, split, filled, words}
-use Rattle.spec.specs.Plain.{without, plainEnds, plainText}
-use Rattle.recovery.specs.Tests.{clash, and-l, and-r, or-l, or-r, not-t, every-imp}
+use Rattle.spec.specs.Plain.{without, plainText}
+use Rattle.recovery.specs.Tests.{and-l, and-r, or-l, or-r}
 
 -- ---- the words of plain texts
 
@@ -31,7 +31,7 @@ plain-bytes w h = and-r (not (null w)) _ h
 
 pub plain-black : (b : ℕ) → plainByte b ≡ true → white b ≡ false
 unfolding plainByte
-plain-black b h = not-t (white b) (and-l (not (white b)) _ h)
+plain-black b h = not-true (white b) (and-l (not (white b)) _ h)
 
 -- ---- parts
 
@@ -59,7 +59,7 @@ pub filled-plain : (ws : List Bytes) → plainWords ws ≡ true → filled ws �
 unfolding filled plainWords plainWord
 filled-plain [] h = refl
 filled-plain (w ∷ ws) h =
-    rw (not-t (null w) (and-l (not (null w)) _ (and-l (plainWord w) _ h)), filled-plain ws (and-r (plainWord w) _ h))
+    rw (not-true (null w) (and-l (not (null w)) _ (and-l (plainWord w) _ h)), filled-plain ws (and-r (plainWord w) _ h))
 
 -- words in one line part where they were joined
 pub words-line : (w : Bytes) (ws : List Bytes) → plainWords (w ∷ ws) ≡ true → words (w ++ blanked ws) ≡ w ∷ ws
@@ -120,9 +120,9 @@ unfolding every kept isin
 kept-all [] f g h = refl
 kept-all (b ∷ s) f g h =
     rw (
-      not-t (eqb b 0) (and-l (not (eqb b 0)) _ f),
-      not-t (eqb b 11) (and-l (not (eqb b 11)) _ g),
-      not-t (eqb b 38) (and-l (not (eqb b 38)) _ h),
+      not-true (eqb b 0) (and-l (not (eqb b 0)) _ f),
+      not-true (eqb b 11) (and-l (not (eqb b 11)) _ g),
+      not-true (eqb b 38) (and-l (not (eqb b 38)) _ h),
     )
     (kept-all s (and-r (not (eqb b 0)) _ f) (and-r (not (eqb b 11)) _ g) (and-r (not (eqb b 38)) _ h))
 
@@ -131,8 +131,8 @@ unfolding without
 without-kept s h =
     let more : (not (isin 11 s) && (not (isin 38 s) && true)) ≡ true = and-r (not (isin 0 s)) _ h in
     let last : (not (isin 38 s) && true) ≡ true = and-r (not (isin 11 s)) _ more in
-    kept-all s (absent 0 s (not-t _ (and-l (not (isin 0 s)) _ h))) (absent 11 s (not-t _ (and-l (not (isin 11 s)) _ more)))
-    (absent 38 s (not-t _ (and-l (not (isin 38 s)) true last)))
+    kept-all s (absent 0 s (not-true _ (and-l (not (isin 0 s)) _ h))) (absent 11 s (not-true _ (and-l (not (isin 11 s)) _ more)))
+    (absent 38 s (not-true _ (and-l (not (isin 38 s)) true last)))
 
 words-plain : (s : Bytes) → every kept s ≡ true → plainWords (words s) ≡ true
 unfolding words split Parted
@@ -149,5 +149,5 @@ text-words s h = words-plain s (text-kept s h)
 pub text-some : (s : Bytes) → plainText s ≡ true → null (words s) ≡ false
 unfolding plainText
 text-some s h =
-    not-t (null (words s))
+    not-true (null (words s))
     (and-l (not (null (words s))) _ (and-l (not (null (words s)) && without (0 ∷ 11 ∷ 38 ∷ []) s) _ h))

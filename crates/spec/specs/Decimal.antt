@@ -10,7 +10,7 @@ use lib.ListN.{length, length-append}
 use Rattle.spec.specs.Bytes.{Bytes, digitsOf, decimal}
 
 -- n has one digit, or more
-few : {P : Type 0} (n : ℕ) → (n < 10 → P) → (10 ≤ n → P) → P
+pub few : {P : Type 0} (n : ℕ) → (n < 10 → P) → (10 ≤ n → P) → P
 few {P} n f g = go (ltb n 10) refl
   where
     go : (t : Bool) → ltb n 10 ≡ t → P
@@ -52,6 +52,10 @@ length-most (suc k) n h =
     few n
     (λ (s : n < 10). omega (arith, length-one n s))
     (λ (s : 10 ≤ n). omega (arith, length-more n s, length-most k (n / 10) (omega arith)))
+
+-- a list number has at most nine
+pub length-nine : (n : ℕ) → n ≤ 999999999 → length (decimal n) ≤ 9
+length-nine n h = length-most 8 n (omega arith)
 
 -- a u32 has at most ten
 pub length-ten : (n : ℕ) → n < 4294967296 → length (decimal n) ≤ 10

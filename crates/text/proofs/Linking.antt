@@ -2,10 +2,10 @@
 use Prim.Native.Nat.{ℕ, zero, suc, _+_, _-_, _≤_, _<_}
 use mathlib.Core.Path.{_≡_, refl, sym, ap, subst, _∙_}
 use mathlib.Core.Bool.{Bool, true, false, cond, not, _&&_, _||_, false≢true}
-use mathlib.Core.List.{List, [], _∷_, _++_, append-assoc}
+use mathlib.Core.List.{List, [], _∷_, _++_, append-nil, append-assoc}
 use native.Mathlib.Omega.{arith}
 use native.Mathlib.Numerals.{add-one}
-use lib.ListN.{length, drop, getD}
+use lib.ListN.{length, drop, getD, drop-of-length-le}
 use lib.Seq.{drop-cons}
 use lib.Dec.{eqb}
 use borrow.Author.Tests.{ne-eqb, eqb-true}
@@ -65,15 +65,9 @@ module _ (s : List ℕ) (n i : ℕ) (h : i < length s) where
   pub wraps-on : breaking n (getD s i 0) ≡ false → needsWrap n (drop i s) ≡ needsWrap (balanced n (getD s i 0)) (drop (i + 1) s)
   wraps-on e = ap (needsWrap n) (drop-cons s i 0 h) ∙ wrap-false n (getD s i 0) (drop (suc i) s) e ∙ ap (λ (j : ℕ). needsWrap (balanced n (getD s i 0)) (drop j s)) (sym (add-one i))
 
-none : (l : List ℕ) (j : ℕ) → length l ≤ j → drop j l ≡ []
-none [] zero k = refl
-none [] (suc j) k = refl
-none (x ∷ l) zero k = absurd (omega arith)
-none (x ∷ l) (suc j) k = none l j (omega arith)
-
 pub wraps-end : (s : List ℕ) (n i : ℕ) → length s ≤ i → needsWrap n (drop i s) ≡ not (eqb n 0)
 unfolding needsWrap
-wraps-end s n i h = ap (needsWrap n) (none s i h)
+wraps-end s n i h = ap (needsWrap n) (drop-of-length-le s h)
 
 -- ---- the replacements of html_escape have no part in that
 
@@ -142,10 +136,6 @@ url-plain dest t e = rw (html-same dest false (λ q. absurd (false≢true q)) 0 
 
 -- ---- byte by byte
 
-append-nil : (t : List ℕ) → t ++ [] ≡ t
-append-nil [] = refl
-append-nil (x ∷ t) = ap (λ (s : List ℕ). x ∷ s) (append-nil t)
-
 each-append : (f : ℕ → List ℕ) (x y : List ℕ) → eachByte f (x ++ y) ≡ eachByte f x ++ eachByte f y
 unfolding eachByte
 each-append f [] y = refl
@@ -179,7 +169,7 @@ piece-turn wrap second nb s t i h e =
 
 pub pieces-end : (wrap second : Bool) (s t : List ℕ) (i : ℕ) → length s ≤ i → push (eachByte (urlByte wrap) (htmlFrom second (drop i s))) t ≡ push [] t
 unfolding htmlFrom eachByte
-pieces-end wrap second s t i h = ap (λ (x : List ℕ). push (eachByte (urlByte wrap) (htmlFrom second x)) t) (none s i h)
+pieces-end wrap second s t i h = ap (λ (x : List ℕ). push (eachByte (urlByte wrap) (htmlFrom second x)) t) (drop-of-length-le s h)
 
 -- what stands for a byte
 pub byte-backslash : (wrap : Bool) (b : ℕ) → b ≡ 92 → urlByte wrap b ≡ 92 ∷ 92 ∷ []

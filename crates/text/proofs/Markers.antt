@@ -1,7 +1,7 @@
 -- Markers of list items at the end of a text. Assumes nothing.
 use Prim.Native.Nat.{ℕ, _-_, _≤_, _<_}
-use mathlib.Core.Path.{_≡_, refl, sym, ap, _∙_}
-use mathlib.Core.Bool.{Bool, true, false, cond, not, _&&_, _||_}
+use mathlib.Core.Path.{_≡_, sym, ap, _∙_}
+use mathlib.Core.Bool.{Bool, true, false, cond, not, _||_, and-false}
 use mathlib.Core.List.{List, [], _∷_}
 use native.Mathlib.Omega.{arith}
 use lib.ListN.{length, take, drop}
@@ -11,10 +11,6 @@ use Rattle.spec.specs.Bytes.{ascii, same, isin, endsWith, every, null, digit, o
 use Rattle.spec.specs.Md.TextUtils.{«is_ordered_list_marker», beforeMarker, atIndent, «ends_with_marker_digits»}
 use Rattle.text.specs.Trimmed.{Trimmed}
 use Rattle.text.proofs.Reading.{null-none, null-some, drop-take}
-
-and-false : (t : Bool) → t && false ≡ false
-and-false true = refl
-and-false false = refl
 
 pub marker-short : (s : List ℕ) → length s < 2 → «is_ordered_list_marker» s ≡ false
 unfolding «is_ordered_list_marker» null

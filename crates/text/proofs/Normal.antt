@@ -1,7 +1,7 @@
 -- The parts of a normalized text. Assumes nothing.
 use Prim.Native.Nat.{ℕ, _≤_}
 use mathlib.Core.Path.{_≡_, refl, sym, ap, _∙_}
-use mathlib.Core.Bool.{Bool, true, false, cond, not, _&&_, _||_}
+use mathlib.Core.Bool.{Bool, true, false, cond, not, _&&_, _||_, and-false, and-true, and-assoc}
 use mathlib.Core.List.{List, [], _∷_, _++_}
 use native.Mathlib.Omega.{arith}
 use lib.ListN.{length}
@@ -17,24 +17,12 @@ use Rattle.text.specs.Words.{WordAt}
 use Rattle.text.proofs.Sourcing.{part-none}
 use Rattle.text.proofs.Wording.{null-is}
 
-and-false : (t : Bool) → t && false ≡ false
-and-false true = refl
-and-false false = refl
-
-and-true : (t : Bool) → t && true ≡ t
-and-true true = refl
-and-true false = refl
-
-and-assoc : (a b c : Bool) → a && (b && c) ≡ (a && b) && c
-and-assoc true b c = refl
-and-assoc false b c = refl
-
 module _ (opts : FormatOpts) (text : List ℕ) (white dot e : Bool) (q : e ≡ endsWith (10 ∷ []) text || endsWith (32 ∷ []) text) where
   abbrev tested : Bool
   tested = (opts .inline || not (e || eqb (length text) 0)) && white
 
   lead-tested : leadText opts text white dot ≡ cond tested (ascii " ") (cond ((not (opts .«skip_escape») && dot) && «ends_with_marker_digits» text) (ascii "\\") [])
-  lead-tested = rw (sym q, null-is, and-assoc)
+  lead-tested = rw (sym q, null-is, sym (and-assoc (not (opts .«skip_escape»)) dot («ends_with_marker_digits» text)))
 
   pub lead-blank : tested ≡ true → (32 ∷ []) ≡ leadText opts text white dot
   lead-blank h = sym (lead-tested ∙ rw h)

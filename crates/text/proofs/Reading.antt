@@ -1,7 +1,7 @@
 -- Tests on texts, byte by byte. Assumes nothing.
 use Prim.Native.Nat.{ℕ, zero, suc, _+_, _-_, _≤_, _<_}
 use mathlib.Core.Path.{_≡_, refl, sym, ap, _∙_}
-use mathlib.Core.Bool.{Bool, true, false, not, _&&_, _||_, false≢true}
+use mathlib.Core.Bool.{Bool, true, false, not, _&&_, false≢true}
 use mathlib.Core.List.{List, [], _∷_}
 use native.Mathlib.Omega.{arith}
 use native.Mathlib.Numerals.{add-one}
@@ -12,10 +12,6 @@ use borrow.Author.Tests.{eq-eqb, ne-eqb, eqb-true, eqb-false}
 use Rattle.spec.specs.Bytes.{isin, same, startsWith, endsWith, every, null, «trim_ascii_end», «trim_end_matches», one, white}
 use Rattle.spec.specs.Md.TextUtils.{endsWithWhite}
 use Rattle.text.specs.Trimmed.{Trimmed}
-
-pub or-false : (t : Bool) → t || false ≡ t
-or-false true = refl
-or-false false = refl
 
 -- of different lengths
 pub not-long : (a b : List ℕ) → (length a ≡ length b → ⊥) → same a b ≡ false

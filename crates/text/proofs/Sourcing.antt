@@ -9,7 +9,7 @@ use lib.ListN.{length, take, drop, getD, length-append, length-take, length-drop
 use lib.Seq.{length-take-le, take-take, getD-drop, drop-drop, slice, slice-cons, take-at, drop-at, take-all, take-length}
 use lib.Dec.{eqb}
 use Rattle.spec.specs.Bytes.{ascii, startsWith, every}
-use Rattle.spec.specs.Out.{Out, Step, andThen, keep, push}
+use Rattle.spec.specs.Out.{Out, Step, andThen, push}
 use Rattle.spec.specs.Md.TextUtils.{isEscaped, escapedFrom, escapedChunk, «push_escaped_chunk», «is_ordered_list_marker»}
 use Rattle.text.specs.Marks.{marks}
 use Rattle.text.specs.Source.{store, Apart, WritesIn}
@@ -17,7 +17,7 @@ use Rattle.text.specs.Writes.{Writes}
 use Rattle.text.specs.declared.buffer.Wrote.{Wrote}
 use Rattle.text.specs.declared.buffer.Wrote.the-variants.{Done, Full}
 use Rattle.text.proofs.Reading.{drop-take, starts-byte, starts-short}
-use Rattle.text.proofs.Writing.{alike, done, full, Owes, owes-all, owes-last, owes-on, owes-over, owes-none, owes-nothing, push-both}
+use Rattle.text.proofs.Writing.{alike, done, full, Owes, owes-all, owes-last, owes-on, owes-over, owes-nothing, push-both}
 
 -- ---- the same part
 
@@ -117,9 +117,6 @@ module _ {room : ℕ} {text mid : List ℕ} {n : ℕ} {rest : Step} {whole : Out
     pub owed-stop : {after : List ℕ} {r : Wrote} → r ≡ Full → WritesIn room mid after r (f (take n mid)) → WritesIn room text after Full whole
     owed-stop q w =
         record { long = w .long ∙ p .still .long; behind = w .behind ∙ p .still .behind; writes = owes-over (p .owes) f g here (full q (said f (w .writes))) }
-
-  pub owed-none : rest (take n mid) ≡ keep (take n mid) → WritesIn room text mid (Done n) whole
-  owed-none e = record { long = p .still .long; behind = p .still .behind; writes = owes-none (p .owes) (at-front rest ∙ e ∙ sym (at-front keep)) }
 
   pub owed-nothing : rest (take n mid) ≡ push [] (take n mid) → WritesIn room text mid (Done n) whole
   owed-nothing e = record { long = p .still .long; behind = p .still .behind; writes = owes-nothing (p .owes) (at-front rest ∙ e ∙ sym (at-front (push []))) }

@@ -1,7 +1,7 @@
 -- Blanks and line breaks at the end of a text. Assumes nothing.
 use Prim.Native.Nat.{ℕ, zero, suc, _+_, _-_, _≤_, _<_}
 use mathlib.Core.Path.{_≡_, refl, sym, ap, _∙_}
-use mathlib.Core.Bool.{Bool, true, false, _||_}
+use mathlib.Core.Bool.{true, false, or-true}
 use mathlib.Core.List.{List, [], _∷_, _++_, append-assoc}
 use native.Mathlib.Omega.{arith}
 use native.Mathlib.Numerals.{add-one}
@@ -62,10 +62,6 @@ module _ (d : List ℕ) (len : ℕ) (h : len ≤ length d) (k : 1 ≤ len) where
       }
 
 -- ---- a blank between blocks
-
-pub or-true : (t : Bool) → t || true ≡ true
-or-true true = refl
-or-true false = refl
 
 pub space-none : (t : List ℕ) → length t ≡ 0 → «push_block_space» t ≡ keep t
 unfolding «push_block_space»

@@ -1,7 +1,7 @@
 -- White_Space at the end of a text. Assumes nothing.
 use Prim.Native.Nat.{ℕ, suc, _-_, _≤_, _<_}
 use mathlib.Core.Path.{_≡_, refl, sym, ap, _∙_}
-use mathlib.Core.Bool.{Bool, true, false, _&&_}
+use mathlib.Core.Bool.{Bool, true, false, and-false}
 use mathlib.Core.List.{List, [], _∷_, _++_}
 use native.Mathlib.Omega.{arith}
 use lib.Dec.{eqb}
@@ -10,14 +10,6 @@ use lib.ListN.{length, take, drop, getD, length-drop, take-append-drop}
 use lib.Seq.{slice, slice-cons, slice-empty, length-take-le, take-take}
 use Rattle.spec.specs.Bytes.{Bytes, same, among, unless, whiteSpace, isWhiteSpace, «trim_end_matches», «trim_end»}
 use Rattle.text.specs.Trimmed.{WhiteEnd}
-
-pub and-false : (t : Bool) → t && false ≡ false
-and-false true = refl
-and-false false = refl
-
-pub and-true : (t : Bool) → t && true ≡ t
-and-true true = refl
-and-true false = refl
 
 -- no White_Space character has more than three bytes
 long : (a b c d : ℕ) (s : List ℕ) → isWhiteSpace (a ∷ b ∷ c ∷ d ∷ s) ≡ false

@@ -132,10 +132,6 @@ pub keep-then : (t : List ℕ) (f : Step) → andThen (keep t) f ≡ f t
 unfolding keep andThen
 keep-then t f = same-out refl (omega arith)
 
-pub then-keep : (o : Out) → andThen o keep ≡ o
-unfolding keep andThen
-then-keep o = same-out refl (omega arith)
-
 pub then-assoc : (o : Out) (f g : Step) → andThen (andThen o f) g ≡ andThen o (λ t. andThen (f t) g)
 unfolding andThen
 then-assoc o f g = same-out refl (omega arith)

@@ -1,7 +1,7 @@
 -- `text::buffer::is_in_word` meets its contract. Assumes nothing.
+use mathlib.Core.Bool.{or-false}
 use Rattle.spec.specs.Bytes.{isin}
 use borrow.Author.Tests.{eq-eqb, ne-eqb}
-use Rattle.text.proofs.Reading.{or-false}
 use Rattle.text.proofs.buffer.is_in_word.Statement.{statement}
 use Rattle.text.proofs.buffer.is_in_word.Tie as tie
 

@@ -1,8 +1,8 @@
 -- `text::buffer::is_tab_or_blank` meets its contract. Assumes nothing.
+use mathlib.Core.Bool.{or-false}
 use Rattle.spec.specs.Bytes.{isin}
 use Rattle.spec.specs.Md.Elements.Code.{isTabOrBlank}
 use borrow.Author.Tests.{eq-eqb, ne-eqb}
-use Rattle.text.proofs.Reading.{or-false}
 use Rattle.text.proofs.buffer.is_tab_or_blank.Statement.{statement}
 use Rattle.text.proofs.buffer.is_tab_or_blank.Tie as tie
 

@@ -1,7 +1,6 @@
 -- `text::buffer::is_white_space_1` meets its contract. Assumes nothing.
+use mathlib.Core.Bool.{and-false, and-true, or-false}
 use Rattle.spec.specs.Bytes.{isWhiteSpace, among, whiteSpace, same}
-use Rattle.text.proofs.Reading.{or-false}
-use Rattle.text.proofs.WhiteSpace.{and-false, and-true}
 use Rattle.text.proofs.buffer.is_white_space_1.Statement.{statement}
 use Rattle.text.proofs.buffer.is_white_space_1.Tie as tie
 

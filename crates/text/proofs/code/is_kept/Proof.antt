@@ -1,7 +1,7 @@
 -- `text::code::is_kept` meets its contract. Assumes nothing.
+use mathlib.Core.Bool.{or-false}
 use Rattle.spec.specs.Bytes.{isin}
 use Rattle.spec.specs.Md.Elements.Code.{isAlphanumeric}
-use Rattle.text.proofs.Reading.{or-false}
 use borrow.Author.Needs.{needs}
 use Rattle.text.proofs.code.is_kept.Statement.{statement}
 use Rattle.text.proofs.code.is_kept.Tie as tie

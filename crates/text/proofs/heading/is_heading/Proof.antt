@@ -1,7 +1,7 @@
 -- `text::heading::is_heading` meets its contract. Assumes nothing.
+use mathlib.Core.Bool.{or-false}
 use Rattle.spec.specs.Bytes.{isin}
 use Rattle.spec.specs.Md.Heading.{«is_heading»}
-use Rattle.text.proofs.Reading.{or-false}
 use Rattle.text.proofs.heading.is_heading.Statement.{statement}
 use Rattle.text.proofs.heading.is_heading.Tie as tie
 

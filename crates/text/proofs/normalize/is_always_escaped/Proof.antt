@@ -1,6 +1,6 @@
 -- `text::normalize::is_always_escaped` meets its contract. Assumes nothing.
+use mathlib.Core.Bool.{or-false}
 use Rattle.spec.specs.Bytes.{isin}
-use Rattle.text.proofs.Reading.{or-false}
 use Rattle.text.proofs.normalize.is_always_escaped.Statement.{statement}
 use Rattle.text.proofs.normalize.is_always_escaped.Tie as tie
 

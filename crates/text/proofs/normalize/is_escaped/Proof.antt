@@ -1,7 +1,7 @@
 -- `text::normalize::is_escaped` meets its contract. Assumes nothing.
+use mathlib.Core.Bool.{or-false}
 use Rattle.spec.specs.Bytes.{isin}
 use Rattle.spec.specs.Md.TextUtils.{isEscaped}
-use Rattle.text.proofs.Reading.{or-false}
 use borrow.Author.Needs.{needs}
 use Rattle.text.proofs.normalize.is_escaped.Statement.{statement}
 use Rattle.text.proofs.normalize.is_escaped.Tie as tie

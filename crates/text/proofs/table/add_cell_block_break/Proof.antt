@@ -1,6 +1,6 @@
 -- `text::table::add_cell_block_break` meets its contract. Assumes nothing.
 use mathlib.Core.Path.{sym, _∙_, refl, ap}
-use mathlib.Core.Bool.{Bool, cond, _||_}
+use mathlib.Core.Bool.{Bool, cond, _||_, or-true}
 use mathlib.Core.List.{List}
 use Prim.Native.Nat.{ℕ}
 use lib.ListN.{take}
@@ -11,7 +11,7 @@ use Rattle.spec.specs.Md.TextUtils.{«trim_trailing_space», trimBlanks}
 use Rattle.spec.specs.Md.Elements.Table.{«add_cell_block_break», «ends_with_cell_break»}
 use Rattle.text.proofs.Reading.{null-none, null-some}
 use Rattle.text.proofs.Writing.{alike, owes-all, owes-on, owes-last, owes-none}
-use Rattle.text.proofs.Spaces.{cut-done, or-true}
+use Rattle.text.proofs.Spaces.{cut-done}
 use borrow.Author.Needs.{needs}
 use native.Mathlib.Omega.{arith}
 use Rattle.text.proofs.table.add_cell_block_break.Statement.{statement}

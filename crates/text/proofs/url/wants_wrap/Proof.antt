@@ -1,7 +1,7 @@
 -- `text::url::wants_wrap` meets its contract. Assumes nothing.
+use mathlib.Core.Bool.{or-false}
 use Rattle.spec.specs.Bytes.{isin}
 use Rattle.spec.specs.Md.TextUtils.{wantsWrap}
-use Rattle.text.proofs.Reading.{or-false}
 use Rattle.text.proofs.url.wants_wrap.Statement.{statement}
 use Rattle.text.proofs.url.wants_wrap.Tie as tie
 
