@@ -12,7 +12,7 @@ use Rattle.tree.specs.Memory.{wordAt, Stored, placeAt, endAt, parentAt}
 use Rattle.tree.specs.Kinds.{Placed}
 use Rattle.tree.proofs.Numbers.{word-same, quad-same}
 
-le-or-lt : (a b : ℕ) → (a ≤ b) ⊎ (b < a)
+pub le-or-lt : (a b : ℕ) → (a ≤ b) ⊎ (b < a)
 le-or-lt a b = ⊎-elim (λ (e : a - b ≡ zero). inl (omega arith)) (λ (l : zero < a - b). inr (omega arith)) (eq-zero-or-pos (a - b))
 
 -- i is none of these

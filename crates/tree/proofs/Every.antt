@@ -15,7 +15,7 @@ use Rattle.tree.specs.Scans.{countAfter}
 use Rattle.tree.specs.declared.fields.Span.{Span}
 use Rattle.tree.proofs.Walking.{span-fields}
 
-none-left : (s : Bytes) (p : ℕ) → length s - p < 3 → fields (drop p s) ≡ []
+pub none-left : (s : Bytes) (p : ℕ) → length s - p < 3 → fields (drop p s) ≡ []
 none-left s p h = fields-short (drop p s) (omega (arith, length-drop p s))
 
 module _ (q : Field → Bool) (s : Bytes) (p : ℕ) (so-far : everyField q (fields s) ≡ everyField q (fields (drop p s))) where

@@ -16,7 +16,8 @@ use Rattle.tree.specs.declared.fields.Span.{Span}
 use Rattle.tree.specs.declared.questions.Scan.the-variants.{Broken, Open}
 use Rattle.tree.proofs.Walking.{span-fields, end-bounds}
 
-null-length : (s : Bytes) → null s ≡ eqb (length s) 0
+-- a text is empty where its length is 0
+pub null-length : (s : Bytes) → null s ≡ eqb (length s) 0
 unfolding null
 null-length [] = refl
 null-length (b ∷ s) = sym (eqb·suc-zero (length s))

@@ -8,7 +8,7 @@ use mathlib.Core.List.{List, [], _∷_}
 use lib.ListN.{length, getD, take, drop, length-drop, drop-of-length-le}
 use lib.Seq.{drop-cons, drop-drop, take-all}
 use lib.Dec.{eqb, leb, ltb, eqb·zero-suc, eqb·suc-suc}
-use borrow.Author.Tests.{ltb-true, ltb-false, le-leb, lt-leb, eq-eqb, ne-eqb}
+use borrow.Author.Tests.{ltb-true, ltb-false, le-leb, lt-leb, eqb-true, eqb-false, eq-eqb, ne-eqb}
 use Rattle.spec.specs.Bytes.{Bytes, null, same}
 use Rattle.spec.specs.Fields.{Field, whole, fields, fields-cons, whole-cons, whole-short}
 use Rattle.tree.specs.Spans.{lengthAt, endOf, spanAt, fieldOf}
@@ -100,6 +100,20 @@ whole-end low high s p h k so-far =
     null-drop s p h ∙ sym (so-far ∙ whole-short low high (drop p s) (omega (arith, length-drop p s)))
 
 -- ---- equal slices
+
+eqb-comm : (a b : ℕ) → eqb a b ≡ eqb b a
+eqb-comm a b = go (eqb a b) refl
+  where
+    go : (t : Bool) → eqb a b ≡ t → t ≡ eqb b a
+    go true e = sym (eq-eqb b a (sym (eqb-true a b e)))
+    go false e = sym (ne-eqb b a (λ q. eqb-false a b e (sym q)))
+
+pub same-comm : (x y : Bytes) → same x y ≡ same y x
+unfolding same
+same-comm [] [] = refl
+same-comm [] (b ∷ y) = refl
+same-comm (a ∷ x) [] = refl
+same-comm (a ∷ x) (b ∷ y) = rw (eqb-comm a b, same-comm x y)
 
 same-long : (a b : Bytes) → same a b ≡ true → length a ≡ length b
 unfolding same

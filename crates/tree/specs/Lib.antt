@@ -6,3 +6,5 @@ pub mod Memory
 pub mod Kinds
 pub mod Represents
 pub mod Accepted
+pub mod Attributes
+pub mod Nodes

@@ -38,3 +38,10 @@ startAt ns i = longAt ns (i * 24 + 8)
 
 abbrev pub lengthAt : Bytes → ℕ → ℕ
 lengthAt ns i = longAt ns (i * 24 + 16)
+
+-- of node memory a, which is b now, at most the scratch of the records from number `from` up to `to` is changed
+pub record Kept (from to : ℕ) (a b : Bytes) : Type 0 where
+  pub long : length b ≡ length a
+  pub tree : (i k : ℕ) → k < 8 → getD b (i * 24 + k) 0 ≡ getD a (i * 24 + k) 0
+  pub below : (j : ℕ) → j < from * 24 → getD b j 0 ≡ getD a j 0
+  pub above : (j : ℕ) → to * 24 ≤ j → getD b j 0 ≡ getD a j 0

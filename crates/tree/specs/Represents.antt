@@ -1,12 +1,12 @@
 -- The tree in node memory. Node 0 is the fragment; nodes are numbered in the order of opening, so that a node and its
 -- descendants are a range of numbers. Assumes nothing.
-use Prim.Native.Nat.{ℕ, _+_, _*_, _≤_}
+use Prim.Native.Nat.{ℕ, _+_, _*_, _≤_, _<_}
 use mathlib.Core.Path.{_≡_}
-use mathlib.Core.List.{List}
+use mathlib.Core.List.{List, [], _∷_}
 use lib.ListN.{length, drop}
 use Rattle.spec.specs.Bytes.{Bytes}
 use Rattle.spec.specs.Fields.{Field, fields}
-use Rattle.spec.specs.Tree.{Attr, Forest, nothing, text, comment, element, tail, treeOf}
+use Rattle.spec.specs.Tree.{Attr, Forest, nothing, text, comment, element, height, tail, treeOf}
 use Rattle.tree.specs.Spans.{endOf, spanAt, fieldOf}
 use Rattle.tree.specs.Memory.{placeAt, endAt, parentAt}
 
@@ -32,9 +32,33 @@ Rep sh ns parent i e (element name attrs kids rest) =
     (i * 24 + 24 ≤ length ns) × FieldAt sh (placeAt ns i) 1 name × (attrs ≡ attrsBehind sh (placeAt ns i))
     × (parentAt ns i ≡ parent) × Rep sh ns i (i + 1) (endAt ns i) kids × Rep sh ns parent (endAt ns i) e rest
 
+-- they are some forest, of at most so many levels
+abbrev pub Stands : Bytes → Bytes → ℕ → ℕ → ℕ → ℕ → Type 0
+Stands sh ns parent i e levels = (f : Forest) × Rep sh ns parent i e f × height f ≤ levels
+
 -- node memory holds the tree of the sheet, with n nodes
 pub record Holds (sh ns : Bytes) (n : ℕ) : Type 0 where
   pub fits : n * 24 ≤ length ns
   pub root-end : endAt ns 0 ≡ n
   pub root-parent : parentAt ns 0 ≡ 0
   pub tree : Rep sh ns 0 1 n (treeOf (fields sh))
+
+-- the first node of a forest alone, and what follows it
+unfoldable pub headOf : Forest → Forest
+headOf nothing = nothing
+headOf (text s rest) = text s nothing
+headOf (comment s rest) = comment s nothing
+headOf (element name attrs kids rest) = element name attrs kids nothing
+
+unfoldable pub restOf : Forest → Forest
+restOf nothing = nothing
+restOf (text s rest) = rest
+restOf (comment s rest) = rest
+restOf (element name attrs kids rest) = rest
+
+-- node q and the elements around it, from the innermost, have these attributes; node 0, the fragment, is none of them
+unfoldable pub Around : Bytes → Bytes → ℕ → List (List Attr) → Type 0
+Around sh ns q [] = q ≡ 0
+Around sh ns q (attrs ∷ more) =
+    (0 < q) × (q * 24 + 24 ≤ length ns) × (placeAt ns q + 3 ≤ length sh) × (attrs ≡ attrsBehind sh (placeAt ns q))
+    × Around sh ns (parentAt ns q) more

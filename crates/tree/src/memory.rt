@@ -1,6 +1,6 @@
 // Numbers in lent memory, the more significant bytes first.
 ghost use mathlib.Core.Path.{_≡_};
-ghost use Prim.Native.Nat.{_+_, _≤_, _<_};
+ghost use Prim.Native.Nat.{_+_, _<_};
 ghost use lib.ListN.{length, replicate};
 ghost use Rattle.tree.specs.Memory.{wordAt, quadAt, longAt, Stored};
 use crate::fields::wide;

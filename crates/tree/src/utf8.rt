@@ -1,6 +1,6 @@
 // Well-formed UTF-8.
 ghost use mathlib.Core.Path.{_≡_};
-ghost use Prim.Native.Nat.{_≤_, _<_};
+ghost use Prim.Native.Nat.{_<_};
 ghost use Rattle.spec.specs.Utf8.{isUtf8};
 ghost use Rattle.tree.specs.Lead.{leadOf, lead3Of, lead4Of, nextOf};
 
