@@ -20,7 +20,7 @@ use Rattle.text.specs.Trimmed.{Trimmed}
 use Rattle.text.specs.Writes.{Written}
 use Rattle.text.proofs.Spaces.{cut-done}
 use Rattle.text.proofs.Reading.{ends-short}
-use Rattle.text.proofs.Wording.{null-is}
+use Rattle.tree.proofs.Rules.{null-length}
 
 pub ends-long : (s x : List ℕ) → endsWith x s ≡ true → length x ≤ length s
 ends-long s x e = go (ltb (length s) (length x)) refl
@@ -49,11 +49,11 @@ exact-is tail marker a b k e p q r = rw (p, q, r, e)
 
 pub emphasis-none : (marker acc : List ℕ) → eqb (length marker) 0 || eqb (length acc) 0 ≡ true → endsWithEmphasis marker acc ≡ false
 unfolding endsWithEmphasis
-emphasis-none marker acc e = rw (null-is marker, null-is acc, e)
+emphasis-none marker acc e = rw (null-length marker, null-length acc, e)
 
 module _ (marker acc : List ℕ) (n : ℕ) (b : Bool) (e : eqb (length marker) 0 || eqb (length acc) 0 ≡ false) (t : Trimmed acc n («trim_end_matches» (one white) acc)) (q : b ≡ same (drop n acc) (32 ∷ [])) where
   none-behind : null (drop n acc) ≡ eqb n (length acc)
-  none-behind = null-is (drop n acc) ∙ go (eqb n (length acc)) refl
+  none-behind = null-length (drop n acc) ∙ go (eqb n (length acc)) refl
     where
       go : (z : Bool) → eqb n (length acc) ≡ z → eqb (length (drop n acc)) 0 ≡ z
       go true z = eq-eqb (length (drop n acc)) 0 (omega (arith, length-drop n acc, eqb-true n (length acc) z))
@@ -63,7 +63,7 @@ module _ (marker acc : List ℕ) (n : ℕ) (b : Bool) (e : eqb (length marker) 0
   unfolding endsWithEmphasis «trim_ascii_end»
   tested =
       let l : length («trim_end_matches» (one white) acc) ≡ n = trimmed-length t in
-      rw (l, null-is marker, null-is acc, e, none-behind, sym q, sym (t .is))
+      rw (l, null-length marker, null-length acc, e, none-behind, sym q, sym (t .is))
 
   pub emphasis-not : eqb n (length acc) || b ≡ false → endsWithEmphasis marker acc ≡ false
   emphasis-not f = tested ∙ rw f

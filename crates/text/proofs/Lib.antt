@@ -1,17 +1,26 @@
 -- What the proofs of several functions use.
-mod Writing
-mod Pushing
-mod Reading
-mod Trimming
-mod Moving
-mod Markers
-mod Spaces
-mod Sourcing
-mod Wording
-mod Normal
-mod Leaves
-mod Linking
-mod WhiteSpace
-mod Temporary
-mod Headings
-mod Boundary
+pub mod Writing
+pub mod Pushing
+pub mod Reading
+pub mod Trimming
+pub mod Moving
+pub mod Markers
+pub mod Spaces
+pub mod Sourcing
+pub mod Wording
+pub mod Normal
+pub mod Leaves
+pub mod Linking
+pub mod WhiteSpace
+pub mod Temporary
+pub mod Headings
+pub mod Boundary
+pub mod ListNumbers
+pub mod Prefixes
+pub mod ItemLines
+pub mod Pipes
+pub mod Values
+pub mod Spans
+pub mod Marking
+pub mod Balance
+pub mod ItemLeads

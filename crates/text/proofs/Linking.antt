@@ -1,7 +1,7 @@
 -- Link destinations, byte by byte. Assumes nothing.
 use Prim.Native.Nat.{ℕ, zero, suc, _+_, _-_, _≤_, _<_}
 use mathlib.Core.Path.{_≡_, refl, sym, ap, subst, _∙_}
-use mathlib.Core.Bool.{Bool, true, false, cond, not, _&&_, _||_, false≢true}
+use mathlib.Core.Bool.{Bool, true, false, cond, not, _&&_, _||_, false≢true, and-eq-true-iff}
 use mathlib.Core.List.{List, [], _∷_, _++_, append-nil, append-assoc}
 use native.Mathlib.Omega.{arith}
 use native.Mathlib.Numerals.{add-one}
@@ -20,7 +20,7 @@ use Rattle.text.proofs.Writing.{push-both}
 abbrev breaking : ℕ → ℕ → Bool
 breaking n b = wantsWrap b || (eqb b 41 && eqb n 0)
 
-abbrev balanced : ℕ → ℕ → ℕ
+abbrev pub balanced : ℕ → ℕ → ℕ
 balanced n b = cond (eqb b 40) (n + 1) (cond (eqb b 41) (n - 1) n)
 
 wrap-true : (n b : ℕ) (s : List ℕ) → breaking n b ≡ true → needsWrap n (b ∷ s) ≡ true
@@ -100,14 +100,9 @@ behind n b s t h = go (breaking n b) refl
     go true e = wrap-true n b s e ∙ sym (wrap-true n b t e)
     go false e = wrap-false n b s e ∙ h (balanced n b) ∙ sym (wrap-false n b t e)
 
-both-true : (a b : Bool) → a && b ≡ true → (a ≡ true) × (b ≡ true)
-both-true true true e = (refl, refl)
-both-true true false e = absurd (false≢true e)
-both-true false b e = absurd (false≢true e)
-
 second-is : (b : ℕ) (s : List ℕ) → startsWith (0xA0 ∷ []) (b ∷ s) ≡ true → b ≡ 0xA0
 unfolding startsWith same
-second-is b s e = eqb-true b 0xA0 (both-true (eqb b 0xA0) true e .0)
+second-is b s e = eqb-true b 0xA0 (and-eq-true-iff (eqb b 0xA0) true .0 e .0)
 
 html-same : (s : List ℕ) (second : Bool) → (second ≡ true → startsWith (0xA0 ∷ []) s ≡ true) → (n : ℕ) → needsWrap n (htmlFrom second s) ≡ needsWrap n s
 unfolding htmlFrom entity isNbsp wantsWrap isin
@@ -115,7 +110,7 @@ html-same [] second h n = refl
 html-same (b ∷ s) true h n =
     html-same s false (λ e. absurd (false≢true e)) n
     ∙ sym (subst (λ (x : ℕ). needsWrap n (x ∷ s) ≡ needsWrap n s) (sym (second-is b s (h refl))) (neutral n 0xA0 s refl refl refl))
-html-same (b ∷ s) false h n = go (html-same s (isNbsp b s) (λ e. both-true (eqb b 0xC2) (startsWith (0xA0 ∷ []) s) e .1)) (eqb b 38) (eqb b 34) (isNbsp b s) refl refl refl
+html-same (b ∷ s) false h n = go (html-same s (isNbsp b s) (λ e. and-eq-true-iff (eqb b 0xC2) (startsWith (0xA0 ∷ []) s) .0 e .1)) (eqb b 38) (eqb b 34) (isNbsp b s) refl refl refl
   where
     go : ((m : ℕ) → needsWrap m (htmlFrom (isNbsp b s) s) ≡ needsWrap m s) → (x y z : Bool) → eqb b 38 ≡ x → eqb b 34 ≡ y → isNbsp b s ≡ z
         → needsWrap n (cond x (ascii "&amp;") (cond y (ascii "&quot;") (cond z (ascii "&nbsp;") (b ∷ []))) ++ htmlFrom (isNbsp b s) s) ≡ needsWrap n (b ∷ s)
@@ -123,7 +118,7 @@ html-same (b ∷ s) false h n = go (html-same s (isNbsp b s) (λ e. both-true (e
     go g false true z e f q = quot n (htmlFrom (isNbsp b s) s) ∙ g n ∙ sym (subst (λ (x : ℕ). needsWrap n (x ∷ s) ≡ needsWrap n s) (sym (eqb-true b 34 f)) (neutral n 34 s refl refl refl))
     go g false false true e f q =
         nbsp n (htmlFrom (isNbsp b s) s) ∙ g n
-        ∙ sym (subst (λ (x : ℕ). needsWrap n (x ∷ s) ≡ needsWrap n s) (sym (eqb-true b 0xC2 (both-true (eqb b 0xC2) (startsWith (0xA0 ∷ []) s) q .0))) (neutral n 0xC2 s refl refl refl))
+        ∙ sym (subst (λ (x : ℕ). needsWrap n (x ∷ s) ≡ needsWrap n s) (sym (eqb-true b 0xC2 (and-eq-true-iff (eqb b 0xC2) (startsWith (0xA0 ∷ []) s) .0 q .0))) (neutral n 0xC2 s refl refl refl))
     go g false false false e f q = behind n b (htmlFrom (isNbsp b s) s) s g
 
 pub url-wrapped : (dest t : List ℕ) → needsWrap 0 dest ≡ true → «push_md_url» dest t ≡ push (ascii "<" ++ (eachByte wrappedByte («html_escape» dest) ++ ascii ">")) t

@@ -15,14 +15,14 @@ use Rattle.spec.specs.declared.ctx.FormatOpts.{FormatOpts}
 use Rattle.text.specs.Marks.{leadOf, dotWord, leadText, blankText, lineStart}
 use Rattle.text.specs.Words.{WordAt}
 use Rattle.text.proofs.Sourcing.{part-none}
-use Rattle.text.proofs.Wording.{null-is}
+use Rattle.tree.proofs.Rules.{null-length}
 
 module _ (opts : FormatOpts) (text : List ℕ) (white dot e : Bool) (q : e ≡ endsWith (10 ∷ []) text || endsWith (32 ∷ []) text) where
   abbrev tested : Bool
   tested = (opts .inline || not (e || eqb (length text) 0)) && white
 
   lead-tested : leadText opts text white dot ≡ cond tested (ascii " ") (cond ((not (opts .«skip_escape») && dot) && «ends_with_marker_digits» text) (ascii "\\") [])
-  lead-tested = rw (sym q, null-is, sym (and-assoc (not (opts .«skip_escape»)) dot («ends_with_marker_digits» text)))
+  lead-tested = rw (sym q, null-length, sym (and-assoc (not (opts .«skip_escape»)) dot («ends_with_marker_digits» text)))
 
   pub lead-blank : tested ≡ true → (32 ∷ []) ≡ leadText opts text white dot
   lead-blank h = sym (lead-tested ∙ rw h)
@@ -42,7 +42,7 @@ unfolding «push_normalized_text» normalized normalizedWords words split parts 
 normal-blank opts text s i to r some w e l f =
     let a : isBlank (slice i to s) ≡ true = w .all-white ∙ eq-eqb r to e in
     let b : words (slice i to s) ≡ [] = w .same-words ∙ ap words (part-none r to s (omega arith)) in
-    let n : not (null (slice i to s)) ≡ some = ap not (null-is (slice i to s) ∙ ends) ∙ sym f in
+    let n : not (null (slice i to s)) ≡ some = ap not (null-length (slice i to s) ∙ ends) ∙ sym f in
     rw (a, b, n, and-true)
   where
     ends : eqb (length (slice i to s)) 0 ≡ eqb i to

@@ -22,6 +22,21 @@ cut-done f d len n h t =
     let e : take n d ≡ f (take len d) = sym (take-take n len d l) ∙ t .is in
     record { long = refl; fits = omega arith; count = sym (sym (ap length e) ∙ length-take-le n d (omega arith)); text-is = e }
 
+-- a trim at both ends: the rest is moved to the front
+pub cut-both : (f : List ℕ → List ℕ) (d after : List ℕ) (len n k : ℕ) → len ≤ length d → n ≤ length (take len d) → Skipped (take n d) k (f (take len d))
+    → take (n - k) after ≡ take (n - k) (drop k d) → length after ≡ length d → Written (length d) after (n - k) (cut f (take len d))
+unfolding cut
+cut-both f d after len n k h l u e q =
+    let z : take (n - k) after ≡ f (take len d) = e ∙ sym (drop-take k n d) ∙ u .is in
+    record { long = q; fits = omega arith; count = sym (sym (ap length z) ∙ length-take-le (n - k) after (omega (arith, length-take-le len d h))); text-is = z }
+
+-- what is skipped of the text when its end is trimmed
+pub skipped-in : (g : List ℕ → List ℕ) {short : List ℕ} (d : List ℕ) (len n k : ℕ) → len ≤ length d → Trimmed (take len d) n short → Skipped (take n d) k (g (take n d))
+    → Skipped (take n d) k (g short)
+skipped-in g {short} d len n k h t u =
+    let l : n ≤ len = omega (arith, t .within, length-take-le len d h) in
+    record { within = u .within; is = u .is ∙ ap g (sym (take-take n len d l) ∙ t .is) }
+
 -- ---- a `!` at the end
 
 pub bang-none : (t : List ℕ) → endsWith (33 ∷ []) t ≡ false → «escape_trailing_bang» t ≡ keep t
@@ -80,19 +95,8 @@ space-push t h e = rw (null-some t h, e)
 pub trim-space-done : (d after : List ℕ) (len n k : ℕ) → len ≤ length d → Trimmed (take len d) n («trim_end_matches» (one white) (take len d))
     → Skipped (take n d) k («trim_start_matches» white (take n d)) → take (n - k) after ≡ take (n - k) (drop k d) → length after ≡ length d
     → Written (length d) after (n - k) («trim_space» (take len d))
-unfolding «trim_space» cut «trim_ascii_end» «trim_ascii_start»
-trim-space-done d after len n k h t u e f =
-    let l : n ≤ len = omega (arith, t .within, length-take-le len d h) in
-    let m : length (take n d) ≡ n = length-take-le n d (omega arith) in
-    let q : take n d ≡ «trim_end_matches» (one white) (take len d) = sym (take-take n len d l) ∙ t .is in
-    let z : take (n - k) after ≡ «trim_start_matches» white («trim_end_matches» (one white) (take len d)) =
-    e ∙ sym (drop-take k n d) ∙ u .is ∙ ap («trim_start_matches» white) q in
-    record {
-      long = f;
-      fits = omega arith;
-      count = sym (sym (ap length z) ∙ length-take-le (n - k) after (omega arith));
-      text-is = z;
-    }
+unfolding «trim_space» «trim_ascii_end» «trim_ascii_start»
+trim-space-done d after len n k h t u e f = cut-both (λ s. «trim_start_matches» white («trim_end_matches» (one white) s)) d after len n k h (t .within) (skipped-in («trim_start_matches» white) d len n k h t u) e f
 
 -- ---- line breaks
 

@@ -14,13 +14,14 @@ use Rattle.spec.specs.Out.{andThen, push}
 use Rattle.spec.specs.Md.TextUtils.{startsWithWhite, moreWords, escapedChunk}
 use Rattle.text.specs.Marks.{leadOf, firstAndMore}
 use Rattle.text.specs.Source.{store, Apart}
+use Rattle.tree.proofs.Rules.{null-length}
 use Rattle.text.proofs.Writing.{push-both}
 use Rattle.text.proofs.Sourcing.{Still, slice-kept, getD-kept, part-none}
 use Rattle.text.specs.Trimmed.{Skipped}
 use Rattle.text.specs.Words.{WordAt, WordEnd}
 use Rattle.text.proofs.Reading.{drop-take, null-some}
 
-abbrev black : ℕ → Bool
+abbrev pub black : ℕ → Bool
 black b = not (white b)
 
 shorter : (p : ℕ → Bool) (s : List ℕ) → length («trim_start_matches» p s) ≤ length s
@@ -70,11 +71,6 @@ blank-all (b ∷ s) = go (blank-all s) (white b)
     go h true = h
     go h false = refl
 
-pub null-is : (s : List ℕ) → null s ≡ eqb (length s) 0
-unfolding null
-null-is [] = refl
-null-is (x ∷ s) = sym (ne-eqb (length (x ∷ s)) 0 (λ q. omega arith))
-
 module _ (s : List ℕ) (i to k : ℕ) (h : i ≤ to) (l : to ≤ length s) where
   on : drop k (slice i to s) ≡ slice (i + k) to s
   on = drop-drop k i (take to s)
@@ -96,7 +92,7 @@ module _ (s : List ℕ) (i to k : ℕ) (h : i ≤ to) (l : to ≤ length s) wher
             ∙ first-black (slice i to s) (omega (arith, ap length e, length-slice (i + k) to s l));
         same-words = words-white (slice i to s) ∙ ap words (sym e);
         begins-white = starts-white (slice i to s) k p ∙ ap not (both (eqb k 0) (λ z. eq-eqb (i + k) i (omega arith)) (λ z. ne-eqb (i + k) i (λ q. z (omega arith))) refl);
-        all-white = blank-all (slice i to s) ∙ ap null (sym e) ∙ null-is (slice (i + k) to s) ∙ ends;
+        all-white = blank-all (slice i to s) ∙ ap null (sym e) ∙ null-length (slice (i + k) to s) ∙ ends;
       }
     where
       both : (t : Bool) → (k ≡ 0 → eqb (i + k) i ≡ true) → ((k ≡ 0 → ⊥) → eqb (i + k) i ≡ false) → eqb k 0 ≡ t → t ≡ eqb (i + k) i

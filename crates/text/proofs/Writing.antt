@@ -2,7 +2,7 @@
 use Prim.Native.Nat.{ℕ, _≤_}
 use mathlib.Core.Path.{_≡_, refl, sym, ap, subst, subst₂}
 use mathlib.Core.Bool.{Bool, true, false, cond}
-use mathlib.Core.List.{List, [], _∷_, _++_, append-assoc}
+use mathlib.Core.List.{List, [], _++_, append-assoc, append-nil}
 use native.Mathlib.Omega.{arith}
 use lib.ListN.{length, take, length-append, length-take}
 use lib.Seq.{length-take-le}
@@ -106,10 +106,6 @@ unfolding push
 keeps-nothing d n h =
     let l : length (take n d) ≡ n = length-take-le n d h in
     record { long = refl; fits = omega arith; count = omega (arith, length-append (take n d) []); text-is = sym (append-nil (take n d)) }
-  where
-    append-nil : (t : List ℕ) → t ++ [] ≡ t
-    append-nil [] = refl
-    append-nil (x ∷ t) = ap (λ (s : List ℕ). x ∷ s) (append-nil t)
 
 pub owes-none : {room : ℕ} {mid : List ℕ} {n : ℕ} {rest : Step} {whole : Out} → Owes room mid n rest whole → rest (take n mid) ≡ keep (take n mid)
     → Writes room mid (Done n) whole
@@ -121,12 +117,20 @@ owes-nothing {room} {mid} {n} p e = owes-last p (alike e (record { says = keeps-
 
 -- ---- steps in equal forms
 
-same-out : {a b : List ℕ} {p q : ℕ} → a ≡ b → p ≡ q → _≡_ {A = Out} (record { text = a; peak = p }) (record { text = b; peak = q })
+pub same-out : {a b : List ℕ} {p q : ℕ} → a ≡ b → p ≡ q → _≡_ {A = Out} (record { text = a; peak = p }) (record { text = b; peak = q })
 same-out {a} {b} {p} {q} e f = subst₂ (λ (x : List ℕ) (k : ℕ). _≡_ {A = Out} (record { text = a; peak = p }) (record { text = x; peak = k })) e f refl
 
 pub push-both : (x y t : List ℕ) → push (x ++ y) t ≡ andThen (push x t) (push y)
 unfolding push andThen
 push-both x y t = same-out (sym (append-assoc t x y)) (omega (arith, length-append x y, length-append t x))
+
+-- x is appended, and y is left
+module _ {room : ℕ} {mid : List ℕ} {n : ℕ} {whole : Out} (x y : List ℕ) (p : Owes room mid n (push (x ++ y)) whole) where
+  pub push-on : {after : List ℕ} {m : ℕ} {r : Wrote} → r ≡ Done m → Writes (length mid) after r (push x (take n mid)) → Owes room after m (push y) whole
+  push-on q w = owes-step p (push x) (push y) (push-both x y (take n mid)) q w
+
+  pub push-stop : {after z : List ℕ} {r : Wrote} → r ≡ Full → Writes (length mid) after r (push x (take n mid)) → Writes room z Full whole
+  push-stop q w = owes-stop p (push x) (push y) (push-both x y (take n mid)) q w
 
 pub keep-then : (t : List ℕ) (f : Step) → andThen (keep t) f ≡ f t
 unfolding keep andThen

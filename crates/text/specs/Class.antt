@@ -5,7 +5,7 @@ use lib.Dec.{eqb}
 use Rattle.spec.specs.Bytes.{ascii, isin, white, blank, digit}
 use Rattle.spec.specs.Md.Elements.Code.{isTabOrBlank}
 use Rattle.text.specs.declared.buffer.Class.{Class}
-use Rattle.text.specs.declared.buffer.Class.the-variants.{Blank, White, Digit, Hash, LineEnd, Backslash, TabOrBlank, Comma, Equals, InWord, Black}
+use Rattle.text.specs.declared.buffer.Class.the-variants.{Blank, White, Digit, Hash, LineEnd, Backslash, TabOrBlank, Comma, Equals, InWord, Black, Zero}
 
 abbrev pub inClass : Class → ℕ → Bool
 inClass Blank = blank
@@ -19,3 +19,4 @@ inClass Comma = λ b. eqb b 44
 inClass Equals = λ b. eqb b 61
 inClass InWord = λ b. not (isin b (ascii " \n"))
 inClass Black = λ b. not (white b)
+inClass Zero = λ b. eqb b 48

@@ -8,3 +8,7 @@ pub mod Marks
 pub mod Words
 pub mod Url
 pub mod Kept
+pub mod Parsed
+pub mod Items
+pub mod Pipes
+pub mod Marked

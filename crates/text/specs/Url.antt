@@ -1,10 +1,15 @@
--- What stands for one byte of a link destination. Assumes nothing.
+-- What stands for one byte of a link destination, and the balance of its parentheses. Assumes nothing.
 use Prim.Native.Nat.{ℕ}
 use mathlib.Core.Bool.{Bool, cond}
 use mathlib.Core.List.{[]}
 use lib.Dec.{eqb}
+use lib.IntN.{ℤ, pos, _+ℤ_, _-ℤ_}
 use Rattle.spec.specs.Bytes.{Bytes, ascii}
 use Rattle.spec.specs.Md.TextUtils.{wrappedByte, backslashTwice}
+
+-- below zero where b closes a parenthesis that is not open
+abbrev pub nextBalance : ℤ → ℕ → ℤ
+nextBalance balance b = cond (eqb b 40) (balance +ℤ pos 1) (cond (eqb b 41) (balance -ℤ pos 1) balance)
 
 abbrev pub urlByte : Bool → ℕ → Bytes
 urlByte wrap = cond wrap wrappedByte backslashTwice

@@ -3,7 +3,7 @@ ghost use mathlib.Core.Path.{_≡_};
 ghost use mathlib.Core.List.{List, [], _∷_, _++_};
 ghost use Prim.Native.Nat.{ℕ, _+_, _≤_, _<_};
 ghost use lib.ListN.{length, take, drop, replicate};
-ghost use mathlib.Core.Bool.{not, _||_};
+ghost use mathlib.Core.Bool.{cond, not, _||_};
 ghost use Rattle.spec.specs.Md.Elements.Code.{isTabOrBlank};
 ghost use Rattle.spec.specs.Bytes.{ascii, isin, white, digit, endsWith, startsWith, same, every, null, one, isWhiteSpace, «trim_end», «trim_end_matches», «trim_start_matches»};
 ghost use Rattle.spec.specs.Out.{push, replace};
@@ -33,6 +33,7 @@ pub enum Class {
     Equals,
     InWord,
     Black,
+    Zero,
 }
 
 pub fn is_in(class: Class, b: u8) -> bool
@@ -50,6 +51,7 @@ pub fn is_in(class: Class, b: u8) -> bool
         Class::Equals => b == 61,
         Class::InWord => is_in_word(b),
         Class::Black => !is_white(b),
+        Class::Zero => b == 48,
     }
 }
 
@@ -192,6 +194,18 @@ pub fn push_byte(text: &mut [u8], len: usize, b: u8) -> Wrote
     }
 }
 
+// Appends a byte, if it is wanted.
+pub fn push_byte_if(text: &mut [u8], len: usize, b: u8, wanted: bool) -> Wrote
+    requires { ⌜ len ≤ length (now text) ⌝ }
+    ensures { λ r. ⌜ Writes (length (now (text .entry))) (now (text .exit)) r (push (cond wanted (b ∷ []) []) (take len (now (text .entry)))) ⌝ }
+{
+    if wanted {
+        push_byte(text, len, b)
+    } else {
+        Wrote::Done(len)
+    }
+}
+
 // Appends src.
 pub fn push_all(text: &mut [u8], len: usize, src: &[u8]) -> Wrote
     requires { ⌜ len ≤ length (now text) ⌝ }
@@ -247,6 +261,9 @@ pub fn drop_front(text: &mut [u8], from: usize, n: usize)
     requires { ⌜ from + n ≤ length (now text) ⌝ }
     ensures { λ _. ⌜ (take n (now (text .exit)) ≡ take n (drop from (now (text .entry)))) × (length (now (text .exit)) ≡ length (now (text .entry))) ⌝ }
 {
+    if from == 0 {
+        return;
+    }
     let mut i = 0;
     while i < n {
         text[i] = text[from + i];
@@ -280,19 +297,19 @@ pub fn insert_byte(text: &mut [u8], len: usize, at: usize, b: u8) -> Wrote
 }
 
 // A White_Space character of one byte, of two, of three.
-fn is_white_space_1(a: u8) -> bool
+pub fn is_white_space_1(a: u8) -> bool
     ensures { λ r. ⌜ r ≡ isWhiteSpace (a ∷ []) ⌝ }
 {
     (a == 9) | ((a == 10) | ((a == 11) | ((a == 12) | ((a == 13) | (a == 32)))))
 }
 
-fn is_white_space_2(a: u8, b: u8) -> bool
+pub fn is_white_space_2(a: u8, b: u8) -> bool
     ensures { λ r. ⌜ r ≡ isWhiteSpace (a ∷ b ∷ []) ⌝ }
 {
     ((a == 194) & (b == 133)) | ((a == 194) & (b == 160))
 }
 
-fn is_white_space_3(a: u8, b: u8, c: u8) -> bool
+pub fn is_white_space_3(a: u8, b: u8, c: u8) -> bool
     ensures { λ r. ⌜ r ≡ isWhiteSpace (a ∷ b ∷ c ∷ []) ⌝ }
 {
     ((a == 225) & ((b == 154) & (c == 128)))

@@ -1,30 +1,173 @@
 // The leaves of elements/list.rs.
 ghost use mathlib.Core.Path.{_≡_};
-ghost use Prim.Native.Nat.{ℕ, _≤_};
-ghost use lib.ListN.{length, getD};
+ghost use mathlib.Core.Bool.{cond};
+ghost use mathlib.Core.List.{[], _++_};
+ghost use Prim.Native.Nat.{_+_, _≤_, _<_, _^_};
+ghost use lib.ListN.{length, take, replicate};
+ghost use Rattle.spec.specs.Bytes.{ascii, endsWith};
+ghost use Rattle.spec.specs.Out.{Out, push, cut};
+ghost use Rattle.spec.specs.Md.Ctx.{breakOf};
 ghost use Rattle.spec.specs.Md.Elements.List as def;
+ghost use Rattle.text.specs.Items.{itemOf, trimmedStart, ruleStep, inlineLead, endedItem};
+ghost use Rattle.text.specs.Writes.{Writes, Written};
+use crate::buffer::Class;
+use crate::buffer::Wrote;
+use crate::buffer::drop_front;
+use crate::buffer::ends_with_byte;
+use crate::buffer::push_all;
+use crate::buffer::push_repeated;
+use crate::buffer::trim_end_matches;
+use crate::buffer::trim_start_matches;
+use crate::ctx::prefix_len;
+use crate::ctx::push_prefix;
+use crate::text_utils::push_linebreak;
+use crate::text_utils::trim_trailing_space;
+use spec::ctx::ListContext;
 
-// Whether the byte at k goes on with a character; none stands behind the end.
-fn continues(t: &[u8], k: usize) -> bool
-    ensures { λ r. ⌜ r ≡ def.continuation (getD (now (t .entry)) k 0) ⌝ }
+// What the loop over an item's children knows: the context after its number is written, how many blanks stand before its
+// blocks, the place where its content begins.
+pub struct Item {
+    pub ctx: ListContext,
+    pub indent: usize,
+    pub start: usize,
+}
+
+// Trims blanks at the end; before an item with blocks, white bytes at the front too.
+fn trim_before_item(text: &mut [u8], len: usize, blocks: bool) -> usize
+    requires { ⌜ len ≤ length (now text) ⌝ }
+    ensures { λ r. ⌜ Written (length (now (text .entry))) (now (text .exit)) r (cut (trimmedStart blocks) (take len (now (text .entry)))) ⌝ }
 {
-    if k < t.len() {
-        (128 <= t[k]) & (t[k] <= 191)
-    } else {
-        false
+    let n = trim_trailing_space(&text[..len]);
+    if !blocks {
+        return n;
+    }
+    let k = trim_start_matches(&text[..n], Class::White);
+    drop_front(text, k, n - k);
+    n - k
+}
+
+// Begins an item: `blocks` says that it has blocks.
+pub fn begin_item(text: &mut [u8], len: usize, blocks: bool, ctx: ListContext) -> Wrote
+    requires { ⌜ len ≤ length (now text) ⌝ }
+    ensures { λ r. ⌜ Writes (length (now (text .entry))) (now (text .exit)) r (def.beginItem blocks ctx (take len (now (text .entry)))) ⌝ }
+{
+    let n = trim_before_item(text, len, blocks);
+    let indent = ctx.list_indent;
+    match push_repeated(text, n, 32, indent) {
+        Wrote::Done(m) => push_prefix(text, m, ctx),
+        Wrote::Full => Wrote::Full,
     }
 }
 
-// Where a character begins, at n or before it.
-pub fn boundary(t: &[u8], n: usize) -> usize
-    ensures { λ r. ⌜ (r ≡ def.boundary n (now (t .entry))) × (r ≤ n) ⌝ }
+// The item that begins behind a text of `start` bytes.
+pub fn item_from(ctx: ListContext, start: usize) -> Item
+    requires { ⌜ ctx .«list_indent» + 12 < 2 ^ 64 ⌝ }
+    ensures { λ r. ⌜ ((begun : Out) → start ≡ length (begun .text) → itemOf r ≡ def.itemFrom ctx begun) ⌝ }
 {
-    let mut k = n;
-    while 0 < k {
-        if !continues(t, k) {
-            return k;
-        }
-        k -= 1;
+    let indent = ctx.list_indent + prefix_len(ctx);
+    Item {
+        ctx: ctx.advance_ol_number(),
+        indent: indent,
+        start: start,
     }
-    k
+}
+
+// Ends the line, and begins the next at the item's content.
+pub fn push_line_start(text: &mut [u8], len: usize, item: Item) -> Wrote
+    requires { ⌜ len ≤ length (now text) ⌝ }
+    ensures { λ r. ⌜ Writes (length (now (text .entry))) (now (text .exit)) r (push (breakOf (item .ctx) ++ replicate (item .indent) 32) (take len (now (text .entry)))) ⌝ }
+{
+    let indent = item.indent;
+    match push_linebreak(text, len, item.ctx.opts.table_cell) {
+        Wrote::Done(n) => push_repeated(text, n, 32, indent),
+        Wrote::Full => Wrote::Full,
+    }
+}
+
+// Appends a rule on a line of its own.
+fn push_rule_line(text: &mut [u8], len: usize, item: Item) -> Wrote
+    requires { ⌜ len ≤ length (now text) ⌝ }
+    ensures { λ r. ⌜ Writes (length (now (text .entry))) (now (text .exit)) r (push ((breakOf (item .ctx) ++ replicate (item .indent) 32) ++ (ascii "---" ++ breakOf (item .ctx))) (take len (now (text .entry)))) ⌝ }
+{
+    match push_line_start(text, len, item) {
+        Wrote::Done(n) => match push_all(text, n, b"---") {
+            Wrote::Done(m) => push_linebreak(text, m, item.ctx.opts.table_cell),
+            Wrote::Full => Wrote::Full,
+        },
+        Wrote::Full => Wrote::Full,
+    }
+}
+
+// Appends a rule, behind a blank line where the item has content.
+pub fn push_rule(text: &mut [u8], len: usize, item: Item) -> Wrote
+    requires { ⌜ len ≤ length (now text) ⌝ }
+    ensures { λ r. ⌜ Writes (length (now (text .entry))) (now (text .exit)) r (ruleStep (itemOf item) (take len (now (text .entry)))) ⌝ }
+{
+    let n = trim_end_matches(&text[..len], Class::White);
+    if n <= item.start {
+        return push_rule_line(text, n, item);
+    }
+    match push_linebreak(text, n, item.ctx.opts.table_cell) {
+        Wrote::Done(m) => push_rule_line(text, m, item),
+        Wrote::Full => Wrote::Full,
+    }
+}
+
+// Begins a line at the item's content, unless one begins.
+fn push_flow_lead(text: &mut [u8], len: usize, item: Item) -> Wrote
+    requires { ⌜ len ≤ length (now text) ⌝ }
+    ensures { λ r. ⌜ Writes (length (now (text .entry))) (now (text .exit)) r (push (cond (endsWith (ascii "\n") (take len (now (text .entry)))) [] (breakOf (item .ctx)) ++ replicate (item .indent) 32) (take len (now (text .entry)))) ⌝ }
+{
+    if !ends_with_byte(&text[..len], 10) {
+        return push_line_start(text, len, item);
+    }
+    let indent = item.indent;
+    push_repeated(text, len, 32, indent)
+}
+
+// Appends what stands before a block: `indented` says that it is a code block.
+pub fn push_block_lead(
+    text: &mut [u8],
+    len: usize,
+    item: Item,
+    is_first_block: bool,
+    indented: bool,
+) -> Wrote
+    requires { ⌜ len ≤ length (now text) ⌝ }
+    ensures { λ r. ⌜ Writes (length (now (text .entry))) (now (text .exit)) r (push (def.blockLead (itemOf item) «is_first_block» indented (take len (now (text .entry)))) (take len (now (text .entry)))) ⌝ }
+{
+    let indent = item.indent;
+    if is_first_block & (indented | (len <= item.start)) {
+        return Wrote::Done(len);
+    }
+    if indented {
+        return push_repeated(text, len, 32, indent);
+    }
+    push_flow_lead(text, len, item)
+}
+
+// Appends what stands before a child that is no block.
+pub fn push_inline_lead(text: &mut [u8], len: usize, item: Item, is_blank_text: bool) -> Wrote
+    requires { ⌜ len ≤ length (now text) ⌝ }
+    ensures { λ r. ⌜ Writes (length (now (text .entry))) (now (text .exit)) r (push (inlineLead (itemOf item) «is_blank_text» (take len (now (text .entry)))) (take len (now (text .entry)))) ⌝ }
+{
+    let indent = item.indent;
+    if is_blank_text | (len <= item.start) {
+        return Wrote::Done(len);
+    }
+    if !ends_with_byte(&text[..len], 10) {
+        return Wrote::Done(len);
+    }
+    push_repeated(text, len, 32, indent)
+}
+
+// Ends the item's last line.
+pub fn end_item(text: &mut [u8], len: usize, item: Item) -> Wrote
+    requires { ⌜ len ≤ length (now text) ⌝ }
+    ensures { λ r. ⌜ Writes (length (now (text .entry))) (now (text .exit)) r (endedItem (itemOf item) (take len (now (text .entry)))) ⌝ }
+{
+    if ends_with_byte(&text[..len], 10) {
+        return Wrote::Done(len);
+    }
+    push_linebreak(text, len, item.ctx.opts.table_cell)
 }

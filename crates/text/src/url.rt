@@ -1,15 +1,16 @@
 // push_md_url of text_utils.rs with html_escape. The escaped destination is never a text of its own: each byte is replaced
 // as it is appended.
 ghost use mathlib.Core.Path.{_≡_};
-ghost use mathlib.Core.Bool.{cond};
-ghost use Prim.Native.Nat.{ℕ, _+_, _-_, _≤_, _<_, _^_};
+ghost use Prim.Native.Nat.{_≤_};
 ghost use lib.ListN.{length, take};
-ghost use lib.Dec.{eqb};
+ghost use lib.IntN.{pos, _+ℤ_, _-ℤ_};
+ghost use mir.Syntax.{w32};
+ghost use mir.Val.{SFits};
 ghost use mathlib.Core.List.{_++_};
 ghost use Rattle.spec.specs.Bytes.{ascii};
 ghost use Rattle.spec.specs.Out.{push};
 ghost use Rattle.spec.specs.Md.TextUtils as def;
-ghost use Rattle.text.specs.Url.{urlByte, pieceOf};
+ghost use Rattle.text.specs.Url.{nextBalance, urlByte, pieceOf};
 ghost use Rattle.text.specs.Writes.{Writes};
 use crate::buffer::Wrote;
 use crate::buffer::push_all;
@@ -22,31 +23,36 @@ fn wants_wrap(b: u8) -> bool
     ((b == 32) | (b == 60)) | ((b <= 31) | (b == 127))
 }
 
-// The parentheses open behind b.
-fn next_balance(balance: usize, b: u8) -> usize
-    requires { ⌜ balance + 1 < 2 ^ 64 ⌝ }
-    ensures { λ r. ⌜ r ≡ cond (eqb b 40) (balance + 1) (cond (eqb b 41) (balance - 1) balance) ⌝ }
+// The balance of parentheses behind b: below zero where b closes one that is not open.
+fn next_balance(balance: i32, b: u8) -> i32
+    requires { ⌜ SFits w32 (balance +ℤ pos 1) × SFits w32 (balance -ℤ pos 1) ⌝ }
+    ensures { λ r. ⌜ r ≡ nextBalance balance b ⌝ }
 {
     if b == 40 {
         return balance + 1;
     }
-    if b != 41 {
-        return balance;
+    if b == 41 {
+        return balance - 1;
     }
-    if balance == 0 { 0 } else { balance - 1 }
+    balance
 }
 
-// Whether a destination stands between `<` and `>`. The replacements of html_escape change nothing in that.
+// Whether a destination stands between `<` and `>`. The replacements of html_escape change nothing in that. The balance is an
+// i32, as in the Rust; over so few bytes it cannot overflow.
 fn needs_wrap(dest: &[u8]) -> bool
+    requires { ⌜ length (now dest) ≤ 1048576 ⌝ }
     ensures { λ r. ⌜ r ≡ def.needsWrap 0 (now (dest .entry)) ⌝ }
 {
-    let mut balance: usize = 0;
+    let mut balance: i32 = 0;
     let mut i = 0;
     while i < dest.len() {
-        if wants_wrap(dest[i]) | ((dest[i] == 41) & (balance == 0)) {
+        if wants_wrap(dest[i]) {
             return true;
         }
         balance = next_balance(balance, dest[i]);
+        if balance < 0 {
+            return true;
+        }
         i += 1;
     }
     balance != 0
@@ -134,8 +140,9 @@ fn push_wrapped(text: &mut [u8], len: usize, dest: &[u8]) -> Wrote
     }
 }
 
+// A destination is a part of the sheet, which has at most 1,048,576 bytes (question 1).
 pub fn push_md_url(text: &mut [u8], len: usize, dest: &[u8]) -> Wrote
-    requires { ⌜ len ≤ length (now text) ⌝ }
+    requires { ⌜ (len ≤ length (now text)) × (length (now dest) ≤ 1048576) ⌝ }
     ensures { λ r. ⌜ Writes (length (now (text .entry))) (now (text .exit)) r (def.«push_md_url» (now (dest .entry)) (take len (now (text .entry)))) ⌝ }
 {
     if needs_wrap(dest) {

@@ -56,6 +56,9 @@ enum-told-11 c = search needs
 is-white-requires-2 : tie.Need-is-white-requires-2
 is-white-requires-2 c κs = search needs
 
+enum-told-12 : tie.Need-enum-told-12
+enum-told-12 c = search needs
+
 returns : tie.Need-returns
 unfolding blank
 returns c =
@@ -101,5 +104,9 @@ returns-11 : tie.Need-returns-11
 returns-11 c =
     ap not (c .is-white2 .ensures) ∙ sym (ap (λ (k : Class). inClass k (c .before .before .before .args .b)) (c .before .enum-told11 .given .1))
 
+returns-12 : tie.Need-returns-12
+returns-12 c =
+    sym (ap (λ (k : Class). inClass k (c .before .before .args .b)) (c .enum-told12 .given .1))
+
 pub is-in-spec : {M : Type 1} → statement M
-is-in-spec = tie.close (tie.spec enum-told enum-told-2 is-white-requires enum-told-3 is-digit-requires enum-told-4 enum-told-5 enum-told-6 enum-told-7 is-tab-or-blank-requires enum-told-8 enum-told-9 enum-told-10 is-in-word-requires enum-told-11 is-white-requires-2 returns returns-2 returns-3 returns-4 returns-5 returns-6 returns-7 returns-8 returns-9 returns-10 returns-11)
+is-in-spec = tie.close (tie.spec enum-told enum-told-2 is-white-requires enum-told-3 is-digit-requires enum-told-4 enum-told-5 enum-told-6 enum-told-7 is-tab-or-blank-requires enum-told-8 enum-told-9 enum-told-10 is-in-word-requires enum-told-11 is-white-requires-2 enum-told-12 returns returns-2 returns-3 returns-4 returns-5 returns-6 returns-7 returns-8 returns-9 returns-10 returns-11 returns-12)

@@ -5,7 +5,7 @@ use mathlib.Core.List.{[], _∷_}
 use lib.ListN.{length}
 use lib.Dec.{eqb}
 use Rattle.spec.specs.Bytes.{endsWith}
-use Rattle.text.proofs.Wording.{null-is}
+use Rattle.tree.proofs.Rules.{null-length}
 use borrow.Author.Needs.{needs}
 use Rattle.text.proofs.normalize.is_line_start.Statement.{statement}
 use Rattle.text.proofs.normalize.is_line_start.Tie as tie
@@ -17,7 +17,7 @@ returns : tie.Need-returns
 returns c =
     let a = c .before .before .before .args in
     ap (λ (t : Bool). (eqb (length (a .text .now)) 0 || t) || a .opts .«list_item») (c .before .ends-with-byte .ensures)
-    ∙ ap (λ (t : Bool). (t || endsWith (10 ∷ []) (a .text .now)) || a .opts .«list_item») (sym (null-is (a .text .now)))
+    ∙ ap (λ (t : Bool). (t || endsWith (10 ∷ []) (a .text .now)) || a .opts .«list_item») (sym (null-length (a .text .now)))
 
 pub is-line-start-spec : {M : Type 1} → statement M
 is-line-start-spec = tie.close (tie.spec ends-with-byte-requires returns)
