@@ -138,7 +138,7 @@ inline-padded w ws c h k = inline-Celled (padded-Celled k) ∙ ap (map word) (wo
 -- ---- the scan of a row
 
 -- a backslash that is held back
-unfoldable held : Bool → Bytes → Bytes
+unfoldable pub held : Bool → Bytes → Bytes
 held true c = 92 ∷ c
 held false c = c
 
@@ -176,7 +176,7 @@ unfoldable pub paddedAll : List Bytes → List Bytes
 paddedAll [] = []
 paddedAll (c ∷ cs) = padded c ∷ paddedAll cs
 
-whole : Cells → List Bytes
+unfoldable pub whole : Cells → List Bytes
 whole p = p .0 ∷ p .1
 
 tail-cells : {es cs : List Bytes} → Rowed es cs → whole (cells false (rowTail es)) ≡ paddedAll cs ++ ([] ∷ [])
@@ -185,7 +185,7 @@ tail-cells rnil = refl
 tail-cells (rcons {e} {c} {es = es} h k) =
     rw (cells-cell false (124 ∷ rowTail es) h) (ap (λ (l : List Bytes). (32 ∷ (c ++ (32 ∷ []))) ∷ l) (tail-cells k))
 
-untrailed-all : (cs : List Bytes) → untrailed (paddedAll cs ++ ([] ∷ [])) ≡ paddedAll cs
+pub untrailed-all : (cs : List Bytes) → untrailed (paddedAll cs ++ ([] ∷ [])) ≡ paddedAll cs
 unfolding untrailed paddedAll null blankCell every
 untrailed-all [] = refl
 untrailed-all (c ∷ []) = refl

@@ -26,36 +26,7 @@ use Rattle.recovery.specs.Cells.{in-cell}
 use Rattle.recovery.specs.Tables.{cell-line}
 use Rattle.recovery.specs.TableBlocks.{kids-text, allCells, table-rows}
 use Rattle.recovery.specs.Lists.{ItemOk, item-ok, ListOk, list-ok}
-use Rattle.recovery.specs.Closed.{
-  phrase,
-  headingWords,
-  headingLine,
-  fixedByte,
-  fixedLines,
-  fenceOf,
-  fencedLines,
-  cellPhrases,
-  rowTail,
-  rowLine,
-  hyphens,
-  dataLines,
-  underHeadings,
-  blankHeadings,
-  tableBy,
-  tableLines,
-  marker,
-  itemLine,
-  deeper,
-  listInterrupts,
-  spaced,
-  itemsLines,
-  contentLines,
-  listsLines,
-  leafLines,
-  ownLines,
-  blockLines,
-  sheetLines,
-}
+use Rattle.recovery.specs.Closed.{phrase, headingWords, headingLine, fixedByte, fixedLines, fenceOf, fencedLines, cellPhrases, rowTail, rowLine, hyphens, dataLines, underHeadings, blankHeadings, tableBy, tableLines, marker, itemLine, deeper, listInterrupts, spaced, itemsLines, contentLines, listsLines, leafLines, ownLines, blockLines, sheetLines}
 
 -- ---- lists of lines
 
@@ -88,7 +59,7 @@ unfolding null
 last-app a [] h k = rw (append-nil a) h
 last-app a (l ∷ b) h k = last-behind a (l ∷ b) refl k
 
-some-app : (a b : List Bytes) → null a ≡ false → null (a ++ b) ≡ false
+pub some-app : (a b : List Bytes) → null a ≡ false → null (a ++ b) ≡ false
 unfolding null
 some-app [] b n = absurd (true≢false n)
 some-app (l ∷ a) b n = refl
@@ -238,13 +209,15 @@ fence-full s =
     let n : ℕ = suc (max («max_backtick_run» s) 2) in
     full-one (replicate n 96) (every-replicate inLine n 96 tick-line) refl
 
+pub fixed-lines : (s : Bytes) → fixedText s ≡ true → clean (fixedLines s) ≡ true
+unfolding fixedText without
+fixed-lines s h =
+    fixed-clean s (absent 0 s (not-true (isin 0 s) (and-l (not (isin 0 s)) _ h)))
+    (absent 13 s (not-true (isin 13 s) (and-l (not (isin 13 s)) true (and-r (not (isin 0 s)) _ h))))
+
 fixed-full : (s : Bytes) → fixedText s ≡ true → Full (fencedLines s)
-unfolding fixedText without fencedLines
-fixed-full s h =
-    full-behind (fenceOf s ∷ []) (fence-full s .whole)
-    (full-behind (fixedLines s)
-    (fixed-clean s (absent 0 s (not-true (isin 0 s) (and-l (not (isin 0 s)) _ h))) (absent 13 s (not-true (isin 13 s) (and-l (not (isin 13 s)) true (and-r (not (isin 0 s)) _ h)))))
-    (fence-full s))
+unfolding fencedLines
+fixed-full s h = full-behind (fenceOf s ∷ []) (fence-full s .whole) (full-behind (fixedLines s) (fixed-lines s h) (fence-full s))
 
 -- ---- tables
 

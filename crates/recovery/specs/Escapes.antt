@@ -128,15 +128,25 @@ unescaped-bare : (start marker underline : Bool) (b : ℕ) (rest : Bytes) → pl
 unfolding isEscaped quiet
 unescaped-bare start marker underline b rest k h = quiet-bare b (rw (k, or-l (isin b (ascii "\\`*_[]<|~")) _ h))
 
-escaped-punctuation : (start marker underline : Bool) (b : ℕ) (rest : Bytes) → isEscaped start marker underline b rest ≡ true
+-- the bytes that are escaped somewhere
+unfoldable pub escapable : ℕ → Bool
+escapable b = isin b (ascii "\\`*_[]<|~#>-+!.)=")
+
+pub escaped-escapable : (start marker underline : Bool) (b : ℕ) (rest : Bytes) → isEscaped start marker underline b rest ≡ true
+    → escapable b ≡ true
+unfolding isEscaped escapable every isin
+escaped-escapable start marker underline b rest h =
+    or-elim (isin b (ascii "\\`*_[]<|~")) _ (λ e. isin-yes escapable b (ascii "\\`*_[]<|~") e refl)
+    (or-elim (start && isin b (ascii "#>-+")) _ (λ e. isin-yes escapable b (ascii "#>-+") (and-r start _ e) refl)
+    (or-elim (eqb b 33 && startsWith (ascii "[") rest) _ (λ e. eqb-yes escapable b 33 (and-l (eqb b 33) _ e) refl)
+    (or-elim (marker && isin b (ascii ".)")) _ (λ e. isin-yes escapable b (ascii ".)") (and-r marker _ e) refl)
+    (λ e. eqb-yes escapable b 61 (and-r underline (eqb b 61) (and-r start _ e)) refl)))) h
+
+pub escaped-punctuation : (start marker underline : Bool) (b : ℕ) (rest : Bytes) → isEscaped start marker underline b rest ≡ true
     → punctuation b ≡ true
-unfolding isEscaped punctuation every
+unfolding escapable punctuation every
 escaped-punctuation start marker underline b rest h =
-    or-elim (isin b (ascii "\\`*_[]<|~")) _ (λ e. isin-yes punctuation b (ascii "\\`*_[]<|~") e refl)
-    (or-elim (start && isin b (ascii "#>-+")) _ (λ e. isin-yes punctuation b (ascii "#>-+") (and-r start _ e) refl)
-    (or-elim (eqb b 33 && startsWith (ascii "[") rest) _ (λ e. eqb-yes punctuation b 33 (and-l (eqb b 33) _ e) refl)
-    (or-elim (marker && isin b (ascii ".)")) _ (λ e. isin-yes punctuation b (ascii ".)") (and-r marker _ e) refl)
-    (λ e. eqb-yes punctuation b 61 (and-r underline (eqb b 61) (and-r start _ e)) refl)))) h
+    isin-yes punctuation b (ascii "\\`*_[]<|~#>-+!.)=") (escaped-escapable start marker underline b rest h) refl
 
 from-Esc : (start marker underline : Bool) (w : Bytes) → every plainByte w ≡ true → Esc (escapedFrom start marker underline w) w
 unfolding escapedFrom every

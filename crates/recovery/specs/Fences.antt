@@ -11,7 +11,7 @@ use Rattle.spec.specs.Bytes.{Bytes, ascii, null, same, isin, every, endsWith}
 use Rattle.spec.specs.Entries.{Entry, fixed}
 use Rattle.spec.specs.SheetList.{withFinalLf}
 use Rattle.spec.specs.Md.Elements.Code.{longestRun, «max_backtick_run»}
-use Rattle.spec.specs.Reading.Lines.{spaceOrTab, blankLine, dropWhile, run, dropRun, column, strip, unindent}
+use Rattle.spec.specs.Reading.Lines.{spaceOrTab, blankLine, headIs, dropWhile, run, dropRun, column, strip, unindent}
 use Rattle.spec.specs.Reading.Starts.{fenceStart, fenceBy, fence, closingFence, lead, startBy, start}
 use Rattle.spec.specs.Reading.Held.{State, state, noLeaf, fenceLeaf, closed, entryIf, addLine, isRaw}
 use Rattle.spec.specs.Reading.Step.{kept, allKept, base, lineBy, rawLine, rawStep, stepBy, step}
@@ -39,13 +39,13 @@ ended-byte false b c s e = go (eqb c 10) (fixedLines s)
     go false [] = refl
     go false (l ∷ ls) = refl
 
-ends-more : (b c : ℕ) (s : Bytes) → endsWith (ascii "\n") (b ∷ c ∷ s) ≡ endsWith (ascii "\n") (c ∷ s)
+pub ends-more : (x b c : ℕ) (s : Bytes) → endsWith (x ∷ []) (b ∷ c ∷ s) ≡ endsWith (x ∷ []) (c ∷ s)
 unfolding endsWith
-ends-more b c s = rw (one-less (suc (length s)), one-less (length s))
+ends-more x b c s = rw (one-less (suc (length s)), one-less (length s))
 
 final-more : (b c : ℕ) (s : Bytes) → withFinalLf (b ∷ c ∷ s) ≡ b ∷ withFinalLf (c ∷ s)
 unfolding withFinalLf null
-final-more b c s = rw (ends-more b c s) (go (endsWith (ascii "\n") (c ∷ s)))
+final-more b c s = rw (ends-more 10 b c s) (go (endsWith (ascii "\n") (c ∷ s)))
   where
     go : (t : Bool) → cond t (b ∷ c ∷ s) (b ∷ c ∷ (s ++ (10 ∷ []))) ≡ b ∷ cond t (c ∷ s) (c ∷ (s ++ (10 ∷ [])))
     go true = refl
@@ -66,12 +66,12 @@ ended-final (b ∷ c ∷ s) = ended-byte (eqb b 10) b c s refl ∙ (ap (λ (r : 
 -- ---- runs of backticks
 
 -- in no line is a run longer than m
-abbrev Under : ℕ → List Bytes → Type 0
+abbrev pub Under : ℕ → List Bytes → Type 0
 Under m [] = Unit {0}
 Under m (l ∷ ls) = (longestRun 0 l ≤ m) × Under m ls
 
 -- likewise, where n backticks stand before the first line
-abbrev UnderFrom : ℕ → ℕ → List Bytes → Type 0
+abbrev pub UnderFrom : ℕ → ℕ → List Bytes → Type 0
 UnderFrom n m [] = Unit {0}
 UnderFrom n m (l ∷ ls) = (longestRun n l ≤ m) × Under m ls
 
@@ -79,11 +79,11 @@ under-weaker : (m k : ℕ) (ls : List Bytes) → m ≤ k → Under m ls → Unde
 under-weaker m k [] h u = tt
 under-weaker m k (l ∷ ls) h u = (omega arith, under-weaker m k ls h (u .1))
 
-under-first : (m : ℕ) (ls : List Bytes) → UnderFrom 0 m ls → Under m ls
+pub under-first : (m : ℕ) (ls : List Bytes) → UnderFrom 0 m ls → Under m ls
 under-first m [] u = tt
 under-first m (l ∷ ls) u = u
 
-longest-least : (n : ℕ) (s : Bytes) → n ≤ longestRun n s
+pub longest-least : (n : ℕ) (s : Bytes) → n ≤ longestRun n s
 unfolding longestRun
 longest-least n [] = omega arith
 longest-least n (b ∷ s) = go (eqb b 96) (longest-least (suc n) s)
@@ -106,7 +106,7 @@ under-byte false false n b s (l ∷ ls) e g u v =
     (rw e (omega arith), under-weaker (longestRun 0 s) (max n (longestRun 0 s)) ls (omega arith) (v .1))
 
 -- the lines of a text have no longer runs than the text
-under-lines : (n : ℕ) (s : Bytes) → UnderFrom n (longestRun n s) (fixedLines s)
+pub under-lines : (n : ℕ) (s : Bytes) → UnderFrom n (longestRun n s) (fixedLines s)
 unfolding fixedLines longestRun
 under-lines n [] = tt
 under-lines n (b ∷ s) = under-byte (eqb b 96) (eqb b 10) n b s (fixedLines s) refl refl (under-lines (suc n) s) (under-lines 0 s)
@@ -135,11 +135,11 @@ strip-run (b ∷ l) = strip-by (spaceOrTab b) b l refl (strip-run l)
 -- ---- inside the fence
 
 -- a line with shorter runs does not close it
-no-close : (n : ℕ) (l : Bytes) → longestRun 0 l < n → closingFence 96 n (strip l) ≡ false
+pub no-close : (n : ℕ) (l : Bytes) → longestRun 0 l < n → closingFence 96 n (strip l) ≡ false
 unfolding closingFence
 no-close n l h = rw (lt-leb n (run 96 (strip l)) (omega (arith, strip-run l)))
 
-unindent-zero : (l : Bytes) → unindent 0 0 l ≡ l
+pub unindent-zero : (l : Bytes) → unindent 0 0 l ≡ l
 unfolding unindent
 unindent-zero [] = refl
 unindent-zero (b ∷ l) = refl
@@ -164,15 +164,23 @@ fence-lines o m n t (l ∷ ls) more u h =
 
 -- ---- the fence
 
-run-fence : (k : ℕ) → run 96 (replicate k 96) ≡ k
-unfolding run
-run-fence zero = refl
-run-fence (suc k) = ap suc (run-fence k)
+pub run-front : (k : ℕ) (r : Bytes) → headIs 96 r ≡ false → run 96 (replicate k 96 ++ r) ≡ k
+unfolding run headIs
+run-front zero [] h = refl
+run-front zero (b ∷ r) h = rw h
+run-front (suc k) r h = ap suc (run-front k r h)
 
-drop-fence : (k : ℕ) → dropRun 96 (replicate k 96) ≡ []
-unfolding dropRun
-drop-fence zero = refl
-drop-fence (suc k) = drop-fence k
+pub drop-front : (k : ℕ) (r : Bytes) → headIs 96 r ≡ false → dropRun 96 (replicate k 96 ++ r) ≡ r
+unfolding dropRun headIs
+drop-front zero [] h = refl
+drop-front zero (b ∷ r) h = rw h
+drop-front (suc k) r h = drop-front k r h
+
+pub run-fence : (k : ℕ) → run 96 (replicate k 96) ≡ k
+run-fence k = rw append-nil at (run-front k [] (unfold headIs in refl))
+
+pub drop-fence : (k : ℕ) → dropRun 96 (replicate k 96) ≡ []
+drop-fence k = rw append-nil at (drop-front k [] (unfold headIs in refl))
 
 start-fence : (k : ℕ) → 2 ≤ k → start (replicate (suc k) 96) ≡ fenceStart 96 (suc k) []
 unfolding start startBy lead fence fenceBy isin

@@ -39,7 +39,7 @@ in-line b x h n = apart inLine b x h n
 
 -- ---- no NUL
 
-safe-line : (l r : Bytes) → every inLine l ≡ true → safe (l ++ r) ≡ l ++ safe r
+pub safe-line : (l r : Bytes) → every inLine l ≡ true → safe (l ++ r) ≡ l ++ safe r
 unfolding every safe safeByte
 safe-line [] r h = refl
 safe-line (b ∷ l) r h =
@@ -51,7 +51,7 @@ safe-rest [] h = refl
 safe-rest (l ∷ ls) h =
     rw (safe-line l (joinRest (ascii "\n") ls) (and-l (every inLine l) _ h), safe-rest ls (and-r (every inLine l) _ h))
 
-safe-join : (ls : List Bytes) → clean ls ≡ true → safe (join (ascii "\n") ls) ≡ join (ascii "\n") ls
+pub safe-join : (ls : List Bytes) → clean ls ≡ true → safe (join (ascii "\n") ls) ≡ join (ascii "\n") ls
 unfolding clean join safe
 safe-join [] h = refl
 safe-join (l ∷ ls) h =
@@ -59,7 +59,7 @@ safe-join (l ∷ ls) h =
 
 -- ---- lines part where they were joined
 
-cut-line : (l r : Bytes) → every inLine l ≡ true → cutLines (l ++ r) ≡ (l ++ cutLines r .0, cutLines r .1)
+pub cut-line : (l r : Bytes) → every inLine l ≡ true → cutLines (l ++ r) ≡ (l ++ cutLines r .0, cutLines r .1)
 unfolding every cutLines endsLine lineByte
 cut-line [] r h = refl
 cut-line (b ∷ l) r h =

@@ -20,3 +20,5 @@ pub mod Silent
 pub mod Blocks
 pub mod Clean
 pub mod Recovered
+pub mod Written
+pub mod Pieces

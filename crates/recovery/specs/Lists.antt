@@ -51,7 +51,7 @@ signed-small (b ∷ s) = go (eqb b 45) (eqb b 43)
     go false true = positive-small (digitsValue s)
     go false false = positive-small (digitsValue (b ∷ s))
 
-as-small : (value : Option Bytes) → smallNumber (asNumber value) ≡ true
+pub as-small : (value : Option Bytes) → smallNumber (asNumber value) ≡ true
 unfolding asNumber listNumber
 as-small none = unfold smallNumber in refl
 as-small (some s) = signed-small («trim_ascii_start» s)
@@ -75,7 +75,7 @@ entries-item : (d : ℕ) (due : Option ℕ) (name : Bytes) (attrs : List Attr) (
 unfolding entries own depthInside dueBehind firstDue isList isin
 entries-item d due name attrs kids rest e = rw (eqb-true (tagOf name) 16 e)
 
-list-tag : (n : ℕ) → isList n ≡ true → (n ≡ 11) ⊎ (n ≡ 12)
+pub list-tag : (n : ℕ) → isList n ≡ true → (n ≡ 11) ⊎ (n ≡ 12)
 unfolding isList isin
 list-tag n h = or-elim (eqb n 11) (eqb n 12 || false) (λ e. inl (eqb-true n 11 e)) (or-elim (eqb n 12) false (λ e. inr (eqb-true n 12 e)) (λ e. absurd (false≢true e))) h
 

@@ -154,7 +154,7 @@ start-digits (b ∷ ds) t h k l =
       le-leb (suc (length ds)) 9 l,
     )
 
-start-number : (n : ℕ) (t : Bytes) → n ≤ 999999999
+pub start-number : (n : ℕ) (t : Bytes) → n ≤ 999999999
     → start (decimal n ++ (46 ∷ 32 ∷ t)) ≡ itemStart (some n) (suc (length (decimal n))) (32 ∷ t)
 start-number n t h =
     start-digits (decimal n) t (decimal-digits n) (length-least n) (length-nine n h)

@@ -14,7 +14,7 @@ use Rattle.spec.specs.Names.{tagOf}
 use Rattle.spec.specs.Tree.{Attr, Forest, nothing, text, comment, element}
 use Rattle.spec.specs.Entries.{Piece, word, Entry, table}
 use Rattle.spec.specs.Plain as plain
-use Rattle.spec.specs.Plain.{plainText, oneText, isCell, isRowGroup, countNodes, allHave, equalRows, tableParts, plainTable}
+use Rattle.spec.specs.Plain.{noNode, plainText, oneText, isCell, isRowGroup, countNodes, allHave, equalRows, tableParts, plainTable}
 use Rattle.spec.specs.SheetList as list
 use Rattle.spec.specs.SheetList.{firstText, wordsOf, cellsOf, allTh}
 use Rattle.spec.specs.Reading.Inline.{inline}
@@ -31,6 +31,17 @@ use Rattle.recovery.specs.Steps.{Reached}
 use Rattle.recovery.specs.Closed.{phrase, cellPhrases, rowLine, dataLines, underHeadings, blankHeadings, tableBy, tableLines}
 
 -- ---- cells
+
+-- nodes that are one text
+pub one-text : (q : Bytes → Bool) (kids : Forest) → oneText q kids ≡ true → kids ≡ text (firstText kids) nothing
+unfolding oneText noNode firstText
+one-text q nothing h = absurd (false≢true h)
+one-text q (text s nothing) h = refl
+one-text q (text s (text r rest)) h = absurd (false≢true (and-r (q s) _ h))
+one-text q (text s (comment r rest)) h = absurd (false≢true (and-r (q s) _ h))
+one-text q (text s (element name attrs kids rest)) h = absurd (false≢true (and-r (q s) _ h))
+one-text q (comment s rest) h = absurd (false≢true h)
+one-text q (element name attrs kids rest) h = absurd (false≢true h)
 
 pub kids-text : (q : Bytes → Bool) (kids : Forest) → oneText q kids ≡ true → q (firstText kids) ≡ true
 unfolding oneText firstText

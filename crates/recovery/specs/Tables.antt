@@ -72,7 +72,7 @@ bare-line : (b : ℕ) → bare b ≡ true → inLine b ≡ true
 unfolding bare inLine isin
 bare-line b h = rw (apart bare b 0 h refl, apart bare b 10 h refl, apart bare b 13 h refl)
 
-punctuation-line : (b : ℕ) → punctuation b ≡ true → inLine b ≡ true
+pub punctuation-line : (b : ℕ) → punctuation b ≡ true → inLine b ≡ true
 unfolding punctuation inLine isin
 punctuation-line b h = rw (apart punctuation b 0 h refl, apart punctuation b 10 h refl, apart punctuation b 13 h refl)
 

@@ -6,7 +6,7 @@ use mathlib.Core.List.{[], _∷_, _++_}
 use lib.Dec.{eqb}
 use lib.ListN.{replicate}
 use borrow.Author.Tests.{not-true, eqb-true, ne-eqb}
-use Rattle.spec.specs.Bytes.{Bytes, isin, every}
+use Rattle.spec.specs.Bytes.{Bytes, null, isin, every}
 
 pub and-l : (a b : Bool) → (a && b) ≡ true → a ≡ true
 and-l true b h = refl
@@ -68,3 +68,31 @@ pub every-replicate : (q : ℕ → Bool) (n b : ℕ) → q b ≡ true → every 
 unfolding every
 every-replicate q zero b h = refl
 every-replicate q (suc n) b h = rw h (every-replicate q n b h)
+
+pub every-byte : (s : Bytes) → every (λ b. true) s ≡ true
+unfolding every
+every-byte [] = refl
+every-byte (b ∷ s) = every-byte s
+
+pub every-both : (p q : ℕ → Bool) (s : Bytes) → every p s ≡ true → every q s ≡ true → every (λ b. p b && q b) s ≡ true
+unfolding every
+every-both p q [] h k = refl
+every-both p q (b ∷ s) h k = rw (and-l (p b) _ h, and-l (q b) _ k) (every-both p q s (and-r (p b) _ h) (and-r (q b) _ k))
+
+pub every-front : (q : ℕ → Bool) (s r : Bytes) → every q s ≡ false → every q (s ++ r) ≡ false
+unfolding every
+every-front q [] r h = absurd (true≢false h)
+every-front q (b ∷ s) r h = go (q b) h (every-front q s r)
+  where
+    go : (t : Bool) → (t && every q s) ≡ false → (every q s ≡ false → every q (s ++ r) ≡ false) → (t && every q (s ++ r)) ≡ false
+    go true h f = f h
+    go false h f = refl
+
+-- a class has all of l, and not b
+pub isin-lacks : (q : ℕ → Bool) (b : ℕ) (l : Bytes) → every q l ≡ true → q b ≡ false → isin b l ≡ false
+isin-lacks q b l h n = isin-no (λ x. not (q x)) b l (ap not n) (every-imp q (λ x. not (not (q x))) l (λ x e. rw e) h)
+
+pub null-nil : (s : Bytes) → null s ≡ true → s ≡ []
+unfolding null
+null-nil [] h = refl
+null-nil (b ∷ s) h = absurd (false≢true h)

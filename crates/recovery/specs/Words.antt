@@ -78,31 +78,48 @@ words-blanked ws h = rw (parts-blanked ws h) (filled-plain ws h)
 
 -- ---- a plain text's words are such words
 
-unfoldable allPlain : List Bytes → Bool
-allPlain [] = true
-allPlain (w ∷ ws) = every plainByte w && allPlain ws
+unfoldable pub allOf : (ℕ → Bool) → List Bytes → Bool
+allOf q [] = true
+allOf q (w ∷ ws) = every q w && allOf q ws
 
-Parted : Bytes × List Bytes → Type 0
-Parted r = (every plainByte (r .0) ≡ true) × (allPlain (r .1) ≡ true)
+Parted : (ℕ → Bool) → Bytes × List Bytes → Type 0
+Parted q r = (every q (r .0) ≡ true) × (allOf q (r .1) ≡ true)
 
-cut-plain : (t : Bool) (b : ℕ) (r : Bytes × List Bytes) → white b ≡ t → kept b ≡ true → Parted r → Parted (cutAt t b r)
-unfolding cutAt every allPlain Parted plainByte
-cut-plain true b r e k h = (refl, rw (h .0) (h .1))
-cut-plain false b r e k h = (rw (e, k) (h .0), h .1)
+cut-all : (q : ℕ → Bool) (t : Bool) (b : ℕ) (r : Bytes × List Bytes) → (t ≡ false → q b ≡ true) → Parted q r → Parted q (cutAt t b r)
+unfolding cutAt every allOf Parted
+cut-all q true b r k h = (refl, rw (h .0) (h .1))
+cut-all q false b r k h = (rw (k refl) (h .0), h .1)
 
-parts-plain : (s : Bytes) → every kept s ≡ true → Parted (parts white s)
+-- the words of a text over p are over q, which has every byte of p that is not white
+parts-all : (p q : ℕ → Bool) → ((b : ℕ) → white b ≡ false → p b ≡ true → q b ≡ true)
+    → (s : Bytes) → every p s ≡ true → Parted q (parts white s)
 unfolding parts every Parted
-parts-plain [] h = (refl, unfold allPlain in refl)
-parts-plain (b ∷ s) h = cut-plain (white b) b (parts white s) refl (and-l (kept b) _ h) (parts-plain s (and-r (kept b) _ h))
+parts-all p q f [] h = (refl, unfold allOf in refl)
+parts-all p q f (b ∷ s) h =
+    cut-all q (white b) b (parts white s) (λ e. f b e (and-l (p b) _ h)) (parts-all p q f s (and-r (p b) _ h))
+
+filled-of : (q : ℕ → Bool) (ws : List Bytes) → allOf q ws ≡ true → allOf q (filled ws) ≡ true
+unfolding allOf filled
+filled-of q [] h = refl
+filled-of q (w ∷ ws) h = go (null w) (filled-of q ws (and-r (every q w) _ h))
+  where
+    go : (t : Bool) → allOf q (filled ws) ≡ true → allOf q (cond t (filled ws) (w ∷ filled ws)) ≡ true
+    go true ih = ih
+    go false ih = rw (and-l (every q w) _ h) ih
+
+pub words-all : (p q : ℕ → Bool) → ((b : ℕ) → white b ≡ false → p b ≡ true → q b ≡ true)
+    → (s : Bytes) → every p s ≡ true → allOf q (words s) ≡ true
+unfolding words split Parted
+words-all p q f s h = filled-of q _ (unfold allOf in rw (parts-all p q f s h .0) (parts-all p q f s h .1))
 
 plain-word : (w : Bytes) → null w ≡ false → every plainByte w ≡ true → plainWord w ≡ true
 unfolding plainWord
 plain-word w e h = rw (e, h)
 
-filled-all : (ws : List Bytes) → allPlain ws ≡ true → plainWords (filled ws) ≡ true
-unfolding allPlain filled plainWords
-filled-all [] h = refl
-filled-all (w ∷ ws) h = go (null w) refl (filled-all ws (and-r (every plainByte w) _ h))
+filled-plainly : (ws : List Bytes) → allOf plainByte ws ≡ true → plainWords (filled ws) ≡ true
+unfolding allOf filled plainWords
+filled-plainly [] h = refl
+filled-plainly (w ∷ ws) h = go (null w) refl (filled-plainly ws (and-r (every plainByte w) _ h))
   where
     go : (t : Bool) → null w ≡ t → plainWords (filled ws) ≡ true → plainWords (cond t (filled ws) (w ∷ filled ws)) ≡ true
     go true e ih = ih
@@ -134,9 +151,14 @@ without-kept s h =
     kept-all s (absent 0 s (not-true _ (and-l (not (isin 0 s)) _ h))) (absent 11 s (not-true _ (and-l (not (isin 11 s)) _ more)))
     (absent 38 s (not-true _ (and-l (not (isin 38 s)) true last)))
 
+kept-plain : (b : ℕ) → white b ≡ false → kept b ≡ true → plainByte b ≡ true
+unfolding plainByte
+kept-plain b e k = rw (e, k)
+
 words-plain : (s : Bytes) → every kept s ≡ true → plainWords (words s) ≡ true
 unfolding words split Parted
-words-plain s h = filled-all _ (unfold allPlain in rw (parts-plain s h .0) (parts-plain s h .1))
+words-plain s h =
+    filled-plainly _ (unfold allOf in rw (parts-all kept plainByte kept-plain s h .0) (parts-all kept plainByte kept-plain s h .1))
 
 -- what is known of a plain text: its bytes, its words, and that it has some
 pub text-kept : (s : Bytes) → plainText s ≡ true → every kept s ≡ true

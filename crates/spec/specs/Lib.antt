@@ -16,5 +16,6 @@ pub mod ListNumber
 pub mod Plain
 pub mod SheetList
 pub mod Reading
+pub mod Pieces
 pub mod Everything
 pub mod Cases

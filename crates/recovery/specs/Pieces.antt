@@ -1,0 +1,31 @@
+-- What the writer's definitions give for the pieces that public documents define, whatever the sheet holds; each theorem names its
+-- exceptions.
+pub mod Examples
+pub mod Integers
+pub mod Escapes
+pub mod CodeSpans
+pub mod CodeTexts
+pub mod Meanings
+pub mod Fences
+pub mod Pre
+pub mod Attributes
+pub mod Received
+pub mod Destinations
+pub mod Slashed
+pub mod Titles
+pub mod TitleTexts
+pub mod Srcset
+pub mod Cells
+pub mod Tables
+pub mod WrittenTables
+pub mod Trims
+pub mod Closing
+pub mod ClosingEscapes
+pub mod Headings
+pub mod Marks
+pub mod Emphasis
+pub mod LinkTexts
+pub mod LinkParts
+pub mod LinkWholes
+pub mod WrittenLinks
+pub mod WholeExamples

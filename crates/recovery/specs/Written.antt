@@ -1,0 +1,20 @@
+-- The writer's half of demand 3: the definition of the writer gives the closed form of a plain sheet's text. Assumes nothing.
+pub mod Ends
+pub mod Breaks
+pub mod Lines
+pub mod Normalized
+pub mod Phrases
+pub mod WhiteSpace
+pub mod Fences
+pub mod Headings
+pub mod CellTexts
+pub mod Rows
+pub mod Tables
+pub mod Contexts
+pub mod ListTexts
+pub mod Seen
+pub mod Known
+pub mod Lists
+pub mod Blocks
+pub mod Leaves
+pub mod Sheet
