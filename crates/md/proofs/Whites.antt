@@ -3,7 +3,7 @@ use Prim.Native.Nat.{ℕ, zero, suc, _+_, _≤_, _<_}
 use native.Mathlib.Omega.{arith}
 use native.Mathlib.Numerals.{add-one}
 use mathlib.Core.Path.{_≡_, refl, ap, _∙_, sym}
-use mathlib.Core.Bool.{Bool, true, false, cond, not, _&&_, _||_, and-false, true≢false, false≢true, or-false}
+use mathlib.Core.Bool.{Bool, true, false, cond, not, _&&_, _||_, true≢false, false≢true, or-false}
 use mathlib.Core.List.{[], _∷_, _++_, append-assoc, append-nil}
 use lib.ListN.{length, drop, getD, length-append}
 use lib.Seq.{drop-cons}
@@ -11,6 +11,7 @@ use lib.Dec.{eqb, ltb}
 use borrow.Author.Tests.{eqb-true, not-true}
 use Rattle.spec.specs.Bytes.{Bytes, null, every, same, among, unless, whiteSpace, isWhiteSpace, «trim_end_matches», «trim_end»}
 use Rattle.spec.specs.Md.Elements.List.{continuation}
+use Rattle.text.proofs.WhiteSpace.{long}
 use Rattle.recovery.specs.Tests.{and-l, and-r}
 use Rattle.recovery.specs.Written.WhiteSpace.{allOf, among-yes}
 use Rattle.spec.specs.Tree.{Forest, «text_of»}
@@ -112,10 +113,6 @@ byte-done p b t np nt = go p np (isWhiteSpace (p ++ (b ∷ []))) (isWhiteSpace (
     go [] n false false e f = refl
     go (a ∷ p) n false false e f = rw (append-assoc p (b ∷ []) t)
 
-long-not : (a b c d : ℕ) (s : Bytes) → isWhiteSpace (a ∷ b ∷ c ∷ d ∷ s) ≡ false
-unfolding isWhiteSpace among whiteSpace same
-long-not a b c d s = simp and-false
-
 held-next : (x : Begun) (c : ℕ) (t : Bytes) → done (held (nextWhite x c) ++ t) ≡ done (afterByte (held x) c ++ t)
 unfolding nextWhite afterByte held grown done null
 held-next x c t = go x (isWhiteSpace (held x ++ (c ∷ []))) t refl
@@ -128,7 +125,7 @@ held-next x c t = go x (isWhiteSpace (held x ++ (c ∷ []))) t refl
     go (One a) false t e = refl
     go (Two a b) true t e = refl
     go (Two a b) false [] e = rw e (unfold isWhiteSpace whiteSpace among same in refl)
-    go (Two a b) false (d ∷ t) e = rw (long-not a b c d t) (unfold isWhiteSpace whiteSpace among same in refl)
+    go (Two a b) false (d ∷ t) e = rw (long a b c d t) (unfold isWhiteSpace whiteSpace among same in refl)
     go Other true t e = absurd (unfold isWhiteSpace whiteSpace among same in false≢true e)
     go Other false t e = unfold isWhiteSpace whiteSpace among same in refl
 

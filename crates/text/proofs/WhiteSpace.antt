@@ -12,7 +12,7 @@ use Rattle.spec.specs.Bytes.{Bytes, same, among, unless, whiteSpace, isWhiteSpa
 use Rattle.text.specs.Trimmed.{WhiteEnd}
 
 -- no White_Space character has more than three bytes
-long : (a b c d : ℕ) (s : List ℕ) → isWhiteSpace (a ∷ b ∷ c ∷ d ∷ s) ≡ false
+pub long : (a b c d : ℕ) (s : List ℕ) → isWhiteSpace (a ∷ b ∷ c ∷ d ∷ s) ≡ false
 unfolding isWhiteSpace among whiteSpace same
 long a b c d s = simp and-false
 

@@ -2,11 +2,11 @@
 use Prim.Native.Nat.{ℕ, zero, suc}
 use native.Mathlib.Omega.{arith}
 use mathlib.Core.Path.{_≡_, refl, ap, _∙_}
-use mathlib.Core.Bool.{Bool, true, false, cond, not, _&&_, _||_, true≢false, false≢true, and-false}
+use mathlib.Core.Bool.{Bool, true, false, cond, not, _&&_, _||_, false≢true, and-false}
 use mathlib.Core.List.{[], _∷_, _++_, append-assoc}
 use mathlib.Core.Option.{none, some}
 use lib.Dec.{eqb}
-use borrow.Author.Tests.{eqb-true, ne-eqb}
+use borrow.Author.Tests.{eqb-true, ne-eqb, not-false}
 use Rattle.spec.specs.Bytes.{Bytes, ascii, null, isin, every}
 use Rattle.spec.specs.Md.TextUtils.{wantsWrap, needsWrap, wrappedByte, backslashTwice, eachByte, destination}
 use Rattle.spec.specs.Reading.Lines.{punctuation, spaceOrTab, headIs, dropWhile}
@@ -132,11 +132,7 @@ bare-of (suc n) b d h =
 
 balanced-end : (n : ℕ) → needsWrap n [] ≡ false → eqb n 0 ≡ true
 unfolding needsWrap
-balanced-end n h = go (eqb n 0) h
-  where
-    go : (t : Bool) → not t ≡ false → t ≡ true
-    go true e = refl
-    go false e = absurd (true≢false e)
+balanced-end n h = not-false (eqb n 0) h
 
 slash-open : (n : ℕ) → openBehind false n 92 ≡ n
 unfolding openBehind

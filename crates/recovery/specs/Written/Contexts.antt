@@ -1,6 +1,7 @@
 -- The options and list contexts under which a plain sheet is written, and an item's number, marker and step by them. Assumes nothing.
-use Prim.Native.Nat.{ℕ, suc, _+_, min}
+use Prim.Native.Nat.{ℕ, _+_, min}
 use native.Mathlib.Omega.{arith}
+use native.Mathlib.Numerals.{add-one}
 use mathlib.Core.Path.{_≡_, refl}
 use mathlib.Core.Bool.{Bool, true, false, cond}
 use mathlib.Core.List.{List}
@@ -83,22 +84,19 @@ renumbered-context item o i none attrs h = refl
 renumbered-context item o i (some n) attrs h =
     rw (number-of (attr (ascii "value") attrs)) (renumbered-by item o i n (asNumber (attr (ascii "value") attrs)) h)
 
-one-more : (n : ℕ) → n + 1 ≡ suc n
-one-more n = omega arith
-
 -- behind an item
 pub advanced-context : (item : Bool) (o i : ℕ) (number : Option ℕ)
     → «advance_ol_number» (contextAt item o i number) ≡ contextAt item (i + deeper number) i (capped (nextDue number))
 unfolding «advance_ol_number» advanced contextAt kindDue nextDue capped offsetIn deeper largestNumber offsetOf
 advanced-context item o i none = refl
-advanced-context item o i (some n) = rw (one-more n)
+advanced-context item o i (some n) = rw (add-one n)
 
 -- the options of what an item with that number holds
 pub item-opts : (item : Bool) (o i : ℕ) (number : Option ℕ)
     → «list_item» («advance_ol_number» (contextAt item o i number) .opts) ≡ optsAt true (i + deeper number)
 unfolding «advance_ol_number» advanced contextAt kindDue offsetIn deeper largestNumber offsetOf
 item-opts item o i none = refl
-item-opts item o i (some n) = rw (one-more n)
+item-opts item o i (some n) = rw (add-one n)
 
 pub item-prefix : (item : Bool) (o i : ℕ) (number : Option ℕ) → prefix (contextAt item o i number) ≡ marker number
 unfolding prefix prefixOf contextAt kindDue marker

@@ -1,13 +1,13 @@
 -- Trims and ends of a text, by its first and last bytes. Assumes nothing.
 use Prim.Native.Nat.{ℕ, zero, suc, _-_}
 use native.Mathlib.Omega.{arith}
-use mathlib.Core.Path.{_≡_, refl, sym, ap, _∙_}
+use mathlib.Core.Path.{_≡_, refl, ap, _∙_}
 use mathlib.Core.Bool.{Bool, true, false, cond, not, and-false, true≢false, false≢true}
 use mathlib.Core.List.{[], _∷_, _++_}
 use lib.Dec.{eqb}
 use lib.ListN.{length, length-append, replicate, drop}
 use lib.Seq.{drop-append-seam, drop-append-le}
-use borrow.Author.Tests.{eqb-true}
+use borrow.Author.Tests.{eqb-true, not-true}
 use Rattle.spec.specs.Bytes.{Bytes, null, same, every, endsWith, one, unless, «trim_end_matches», «trim_start_matches»}
 use Rattle.recovery.specs.Tests.{and-l, and-r}
 
@@ -56,11 +56,7 @@ last-imp p q f (b ∷ c ∷ y) h = last-imp p q f (c ∷ y) h
 pub last-none : (p : ℕ → Bool) (e : Bytes) → every (λ b. not (p b)) e ≡ true → null e ≡ false → lastIs p e ≡ false
 unfolding every lastIs null
 last-none p [] h n = absurd (true≢false n)
-last-none p (b ∷ []) h n = borrow-not (p b) (and-l (not (p b)) _ h)
-  where
-    borrow-not : (t : Bool) → not t ≡ true → t ≡ false
-    borrow-not true k = sym k
-    borrow-not false k = refl
+last-none p (b ∷ []) h n = not-true (p b) (and-l (not (p b)) _ h)
 last-none p (b ∷ c ∷ e) h n = last-none p (c ∷ e) (and-r (not (p b)) _ h) refl
 
 pub last-replicate : (p : ℕ → Bool) (n b : ℕ) → p b ≡ false → lastIs p (replicate (suc n) b) ≡ false
