@@ -16,6 +16,7 @@ pub mod ListNumber
 pub mod Plain
 pub mod SheetList
 pub mod Reading
+pub mod Promise
 pub mod Pieces
 pub mod Everything
 pub mod Cases

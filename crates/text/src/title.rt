@@ -19,7 +19,7 @@ use crate::normalize::put_escaped;
 use crate::text_utils::push_normalized_text;
 use spec::ctx::FormatOpts;
 
-fn contains_byte(s: &[u8], b: u8) -> bool
+pub fn contains_byte(s: &[u8], b: u8) -> bool
     ensures { λ r. ⌜ r ≡ isin b (now (s .entry)) ⌝ }
 {
     let mut i = 0;
