@@ -1,0 +1,19 @@
+-- What the proofs of several functions share.
+pub mod Placing
+pub mod Turns
+pub mod Levels
+pub mod Falls
+pub mod Gathered
+pub mod Answers
+pub mod NodeSteps
+pub mod Dispatch
+pub mod LinkTo
+pub mod Lists
+pub mod Onward
+pub mod Goings
+pub mod ItemBlocks
+pub mod ItemChild
+pub mod RowWriting
+pub mod RowsWriting
+pub mod TableWriting
+pub mod TableChoice

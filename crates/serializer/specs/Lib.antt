@@ -1,0 +1,3 @@
+-- The definitions that this crate's contracts add to those of `spec`.
+pub mod ListStep
+pub mod Writers
