@@ -1,7 +1,3 @@
 -- What the proofs of several functions share.
-pub mod Numbers
-pub mod Siblings
-pub mod Tests
-pub mod ListTests
-pub mod Whites
-pub mod Interrupts
+pub mod Starting
+pub mod Answering

@@ -1,4 +1,2 @@
-// The serializer's tests on the nodes of a stored sheet, and the texts below a node.
-pub mod list_nodes;
-pub mod nodes;
-pub mod white_space;
+// The call that writes a sheet.
+pub mod call;
