@@ -72,6 +72,30 @@ mod tests {
     }
 
     #[test]
+    fn the_header_of_c_is_that_of_the_source() {
+        let header = fs::read_to_string(concat!(env!("CARGO_MANIFEST_DIR"), "/../c/buzhnael.h")).unwrap();
+        let (result, rest) = header.split_once(" buzhnael_serialize_md(").unwrap();
+        assert!(result.ends_with("\nint64_t"));
+        let (inside, _) = rest.split_once(");").unwrap();
+        let mut declared: Vec<_> = inside
+            .split(',')
+            .map(|p| {
+                let at = p.rfind([' ', '*']).unwrap() + 1;
+                let kind = match p[..at].trim() {
+                    "const uint8_t *" => "*const u8",
+                    "uint8_t *" => "*mut u8",
+                    "uint8_t" => "u8",
+                    "size_t" => "usize",
+                    other => panic!("{other}"),
+                };
+                (p[at..].to_string(), kind.to_string())
+            })
+            .collect();
+        declared.push((String::new(), "i64".to_string()));
+        assert_eq!(declared, source());
+    }
+
+    #[test]
     fn every_flag_but_0_is_true() {
         // `p` with "x", from node 1: with it "\n\nx\n\n", without it "x"; the own list is empty
         let sheet = *b"\x01\0\x01p\x04\0\x01x\x06\0\0";
