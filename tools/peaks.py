@@ -1,0 +1,40 @@
+"""Holds the least rooms that hosts/rust's comparison found to the peaks of the second definition.
+
+    python3 tools/peaks.py FILE --model ../shared/model
+
+A line of FILE is a call: sheet (a point and hex), start, flag, skip list (`-` for the default, else a point and the run in hex), and the
+least room that suffices. Prints the counts, and ends with 1 where a room is not the peak.
+"""
+import argparse
+import os
+import sys
+
+
+def unhex(word):
+    return bytes.fromhex(word[1:])
+
+
+def main():
+    ap = argparse.ArgumentParser()
+    ap.add_argument("file")
+    ap.add_argument("--model", required=True)
+    args = ap.parse_args()
+    sys.path.insert(0, os.path.abspath(args.model))
+    from model_sheet import decode
+    from model_writer import write_md
+    count = bad = 0
+    with open(args.file, encoding="ascii") as lines:
+        for line in lines:
+            sheet, start, include, run, room = line.split()
+            tree = decode(unhex(sheet), int(start), None if run == "-" else unhex(run))
+            _, peak = write_md(tree, include == "1")
+            count += 1
+            if peak != int(room):
+                bad += 1
+                print("DIFFERENT: %s the peak is %d" % (line.strip(), peak))
+    print("%d calls, %d differences" % (count, bad))
+    sys.exit(1 if bad or not count else 0)
+
+
+if __name__ == "__main__":
+    main()
