@@ -322,3 +322,29 @@ fn main() {
     println!("{} calls of the library; the least room found {} times", judge.runs, judge.peaks);
     println!("{fixed} calls on limits and short input, {random} on random sheets, no difference; {} s", began.elapsed().as_secs());
 }
+
+#[cfg(test)]
+mod tests {
+    use super::*;
+    use buzhnael::{Answer, Question, Skip, serialize_md};
+
+    /// Trees and plain sheets pass every question; a damaged sheet is refused by each of questions 2 to 8 sooner or later.
+    #[test]
+    fn sheets_are_sheets() {
+        let (mut nodes, mut text) = (vec![0; 1 << 20], vec![0; 1 << 20]);
+        let mut refused = std::collections::BTreeSet::new();
+        for n in 0..3000 {
+            let mut g = Gen::new(Rng::of(7, n));
+            for sheet in [g.sheet(), plain::sheet(&mut g.r)] {
+                let answer = serialize_md(&sheet, 0, false, Skip::Default, &mut nodes[..count_nodes(&sheet) * 64], &mut text[..]);
+                assert!(matches!(answer, Answer::Written(_)), "{n}: {answer:?}");
+            }
+            let (sheet, start, run) = g.damaged();
+            let skip = run.as_ref().map_or(Skip::Default, |run| Skip::Own(run));
+            if let Answer::Refused(question) = serialize_md(&sheet, start as usize, false, skip, &mut nodes[..], &mut text[..]) {
+                refused.insert(question);
+            }
+        }
+        assert!(refused.into_iter().eq(Question::ALL[1..8].iter().copied()));
+    }
+}

@@ -143,3 +143,31 @@ pub fn told(sheet: &[u8]) -> String {
         Some(all) => all.iter().map(|(tag, body)| format!("{tag} \"{}\"", body.escape_ascii())).collect::<Vec<_>>().join(", "),
     }
 }
+
+#[cfg(test)]
+mod tests {
+    use super::*;
+    use crate::trees::{el, text, with};
+
+    fn request(sheet: Vec<u8>) -> Request {
+        Request { sheet: sheet.into(), start: 2, include: true, run: Some(Arc::new([])), number: 0, salt: 0 }
+    }
+
+    #[test]
+    fn the_smallest_is_found() {
+        let item = with("li", &[("value", "3"), ("id", "k")], &[text("a"), el("b", &[text("seen")]), text("c")]);
+        let sheet = [text("before"), el("ul", &[el("li", &[]), item]), el("p", &[text("behind")])].concat();
+        let holds = |r: &Request, what: &[u8]| r.sheet.windows(what.len()).any(|w| w == what) && fields(&r.sheet).is_some();
+        let smallest = shrink(request(sheet.clone()), |r| holds(r, b"ee"));
+        assert_eq!(smallest.sheet[..], text("ee"));
+        assert_eq!((smallest.start, smallest.include, smallest.run.is_none()), (0, false, true));
+        let smallest = shrink(request(sheet), |r| r.start == 2 && holds(r, &el("b", &[text("n")])[..4]) && holds(r, b"n"));
+        assert_eq!(smallest.sheet[..], [field(1, "b"), text("n")].concat());
+    }
+
+    #[test]
+    fn bytes_that_are_no_fields() {
+        let smallest = shrink(request(vec![9; 500]), |r| r.sheet.len() > 7);
+        assert_eq!(smallest.sheet[..], [9; 8]);
+    }
+}
