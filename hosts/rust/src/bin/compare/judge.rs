@@ -81,10 +81,10 @@ pub struct Judge {
     pub cuts: u64,
 }
 
-/// What a call came to: its number (0 where it was accepted) and, where it was looked for, its peak.
+/// What a call came to: its number (0 where it was accepted) and, where it was looked for, its least room, with the text.
 pub struct Verdict {
     pub number: u8,
-    pub peak: Option<usize>,
+    pub peak: Option<(usize, Vec<u8>)>,
 }
 
 /// The nodes of a sheet that the questions let pass.
@@ -202,13 +202,13 @@ impl Judge {
             self.refused(request, far, least, room, 7)?;
         }
         let mut peak = None;
-        if r.percent(12) {
+        if r.percent(12) || wanted.is_none() {
             let least_room = self.peak(request, &text, room, least)?;
             self.accepted_at(request, &text, least, least_room)?;
             if least_room > 0 {
                 self.refused(request, request.start as usize, least, least_room - 1, 10)?;
             }
-            peak = Some(least_room);
+            peak = Some((least_room, text));
         }
         Ok(Verdict { number: 0, peak })
     }

@@ -6,7 +6,7 @@
 //! bytes, every row of at most K fields from a small set, and every text of at most K - 1 characters in every kind of block; then N calls
 //! on random sheets: general trees from every start node with both flags, plain sheets, damaged bytes, skip lists. Every call is made
 //! with both memories filled and lent from the middle of other memory, and every byte is looked at afterwards, also where the call is
-//! made again with too little memory. FILE gets the peaks that were found, one call to a line. A difference prints the smallest sheet
+//! made again with too little memory. FILE gets the least rooms that were found, with the texts, one call to a line. A difference prints the smallest sheet
 //! found, and the program ends with 1.
 use std::collections::BTreeMap;
 use std::fs::File;
@@ -302,11 +302,11 @@ fn main() {
                 }
                 Ok(verdict) => {
                     *numbers.entry(verdict.number).or_insert(0u64) += 1;
-                    if let (Some(out), Some(peak), Reply::Text(_)) = (&mut peaks, verdict.peak, &reply) {
+                    if let (Some(out), Some((peak, text))) = (&mut peaks, verdict.peak) {
                         let run = request.run.as_ref().map_or("-".to_string(), |run| format!(".{}", hex(run)));
                         let include = u8::from(request.include);
-                        writeln!(out, ".{} {} {include} {run} {peak}", hex(&request.sheet), request.start)
-                            .expect("the file of peaks");
+                        let (sheet, start, text) = (hex(&request.sheet), request.start, hex(&text));
+                        writeln!(out, ".{sheet} {start} {include} {run} {peak} .{text}").expect("the file of peaks");
                     }
                 }
             }
