@@ -139,6 +139,15 @@ def compare_long(reference):
                    for n in (1048576, 1048577))
 
 
+def with_reference(ap):
+    """the arguments, and the Rust and the model that two of them name"""
+    ap.add_argument("--oracle", required=True)
+    ap.add_argument("--model", required=True)
+    args = ap.parse_args()
+    args.model, args.oracle = os.path.abspath(args.model), os.path.abspath(args.oracle)
+    return args, Reference(args.oracle, args.model)
+
+
 def evaluate(calls):
     with antt.Bench(PREAMBLE) as bench:
         bad = []
@@ -150,14 +159,10 @@ def evaluate(calls):
 
 def main():
     ap = argparse.ArgumentParser()
-    ap.add_argument("--oracle", required=True)
-    ap.add_argument("--model", required=True)
     ap.add_argument("--calls", type=int, default=20000)
     ap.add_argument("--seed", type=int, default=1)
     ap.add_argument("--jobs", type=int, default=2)
-    args = ap.parse_args()
-    args.model, args.oracle = os.path.abspath(args.model), os.path.abspath(args.oracle)
-    reference = Reference(args.oracle, args.model)
+    args, reference = with_reference(ap)
     coverage = Coverage(args.model)
     sys.settrace(coverage.trace)
     calls = generate(args.seed, args.calls, reference)

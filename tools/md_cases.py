@@ -22,7 +22,7 @@ import sys
 
 import plain
 import sheets
-from compare import Coverage, Reference
+from compare import Coverage, with_reference
 from sheets import field
 
 HERE = os.path.dirname(os.path.abspath(__file__))
@@ -191,14 +191,10 @@ def cover(calls, reference):
 
 def main():
     ap = argparse.ArgumentParser()
-    ap.add_argument("--oracle", required=True)
-    ap.add_argument("--model", required=True)
     ap.add_argument("--calls", type=int, default=4000)
     ap.add_argument("--seed", type=int, default=1)
     ap.add_argument("--out", default=os.path.join(HERE, "..", "crates", "md_cases"))
-    args = ap.parse_args()
-    args.model, args.oracle = os.path.abspath(args.model), os.path.abspath(args.oracle)
-    reference = Reference(args.oracle, args.model)
+    args, reference = with_reference(ap)
     coverage = Coverage(args.model)
     sys.settrace(coverage.trace)
     calls = Maker(reference, args.seed).fill(args.calls)

@@ -8,7 +8,7 @@ that stands here after document 01.
 import argparse
 import os
 
-from compare import Reference
+from compare import with_reference
 from sheets import Gen, field
 
 OUT = os.path.join(os.path.dirname(os.path.abspath(__file__)), "..", "crates", "quay_cases", "stdout")
@@ -54,11 +54,7 @@ def answer(reference, sheet, start, include, memory, room):
 
 
 def main():
-    ap = argparse.ArgumentParser()
-    ap.add_argument("--oracle", required=True)
-    ap.add_argument("--model", required=True)
-    args = ap.parse_args()
-    reference = Reference(os.path.abspath(args.oracle), os.path.abspath(args.model))
+    _, reference = with_reference(argparse.ArgumentParser())
     lines = []
     for title, sheet, start, include, memory, room, expected in CASES:
         a = answer(reference, sheet, start, include, memory, room)

@@ -10,7 +10,7 @@ import argparse
 import os
 
 import sample
-from compare import Reference
+from compare import with_reference
 from sheets import Gen, field
 
 HERE = os.path.dirname(os.path.abspath(__file__))
@@ -49,11 +49,7 @@ def put(data, *path):
 
 
 def main():
-    ap = argparse.ArgumentParser()
-    ap.add_argument("--oracle", required=True)
-    ap.add_argument("--model", required=True)
-    args = ap.parse_args()
-    reference = Reference(os.path.abspath(args.oracle), os.path.abspath(args.model))
+    _, reference = with_reference(argparse.ArgumentParser())
     cases = {
         "sheet": (el("ol", el("li", "A"), el("li", "B"), start="9"), b"9. A\n10. B"),
         "sheet_refused": (paragraph(b"*" * 40000), b"no 10\n"),
