@@ -60,6 +60,8 @@ use elements::steps::push_emphasis_by;
 use elements::table::next_cell;
 use elements::table::push_table;
 use elements::table::store_span;
+use list_items::start_item;
+use list_items::start_item_blocks;
 use progress::Going;
 use progress::going_on;
 use progress::is_blank_text;
@@ -69,7 +71,6 @@ use spec::ctx::ListContext;
 use text::buffer::Wrote;
 use text::image::write_img;
 use text::list::Item;
-use text::list::begin_item;
 use text::list::end_item;
 use text::list::item_from;
 use text::list::push_block_lead;
@@ -111,7 +112,7 @@ pub fn write(
     let mut at = from;
     let mut end = len;
     while at < to {
-        match write_node(sheet, own, run, nodes, text, end, at, opts, levels - 1) {
+        match node(sheet, own, run, nodes, text, end, at, opts, levels - 1) {
             Wrote::Done(n) => {
                 end = n;
             }
@@ -125,7 +126,7 @@ pub fn write(
 }
 
 // One node, with itself.
-fn write_node(
+fn node(
     sheet: &[u8],
     own: bool,
     run: &[u8],
@@ -220,7 +221,7 @@ fn write_element(
 }
 
 // The children of an element, and then the trim of the whole text.
-fn write_kids(
+fn kids(
     sheet: &[u8],
     own: bool,
     run: &[u8],
@@ -297,7 +298,7 @@ fn write_link(
     let place = node_place(nodes, at);
     let fresh = opts.fresh();
     match attribute(sheet, place, b"href") {
-        Value::At(from, to) => link_to(
+        Value::At(from, to) => link(
             sheet,
             own,
             run,
@@ -310,12 +311,12 @@ fn write_link(
             opts,
             levels,
         ),
-        Value::Missing => write_kids(sheet, own, run, nodes, text, len, at, fresh, levels),
+        Value::Missing => kids(sheet, own, run, nodes, text, len, at, fresh, levels),
     }
 }
 
 // A link to what stands from `from` to `to` in the sheet.
-fn link_to(
+fn link(
     sheet: &[u8],
     own: bool,
     run: &[u8],
@@ -394,7 +395,7 @@ fn body(
     ensures { λ r. ⌜ WritesElement (now (sheet .entry)) (now (nodes .entry)) at (λ anc name attrs kids. linkOf attrs (take (to - from) (drop from (now (sheet .entry)))) (writeKids (selfAt own (now (run .entry)) levels) anc opts (element name attrs kids nothing) []) push) (take len (now (text .entry))) (length (now (text .entry))) (now (text .exit)) r ⌝ }
 {
     let place = node_place(nodes, at);
-    match write_kids(
+    match kids(
         sheet,
         own,
         run,
@@ -509,12 +510,13 @@ fn item(
         );
     }
     if has_blocks(sheet, nodes, c + 1, to) {
-        return write_list_item_blocks(sheet, own, run, nodes, text, len, c, ctx, levels);
+        return blocks(sheet, own, run, nodes, text, len, c, ctx, levels);
     }
-    write_list_item(sheet, own, run, nodes, text, len, c, ctx, levels)
+    flat(sheet, own, run, nodes, text, len, c, ctx, levels)
 }
 
-fn write_list_item(
+// An item without blocks: `write_list_item` of elements/list.rs.
+fn flat(
     sheet: &[u8],
     own: bool,
     run: &[u8],
@@ -529,20 +531,11 @@ fn write_list_item(
     ensures kept { λ r. ⌜ Kept c (endAt (now (nodes .entry)) c) (now (nodes .entry)) (now (nodes .exit)) ⌝ }
     ensures { λ r. ⌜ WritesElement (now (sheet .entry)) (now (nodes .entry)) c (λ anc name attrs kids. «write_list_item» (selfAt own (now (run .entry)) levels) anc (element name attrs kids nothing) ctx) (take len (now (text .entry))) (length (now (text .entry))) (now (text .exit)) r ⌝ }
 {
-    let next = ctx.advance_ol_number();
-    let opts = next.opts;
-    match begin_item(text, len, false, ctx) {
-        Wrote::Done(n) => match write_kids(
-            sheet,
-            own,
-            run,
-            nodes,
-            text,
-            n,
-            c,
-            opts.list_item(),
-            levels,
-        ) {
+    let begun = start_item(text, len, ctx);
+    let wrote = begun.wrote;
+    let opts = begun.ctx.opts;
+    match wrote {
+        Wrote::Done(n) => match kids(sheet, own, run, nodes, text, n, c, opts.list_item(), levels) {
             Wrote::Done(m) => push_linebreak(text, m, opts.table_cell),
             Wrote::Full => Wrote::Full,
         },
@@ -550,7 +543,8 @@ fn write_list_item(
     }
 }
 
-fn write_list_item_blocks(
+// An item with blocks: `write_list_item_blocks` of elements/list.rs.
+fn blocks(
     sheet: &[u8],
     own: bool,
     run: &[u8],
@@ -566,9 +560,12 @@ fn write_list_item_blocks(
     ensures { λ r. ⌜ WritesElement (now (sheet .entry)) (now (nodes .entry)) c (λ anc name attrs kids. «write_list_item_blocks» (selfAt own (now (run .entry)) levels) anc attrs kids ctx) (take len (now (text .entry))) (length (now (text .entry))) (now (text .exit)) r ⌝ }
 {
     let to = node_end(nodes, c);
-    match begin_item(text, len, true, ctx) {
+    let begun = start_item_blocks(text, len, ctx);
+    let wrote = begun.wrote;
+    let next = begun.ctx;
+    match wrote {
         Wrote::Done(n) => {
-            let item = item_from(ctx, n);
+            let item = item_from(ctx, next, n);
             match children(
                 sheet,
                 own,
@@ -879,21 +876,11 @@ fn flow(
     ensures { λ r. ⌜ WritesElement (now (sheet .entry)) (now (nodes .entry)) c (λ anc name attrs kids. bodyStep (selfAt own (now (run .entry)) levels) anc (element name attrs kids nothing) (itemOf item)) (take len (now (text .entry))) (length (now (text .entry))) (now (text .exit)) r ⌝ }
 {
     if name == 23 {
-        return write_list_item_indented(sheet, own, run, nodes, text, len, c, item, levels);
+        return indented(sheet, own, run, nodes, text, len, c, item, levels);
     }
     let opts = item.ctx.opts;
     match push_heading_prefix(text, len, name) {
-        Wrote::Done(n) => match write_kids(
-            sheet,
-            own,
-            run,
-            nodes,
-            text,
-            n,
-            c,
-            opts.list_item(),
-            levels,
-        ) {
+        Wrote::Done(n) => match kids(sheet, own, run, nodes, text, n, c, opts.list_item(), levels) {
             Wrote::Done(m) => end_flow(text, m, name, item),
             Wrote::Full => Wrote::Full,
         },
@@ -901,7 +888,8 @@ fn flow(
     }
 }
 
-fn write_list_item_indented(
+// A code block of an item: `write_list_item_indented` of elements/list.rs.
+fn indented(
     sheet: &[u8],
     own: bool,
     run: &[u8],
@@ -955,7 +943,7 @@ fn write_table(
     let first = next_filled_row(sheet, nodes, at + 1, to);
     let fresh = opts.fresh();
     if !is_table_node_writable(sheet, nodes, at + 1, to, first) {
-        return write_kids(sheet, own, run, nodes, text, len, at, fresh, levels);
+        return kids(sheet, own, run, nodes, text, len, at, fresh, levels);
     }
     match cells(sheet, own, run, nodes, text, len, first, to, opts, levels) {
         Wrote::Done(end) => push_table(sheet, nodes, text, len, end - len, first, to),
@@ -1047,7 +1035,7 @@ fn cell(
     ensures { λ r. ⌜ ((name : Bytes) (attrs : List Attr) (kids : Forest) (anc : Ancestors) (th : Bool) → ElementAt (now (sheet .entry)) (now (nodes .entry)) c name attrs kids → Around (now (sheet .entry)) (now (nodes .entry)) (parentAt (now (nodes .entry)) c) anc → Writes (length (now (text .entry))) (now (text .exit)) r (cellText (selfAt own (now (run .entry)) levels) opts (record { ancestors = anc; isTh = th; node = element name attrs kids nothing }))) ⌝ }
 {
     let inner = opts.fresh().table_cell();
-    match write_kids(sheet, own, run, nodes, text, 0, c, inner, levels) {
+    match kids(sheet, own, run, nodes, text, 0, c, inner, levels) {
         Wrote::Done(n) => {
             let k = trim_trailing_cell_break(&text[..n]);
             escape_table_cell_inplace(text, k)

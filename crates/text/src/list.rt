@@ -6,7 +6,7 @@ ghost use Prim.Native.Nat.{_+_, _≤_, _<_, _^_};
 ghost use lib.ListN.{length, take, replicate};
 ghost use Rattle.spec.specs.Bytes.{ascii, endsWith};
 ghost use Rattle.spec.specs.Out.{Out, push, cut};
-ghost use Rattle.spec.specs.Md.Ctx.{breakOf};
+ghost use Rattle.spec.specs.Md.Ctx.{breakOf, «advance_ol_number»};
 ghost use Rattle.spec.specs.Md.Elements.List as def;
 ghost use Rattle.text.specs.Items.{itemOf, trimmedStart, ruleStep, inlineLead, endedItem};
 ghost use Rattle.text.specs.Writes.{Writes, Written};
@@ -59,14 +59,14 @@ pub fn begin_item(text: &mut [u8], len: usize, blocks: bool, ctx: ListContext) -
     }
 }
 
-// The item that begins behind a text of `start` bytes.
-pub fn item_from(ctx: ListContext, start: usize) -> Item
-    requires { ⌜ ctx .«list_indent» + 12 < 2 ^ 64 ⌝ }
+// The item that begins behind a text of `start` bytes: `next` is the context after its number.
+pub fn item_from(ctx: ListContext, next: ListContext, start: usize) -> Item
+    requires { ⌜ (ctx .«list_indent» + 12 < 2 ^ 64) × (next ≡ «advance_ol_number» ctx) ⌝ }
     ensures { λ r. ⌜ ((begun : Out) → start ≡ length (begun .text) → itemOf r ≡ def.itemFrom ctx begun) ⌝ }
 {
     let indent = ctx.list_indent + prefix_len(ctx);
     Item {
-        ctx: ctx.advance_ol_number(),
+        ctx: next,
         indent: indent,
         start: start,
     }

@@ -11,16 +11,12 @@ prefix-len-requires c κs = search needs
 
 add-indent : tie.Need-add-indent
 add-indent c =
-    omega (arith, c .before .prefix-len .ensures .1, c .before .before .pre)
-
-advance-ol-number-requires : tie.Need-advance-ol-number-requires
-advance-ol-number-requires c κs =
-    c .before .before .pre
+    omega (arith, c .before .prefix-len .ensures .1, c .before .before .pre .0)
 
 returns : tie.Need-returns
 unfolding itemFrom
 returns c =
-    λ begun e. rw (c .advance-ol-number .ensures, c .before .before .prefix-len .ensures .0, sym e)
+    λ begun e. rw (c .before .before .pre .1, c .before .prefix-len .ensures .0, sym e)
 
 pub item-from-spec : {M : Type 1} → statement M
-item-from-spec = tie.close (tie.spec prefix-len-requires add-indent advance-ol-number-requires returns)
+item-from-spec = tie.close (tie.spec prefix-len-requires add-indent returns)
