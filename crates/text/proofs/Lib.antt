@@ -8,6 +8,7 @@ pub mod Markers
 pub mod Spaces
 pub mod Sourcing
 pub mod Wording
+pub mod Ordinary
 pub mod Normal
 pub mod Leaves
 pub mod Linking

@@ -24,7 +24,7 @@ use Rattle.text.proofs.Reading.{drop-take, null-some}
 abbrev pub black : ℕ → Bool
 black b = not (white b)
 
-shorter : (p : ℕ → Bool) (s : List ℕ) → length («trim_start_matches» p s) ≤ length s
+pub shorter : (p : ℕ → Bool) (s : List ℕ) → length («trim_start_matches» p s) ≤ length s
 unfolding «trim_start_matches»
 shorter p [] = omega arith
 shorter p (b ∷ s) = go (shorter p s) (p b)
@@ -35,7 +35,7 @@ shorter p (b ∷ s) = go (shorter p s) (p b)
 
 -- ---- white bytes in front
 
-words-white : (s : List ℕ) → words s ≡ words («trim_start_matches» white s)
+pub words-white : (s : List ℕ) → words s ≡ words («trim_start_matches» white s)
 unfolding words split parts cutAt filled null «trim_start_matches»
 words-white [] = refl
 words-white (b ∷ s) = go (words-white s) (white b) refl
@@ -132,7 +132,7 @@ black-some (b ∷ s) zero h e p =
     absurd (omega (arith, ap length q, shorter black s))
 black-some (b ∷ s) (suc k) h e p = omega arith
 
-words-first : (s : List ℕ) (k : ℕ) → 0 < k → Skipped s k («trim_start_matches» black s) → words s ≡ take k s ∷ words (drop k s)
+pub words-first : (s : List ℕ) (k : ℕ) → 0 < k → Skipped s k («trim_start_matches» black s) → words s ≡ take k s ∷ words (drop k s)
 unfolding words split filled
 words-first s k h p =
     let r = first-parts s k p in
@@ -141,6 +141,11 @@ words-first s k h p =
     ∙ ap (λ (x : List ℕ). x ∷ filled (parts white s .1)) (r .0)
     ∙ ap (λ (x : List (List ℕ)). take k s ∷ x) (r .1)
 
+pub slice-front : (s : List ℕ) (i to k : ℕ) → i + k ≤ to → take k (slice i to s) ≡ slice i (i + k) s
+slice-front s i to k h =
+    let a : i + k - i ≡ k = omega arith in
+    ap (take k) (drop-take i to s) ∙ take-take k (to - i) (drop i s) (omega arith) ∙ ap (λ (j : ℕ). take j (drop i s)) (sym a) ∙ sym (drop-take i (i + k) s)
+
 pub word-end : (s : List ℕ) (i to k : ℕ) → i < to → to ≤ length s → white (getD s i 0) ≡ false → Skipped (slice i to s) k («trim_start_matches» black (slice i to s)) → WordEnd s i to (i + k)
 word-end s i to k h l b p =
     let m : length (slice i to s) ≡ to - i = length-slice i to s l in
@@ -148,13 +153,10 @@ word-end s i to k h l b p =
     let f : getD (slice i to s) 0 0 ≡ getD s i 0 = getD-drop i (take to s) 0 0 ∙ ap (λ (j : ℕ). getD (take to s) j 0) z ∙ getD-take to s i 0 h in
     let pos : 0 < k = black-some (slice i to s) k (omega arith) (ap white f ∙ b) p in
     let w : i + k ≤ to = omega (arith, p .within) in
-    let a : i + k - i ≡ k = omega arith in
-    let part : take k (slice i to s) ≡ slice i (i + k) s =
-    ap (take k) (drop-take i to s) ∙ take-take k (to - i) (drop i s) (omega arith) ∙ ap (λ (j : ℕ). take j (drop i s)) (sym a) ∙ sym (drop-take i (i + k) s) in
     record {
       some = omega arith;
       within = w;
-      first = words-first (slice i to s) k pos p ∙ ap (λ (x : List ℕ). x ∷ words (drop k (slice i to s))) part
+      first = words-first (slice i to s) k pos p ∙ ap (λ (x : List ℕ). x ∷ words (drop k (slice i to s))) (slice-front s i to k w)
           ∙ ap (λ (x : List ℕ). slice i (i + k) s ∷ words x) (drop-drop k i (take to s));
     }
 

@@ -8,7 +8,7 @@ ghost use Rattle.spec.specs.Md.Elements.Code.{isTabOrBlank};
 ghost use Rattle.spec.specs.Bytes.{ascii, isin, white, digit, endsWith, startsWith, same, every, null, one, isWhiteSpace, «trim_end», «trim_end_matches», «trim_start_matches»};
 ghost use Rattle.spec.specs.Out.{push, replace};
 ghost use Rattle.spec.specs.Md.TextUtils.{endsWithWhite};
-ghost use Rattle.text.specs.Class.{inClass};
+ghost use Rattle.text.specs.Class.{inClass, ordinary};
 ghost use Rattle.text.specs.Trimmed.{Trimmed, Skipped, WhiteEnd};
 ghost use Rattle.text.specs.Lifted.{Lifted};
 ghost use Rattle.text.specs.Writes.{Writes};
@@ -20,7 +20,8 @@ pub enum Wrote {
     Full,
 }
 
-// Sets of bytes, for the functions that trim, skip and test by one. Black bytes are not white.
+// Sets of bytes, for the functions that trim, skip and test by one. Black bytes are not white; ordinary ones are neither white
+// nor ever escaped behind the beginning of a line.
 pub enum Class {
     Blank,
     White,
@@ -34,6 +35,7 @@ pub enum Class {
     InWord,
     Black,
     Zero,
+    Ordinary,
 }
 
 pub fn is_in(class: Class, b: u8) -> bool
@@ -52,6 +54,7 @@ pub fn is_in(class: Class, b: u8) -> bool
         Class::InWord => is_in_word(b),
         Class::Black => !is_white(b),
         Class::Zero => b == 48,
+        Class::Ordinary => is_ordinary(b),
     }
 }
 
@@ -99,6 +102,25 @@ fn is_in_word(b: u8) -> bool
         return false;
     }
     b != 10
+}
+
+// The letters come first: they are most of a text.
+fn is_ordinary(b: u8) -> bool
+    ensures { λ r. ⌜ r ≡ ordinary b ⌝ }
+{
+    if 97 <= b {
+        return (b != 124) & (b != 126);
+    }
+    if 61 <= b {
+        return (b <= 90) | (b == 94);
+    }
+    if 34 <= b {
+        return (b != 42) & (b != 60);
+    }
+    if 14 <= b {
+        return b < 32;
+    }
+    (b < 9) | (b == 11)
 }
 
 pub fn ends_with(s: &[u8], x: &[u8]) -> bool

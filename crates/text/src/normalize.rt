@@ -1,7 +1,7 @@
 // push_normalized_text of text_utils.rs with push_escaped_chunk, for a text from another slice or from the own memory.
 // What is read is src or, where `own` says so, text; what is written stays before `room`.
 ghost use mathlib.Core.Path.{_≡_};
-ghost use mathlib.Core.Bool.{cond, false, _||_, _&&_};
+ghost use mathlib.Core.Bool.{cond, true, false, _||_, _&&_};
 ghost use mathlib.Core.List.{List, [], _∷_, _++_};
 ghost use Prim.Native.Nat.{ℕ, _+_, _≤_, _<_};
 ghost use lib.ListN.{length, take, drop, getD};
@@ -13,7 +13,7 @@ ghost use Rattle.spec.specs.Md.TextUtils as def;
 ghost use Rattle.text.specs.Class.{inClass};
 ghost use Rattle.text.specs.Marks.{marks, leadOf, firstAndMore, dotWord, leadText, blankText, lineStart};
 ghost use Rattle.text.specs.Trimmed.{Skipped};
-ghost use Rattle.text.specs.Words.{WordAt, WordEnd};
+ghost use Rattle.text.specs.Words.{WordAt, WordEnd, OrdinaryWords};
 ghost use Rattle.text.specs.Source.{store, Apart, WritesIn};
 use crate::buffer::Class;
 use crate::buffer::Wrote;
@@ -21,7 +21,10 @@ use crate::buffer::all_in;
 use crate::buffer::ends_with_byte;
 use crate::buffer::ends_with_either;
 use crate::buffer::ends_with_white;
+use crate::buffer::is_in;
+use crate::buffer::push_all;
 use crate::buffer::push_byte;
+use crate::buffer::starts_with_byte;
 use crate::buffer::trim_start_matches;
 use crate::text_utils::ends_with_marker_digits;
 use crate::text_utils::is_ordered_list_marker;
@@ -157,6 +160,76 @@ fn push_marked(
     Wrote::Done(n)
 }
 
+// Whether a word ends at n in s.
+fn is_word_end(s: &[u8], n: usize) -> bool
+    ensures { λ r. ⌜ (n < length (now (s .entry)) → r ≡ white (getD (now (s .entry)) n 0)) ⌝ }
+{
+    if n < s.len() {
+        return is_in(Class::White, s[n]);
+    }
+    true
+}
+
+// The length of a blank and the ordinary word behind it that s begins with; 0 where it begins with something else.
+fn ordinary_word(s: &[u8]) -> usize
+    ensures { λ r. ⌜ OrdinaryWords (now (s .entry)) r ⌝ }
+{
+    if !starts_with_byte(s, 32) {
+        return 0;
+    }
+    let k = trim_start_matches(&s[1..], Class::Ordinary);
+    if k == 0 {
+        return 0;
+    }
+    if is_word_end(s, k + 1) { k + 1 } else { 0 }
+}
+
+// How many bytes s begins with that are such words.
+fn ordinary_words(s: &[u8]) -> usize
+    ensures { λ r. ⌜ OrdinaryWords (now (s .entry)) r ⌝ }
+{
+    let mut at = 0;
+    while at < s.len() {
+        let k = ordinary_word(&s[at..]);
+        if k == 0 {
+            return at;
+        }
+        at += k;
+    }
+    at
+}
+
+// The same for a part of what is read; it is not asked of the own memory, which no text is copied from at once.
+fn ordinary_in(src: &[u8], text: &[u8], own: bool, from: usize, to: usize) -> usize
+    requires { ⌜ (from ≤ to) × (to ≤ length (store own (now text) (now src))) ⌝ }
+    ensures { λ r. ⌜ OrdinaryWords (slice from to (store own (now (text .entry)) (now (src .entry)))) r × (own ≡ true → r ≡ 0) ⌝ }
+{
+    if own {
+        return 0;
+    }
+    ordinary_words(&src[from..to])
+}
+
+// Appends n bytes of what is read as they are.
+fn push_ordinary(
+    src: &[u8],
+    text: &mut [u8],
+    own: bool,
+    from: usize,
+    n: usize,
+    room: usize,
+    len: usize,
+) -> Wrote
+    requires { ⌜ (own ≡ true → n ≡ 0) × (from + n ≤ length (store own (now text) (now src))) × (len ≤ room) × (room ≤ length (now text)) ⌝ }
+    ensures { λ r. ⌜ WritesIn room (now (text .entry)) (now (text .exit)) r (push (slice from (from + n) (store own (now (text .entry)) (now (src .entry)))) (take len (now (text .entry)))) ⌝ }
+{
+    if n == 0 {
+        return Wrote::Done(len);
+    }
+    let to = from + n;
+    push_all(&mut text[..room], len, &src[from..to])
+}
+
 // push_escaped_chunk for the chunk between `from` and `to`.
 fn push_escaped_chunk(
     src: &[u8],
@@ -263,10 +336,10 @@ fn push_words(
     ensures { λ r. ⌜ WritesIn room (now (text .entry)) (now (text .exit)) r (push (def.moreWords escape (words (slice from to (store own (now (text .entry)) (now (src .entry)))))) (take len (now (text .entry)))) ⌝ }
 {
     let mut n = len;
-    let mut at = next_word(src, text, own, from, to);
+    let mut at = from;
     while at < to {
-        let end = word_end(src, text, own, at, to);
-        match push_word(src, text, own, at, end, room, n, escape) {
+        let k = ordinary_in(src, text, own, at, to);
+        match push_ordinary(src, text, own, at, k, room, n) {
             Wrote::Done(m) => {
                 n = m;
             }
@@ -274,7 +347,19 @@ fn push_words(
                 return Wrote::Full;
             }
         }
-        at = next_word(src, text, own, end, to);
+        at = next_word(src, text, own, at + k, to);
+        if at < to {
+            let end = word_end(src, text, own, at, to);
+            match push_word(src, text, own, at, end, room, n, escape) {
+                Wrote::Done(m) => {
+                    n = m;
+                }
+                Wrote::Full => {
+                    return Wrote::Full;
+                }
+            }
+            at = end;
+        }
     }
     Wrote::Done(n)
 }

@@ -36,7 +36,7 @@ leadRight b =
     cond (leb 4 (leadOf b .more)) (not (begins b sequences))
     (begins b sequences && sameRanges (following b sequences) (due (leadOf b)))
 
-below : (ℕ → Bool) → ℕ → Bool
+unfoldable pub below : (ℕ → Bool) → ℕ → Bool
 below p zero = true
 below p (suc n) = p n && below p n
 
@@ -47,7 +47,7 @@ last-or-less p n b false q h last less = less (lt-of (eqb-false b n q))
     lt-of : (b ≡ n → ⊥) → b < n
     lt-of ne = omega arith
 
-below-at : (p : ℕ → Bool) (n b : ℕ) → below p n ≡ true → b < n → p b ≡ true
+pub below-at : (p : ℕ → Bool) (n b : ℕ) → below p n ≡ true → b < n → p b ≡ true
 unfolding below
 below-at p zero b e h = absurd (omega arith)
 below-at p (suc n) b e h =

@@ -59,6 +59,12 @@ is-white-requires-2 c κs = search needs
 enum-told-12 : tie.Need-enum-told-12
 enum-told-12 c = search needs
 
+is-ordinary-requires : tie.Need-is-ordinary-requires
+is-ordinary-requires c κs = search needs
+
+enum-told-13 : tie.Need-enum-told-13
+enum-told-13 c = search needs
+
 returns : tie.Need-returns
 unfolding blank
 returns c =
@@ -108,5 +114,9 @@ returns-12 : tie.Need-returns-12
 returns-12 c =
     sym (ap (λ (k : Class). inClass k (c .before .before .args .b)) (c .enum-told12 .given .1))
 
+returns-13 : tie.Need-returns-13
+returns-13 c =
+    c .is-ordinary .ensures ∙ sym (ap (λ (k : Class). inClass k (c .before .before .before .args .b)) (c .before .enum-told13 .given .1))
+
 pub is-in-spec : {M : Type 1} → statement M
-is-in-spec = tie.close (tie.spec enum-told enum-told-2 is-white-requires enum-told-3 is-digit-requires enum-told-4 enum-told-5 enum-told-6 enum-told-7 is-tab-or-blank-requires enum-told-8 enum-told-9 enum-told-10 is-in-word-requires enum-told-11 is-white-requires-2 enum-told-12 returns returns-2 returns-3 returns-4 returns-5 returns-6 returns-7 returns-8 returns-9 returns-10 returns-11 returns-12)
+is-in-spec = tie.close (tie.spec enum-told enum-told-2 is-white-requires enum-told-3 is-digit-requires enum-told-4 enum-told-5 enum-told-6 enum-told-7 is-tab-or-blank-requires enum-told-8 enum-told-9 enum-told-10 is-in-word-requires enum-told-11 is-white-requires-2 enum-told-12 enum-told-13 is-ordinary-requires returns returns-2 returns-3 returns-4 returns-5 returns-6 returns-7 returns-8 returns-9 returns-10 returns-11 returns-12 returns-13)
