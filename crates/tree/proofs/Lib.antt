@@ -3,6 +3,7 @@ pub mod Sequences
 pub mod Walking
 pub mod Rules
 pub mod Every
+pub mod Sounding
 pub mod Attrs
 pub mod Values
 pub mod Naming

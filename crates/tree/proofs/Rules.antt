@@ -22,7 +22,7 @@ unfolding null
 null-length [] = refl
 null-length (b ∷ s) = sym (eqb·suc-zero (length s))
 
-part-length : (s : Bytes) (a b : ℕ) → a ≤ b → b ≤ length s → length (take (b - a) (drop a s)) ≡ b - a
+pub part-length : (s : Bytes) (a b : ℕ) → a ≤ b → b ≤ length s → length (take (b - a) (drop a s)) ≡ b - a
 part-length s a b p q = omega (arith, length-take (b - a) (drop a s), length-drop a s)
 
 right-length : (s : Bytes) (p : ℕ) → p + 3 ≤ length s

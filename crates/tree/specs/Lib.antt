@@ -2,6 +2,7 @@
 pub mod Lead
 pub mod Spans
 pub mod Scans
+pub mod Sound
 pub mod Memory
 pub mod Kinds
 pub mod Represents

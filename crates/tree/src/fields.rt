@@ -20,7 +20,7 @@ pub fn wide(x: u8) -> usize
 }
 
 // The length that the head of the field at p says.
-fn length_at(s: &[u8], p: usize) -> usize
+pub fn length_at(s: &[u8], p: usize) -> usize
     requires { ⌜ p + 3 ≤ length (now s) ⌝ }
     ensures { λ r. ⌜ (r ≡ lengthAt (now (s .entry)) p) × (r < 65536) ⌝ }
 {

@@ -5,5 +5,6 @@ pub mod memory;
 pub mod names;
 pub mod nodes;
 pub mod questions;
+pub mod sound;
 pub mod store;
 pub mod utf8;

@@ -22,9 +22,11 @@ ghost use Rattle.spec.specs.Questions.{
   refusal,
 };
 ghost use Rattle.tree.specs.Scans.{lengthRight, fieldRight, scanOf, countAfter, opensBlockquote, skipNameOf, skipList};
+ghost use Rattle.tree.specs.Sound.{refusalOfSound};
 use crate::fields::is_same;
 use crate::fields::is_whole;
 use crate::fields::span_at;
+use crate::sound::sound_count;
 use crate::utf8::is_utf8;
 
 // 1: Is the sheet at most 1,048,576 bytes?
@@ -74,7 +76,7 @@ fn length_right(tag: u8, len: usize) -> bool
 }
 
 // How many elements are open behind a field.
-fn open_after(depth: usize, tag: u8) -> usize
+pub fn open_after(depth: usize, tag: u8) -> usize
     requires { ⌜ depth < 18446744073709551615 ⌝ }
     ensures { λ r. ⌜ (r ≡ openAfter depth tag) × (r ≤ depth + 1) ⌝ }
 {
@@ -91,7 +93,7 @@ fn open_after(depth: usize, tag: u8) -> usize
 }
 
 // Whether a field of `len` bytes keeps the rules, behind one with the tag `before` and with `depth` elements open.
-fn field_right(before: u8, depth: usize, tag: u8, len: usize) -> bool
+pub fn field_right(before: u8, depth: usize, tag: u8, len: usize) -> bool
     ensures { λ r. ⌜ r ≡ fieldRight before depth tag len ⌝ }
 {
     if !may_follow(before, tag) {
@@ -164,7 +166,7 @@ pub fn holds_utf8(s: &[u8]) -> bool
 }
 
 // One more behind a field that begins a node.
-fn count_after(count: usize, tag: u8) -> usize
+pub fn count_after(count: usize, tag: u8) -> usize
     requires { ⌜ count < 18446744073709551615 ⌝ }
     ensures { λ r. ⌜ (r ≡ countAfter count tag) × (r ≤ count + 1) ⌝ }
 {
@@ -224,7 +226,7 @@ pub fn is_within_limits(sheet: &[u8]) -> bool
 }
 
 // Whether a field with these bytes opens a block quote.
-fn opens_blockquote(tag: u8, body: &[u8]) -> bool
+pub fn opens_blockquote(tag: u8, body: &[u8]) -> bool
     ensures { λ r. ⌜ r ≡ opensBlockquote tag (now (body .entry)) ⌝ }
 {
     if tag != 1 {
@@ -325,8 +327,8 @@ pub fn has_node_memory(sheet: &[u8], memory: usize) -> bool
     node_count(sheet) <= memory / 64
 }
 
-// The number of the first question among 1 to 9 that says no, or 0.
-pub fn first_refusal(sheet: &[u8], own: bool, run: &[u8], start: usize, memory: usize) -> u8
+// The number of the first question that says no, or 0: each question for itself, in their order.
+fn refusal_in_order(sheet: &[u8], own: bool, run: &[u8], start: usize, memory: usize) -> u8
     ensures { λ r. ⌜ r ≡ refusal (now (sheet .entry)) (skipList own (now (run .entry))) start memory ⌝ }
 {
     if !is_short(sheet) {
@@ -357,4 +359,31 @@ pub fn first_refusal(sheet: &[u8], own: bool, run: &[u8], start: usize, memory: 
         return 9;
     }
     0
+}
+
+// The same for a sheet of so many nodes that questions 1 to 6 let pass.
+fn refusal_of_sound(count: usize, own: bool, run: &[u8], start: usize, memory: usize) -> u8
+    ensures { λ r. ⌜ r ≡ refusalOfSound count (skipList own (now (run .entry))) start memory ⌝ }
+{
+    if count <= start {
+        return 7;
+    }
+    if !is_skip_list(own, run) {
+        return 8;
+    }
+    if memory / 64 < count {
+        return 9;
+    }
+    0
+}
+
+// The number of the first question among 1 to 9 that says no, or 0.
+pub fn first_refusal(sheet: &[u8], own: bool, run: &[u8], start: usize, memory: usize) -> u8
+    ensures { λ r. ⌜ r ≡ refusal (now (sheet .entry)) (skipList own (now (run .entry))) start memory ⌝ }
+{
+    let count = sound_count(sheet);
+    if count == 0 {
+        return refusal_in_order(sheet, own, run, start, memory);
+    }
+    refusal_of_sound(count, own, run, start, memory)
 }

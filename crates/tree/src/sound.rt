@@ -1,0 +1,82 @@
+// Questions 1 to 6 in one pass over the fields, for a sheet that they let pass.
+ghost use mathlib.Core.Path.{_≡_};
+ghost use Prim.Native.Nat.{_<_};
+ghost use Rattle.tree.specs.Sound.{soundField, Ended, Sound};
+use crate::fields::length_at;
+use crate::questions::count_after;
+use crate::questions::field_right;
+use crate::questions::open_after;
+use crate::questions::opens_blockquote;
+use crate::utf8::is_utf8;
+
+// Whether a field with these bytes has a tag from 1 to 6, keeps the rules, opens no block quote and is UTF-8.
+fn is_sound(before: u8, depth: usize, tag: u8, body: &[u8]) -> bool
+    ensures { λ r. ⌜ r ≡ soundField before depth tag (now (body .entry)) ⌝ }
+{
+    if tag < 1 {
+        return false;
+    }
+    if 6 < tag {
+        return false;
+    }
+    if !field_right(before, depth, tag, body.len()) {
+        return false;
+    }
+    if opens_blockquote(tag, body) {
+        return false;
+    }
+    is_utf8(body)
+}
+
+// The count, where nothing is left over behind the fields, no name stands last, every element is closed and the count
+// is within its limit; else 0.
+fn count_at_end(left: usize, before: u8, depth: usize, count: usize) -> usize
+    ensures { λ r. ⌜ (0 < r → Ended left before depth count r) ⌝ }
+{
+    if left != 0 {
+        return 0;
+    }
+    if before == 2 {
+        return 0;
+    }
+    if depth != 0 {
+        return 0;
+    }
+    if 65535 < count {
+        return 0;
+    }
+    count
+}
+
+// The nodes of a sheet that questions 1 to 6 let pass; 0 where one of them may say no.
+pub fn sound_count(s: &[u8]) -> usize
+    ensures { λ r. ⌜ (0 < r → Sound (now (s .entry)) r) ⌝ }
+{
+    if 1048576 < s.len() {
+        return 0;
+    }
+    let mut before = 0u8;
+    let mut depth = 0;
+    let mut count = 0;
+    let mut p = 0;
+    while 3 <= s.len() - p {
+        let n = length_at(s, p);
+        let tag = s[p];
+        let start = p + 3;
+        if s.len() - start < n {
+            return 0;
+        }
+        let end = start + n;
+        if !is_sound(before, depth, tag, &s[start..end]) {
+            return 0;
+        }
+        depth = open_after(depth, tag);
+        if 100 < depth {
+            return 0;
+        }
+        count = count_after(count, tag);
+        before = tag;
+        p = end;
+    }
+    count_at_end(s.len() - p, before, depth, count + 1)
+}
