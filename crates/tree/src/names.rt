@@ -1,9 +1,12 @@
 // Element names: the number by which the writers know one, and the skip list.
 ghost use mathlib.Core.Path.{_≡_};
+ghost use mathlib.Core.Bool.{cond};
+ghost use mathlib.Core.List.{[], _∷_};
 ghost use Prim.Native.Nat.{_+_, _≤_};
 ghost use lib.ListN.{length};
+ghost use lib.Dec.{eqb};
 ghost use Rattle.spec.specs.Fields.{fields};
-ghost use Rattle.spec.specs.Bytes.{among};
+ghost use Rattle.spec.specs.Bytes.{same, among};
 ghost use Rattle.spec.specs.Names.{place, tagOf};
 ghost use Rattle.spec.specs.Call.{bodies, skipTags};
 ghost use Rattle.tree.specs.Scans.{skipList};
@@ -30,22 +33,113 @@ fn place_in(run: &[u8], name: &[u8]) -> usize
     0
 }
 
-// The number of a name, in the order of `names`.
+// The number of a name of one byte.
+fn number_of_one(a: u8) -> usize
+    ensures { λ r. ⌜ r ≡ tagOf (a ∷ []) ⌝ }
+{
+    match a {
+        b'p' => 4,
+        b'a' => 21,
+        b'b' => 26,
+        b'i' => 28,
+        _ => 0,
+    }
+}
+
+// The number of a name of two bytes that begins with `h`: the headings and `hr`.
+fn number_of_h(b: u8) -> usize
+    ensures { λ r. ⌜ r ≡ tagOf (104 ∷ b ∷ []) ⌝ }
+{
+    match b {
+        b'1' => 5,
+        b'2' => 6,
+        b'3' => 7,
+        b'4' => 8,
+        b'5' => 9,
+        b'6' => 10,
+        b'r' => 15,
+        _ => 0,
+    }
+}
+
+// The number of a name of two bytes that begins with `t`: the parts of a table.
+fn number_of_t(b: u8) -> usize
+    ensures { λ r. ⌜ r ≡ tagOf (116 ∷ b ∷ []) ⌝ }
+{
+    match b {
+        b'r' => 17,
+        b'h' => 18,
+        b'd' => 19,
+        _ => 0,
+    }
+}
+
+// The number of a name whose first byte begins one known name alone, with `second` behind it.
+fn number_at(b: u8, second: u8, number: usize) -> usize
+    ensures { λ r. ⌜ r ≡ cond (eqb b second) number 0 ⌝ }
+{
+    if b == second { number } else { 0 }
+}
+
+// The number of a name of two bytes.
+fn number_of_two(a: u8, b: u8) -> usize
+    ensures { λ r. ⌜ r ≡ tagOf (a ∷ b ∷ []) ⌝ }
+{
+    match a {
+        b'h' => number_of_h(b),
+        b't' => number_of_t(b),
+        b'l' => number_at(b, b'i', 16),
+        b'u' => number_at(b, b'l', 11),
+        b'o' => number_at(b, b'l', 12),
+        b'd' => number_at(b, b'l', 13),
+        b'b' => number_at(b, b'r', 20),
+        b'e' => number_at(b, b'm', 27),
+        _ => 0,
+    }
+}
+
+// `number` where the name is `known`, else `other`.
+fn number_or(name: &[u8], known: &[u8], number: usize, other: usize) -> usize
+    ensures { λ r. ⌜ r ≡ cond (same (now (name .entry)) (now (known .entry))) number other ⌝ }
+{
+    if is_same(name, known) { number } else { other }
+}
+
+// The number of a name, by its length.
 fn name_number(name: &[u8]) -> usize
     ensures { λ r. ⌜ r ≡ tagOf (now (name .entry)) ⌝ }
 {
-    place_in(
-        b"\x07\0\x07article\x07\0\x07section\x07\0\x03div\x07\0\x01p\x07\0\x02h1\x07\0\x02h2\x07\0\x02h3\x07\0\x02h4\x07\0\x02h5\x07\0\x02h6\x07\0\x02ul\x07\0\x02ol\x07\0\x02dl\x07\0\x05table\x07\0\x02hr\x07\0\x02li\x07\0\x02tr\x07\0\x02th\x07\0\x02td\x07\0\x02br\x07\0\x01a\x07\0\x03img\x07\0\x03pre\x07\0\x04code\x07\0\x06strong\x07\0\x01b\x07\0\x02em\x07\0\x01i\x07\0\x05thead\x07\0\x05tbody",
-        name,
-    )
+    match name.len() {
+        1 => number_of_one(name[0]),
+        2 => number_of_two(name[0], name[1]),
+        3 => number_or(
+            name,
+            b"div",
+            3,
+            number_or(name, b"img", 22, number_or(name, b"pre", 23, 0)),
+        ),
+        4 => number_or(name, b"code", 24, 0),
+        5 => number_or(
+            name,
+            b"table",
+            14,
+            number_or(name, b"thead", 29, number_or(name, b"tbody", 30, 0)),
+        ),
+        6 => number_or(name, b"strong", 25, 0),
+        7 => number_or(name, b"article", 1, number_or(name, b"section", 2, 0)),
+        _ => 0,
+    }
 }
 
-// Whether a name is one of the skip list.
+// Whether a name is one of the skip list. The default has no name of less than four bytes.
 fn is_skip_tag(own: bool, run: &[u8], name: &[u8]) -> bool
     ensures { λ r. ⌜ r ≡ among (now (name .entry)) (skipTags (skipList own (now (run .entry)))) ⌝ }
 {
     if own {
         return place_in(run, name) != 0;
+    }
+    if name.len() < 4 {
+        return false;
     }
     place_in(
         b"\x07\0\x06script\x07\0\x05style\x07\0\x04meta\x07\0\x04head",
