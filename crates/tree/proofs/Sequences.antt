@@ -2,16 +2,16 @@
 use Prim.Native.Nat.{ℕ, zero, suc, _+_, _-_, _<_, _≤_}
 use native.Mathlib.Omega.{arith}
 use mathlib.Core.Path.{_≡_, refl, ap, ap₂, _∙_, sym}
-use mathlib.Core.Bool.{Bool, true, false, cond, not, _&&_, and-eq-true-iff, false≢true}
+use mathlib.Core.Bool.{Bool, true, false, cond, not, _&&_, and-eq-true-iff, and-assoc, and-true, false≢true}
 use mathlib.Core.List.{List, [], _∷_}
-use lib.ListN.{length, getD, drop, replicate, drop-of-length-le}
-use lib.Seq.{drop-cons}
+use lib.ListN.{length, getD, take, drop, replicate, drop-of-length-le}
+use lib.Seq.{drop-cons, drop-drop}
 use native.Mathlib.Numerals.{add-one}
 use lib.Dec.{eqb, leb, ltb, eqb·suc-zero}
-use borrow.Author.Tests.{eqb-true, eqb-false, not-true, ltb-true, ltb-false, le-leb, lt-leb}
-use Rattle.spec.specs.Bytes.{Bytes}
+use borrow.Author.Tests.{eqb-true, eqb-false, ne-eqb, not-true, ltb-true, ltb-false, lt-ltb, leb-true, le-leb, lt-leb}
+use Rattle.spec.specs.Bytes.{Bytes, every}
 use Rattle.spec.specs.Utf8.{Range, to, row, sequences, within, begins, following, fits, dueAfter, wellFormed, isUtf8}
-use Rattle.tree.specs.Lead.{make, leadOf, nextOf, rangesOf, due}
+use Rattle.tree.specs.Lead.{make, leadOf, nextOf, rangesOf, due, after, Behind, isAscii}
 use Rattle.tree.specs.declared.utf8.Lead.{Lead}
 
 sameRanges : List Range → List Range → Bool
@@ -58,10 +58,6 @@ all-leads : below leadRight 256 ≡ true
 unfolding below leadRight begins following sequences to row within sameRanges rangesOf
 all-leads = refl
 
--- the answer for the bytes from b on, from what `nextOf` says of b
-abbrev pub after : Lead → Bytes → Bool
-after d s = cond (leb 4 (d .more)) false (wellFormed (due d) s)
-
 lead-law : (b : ℕ) (s : Bytes) → b < 256 → wellFormed [] (b ∷ s) ≡ after (leadOf b) s
 unfolding wellFormed fits dueAfter leadRight
 lead-law b s h = go (leb 4 (leadOf b .more)) (below-at leadRight 256 b all-leads h)
@@ -103,19 +99,51 @@ next-law d b s h k = go (d .more) h
     go zero h = lead-law b s k
     go (suc n) h = rw (eqb·suc-zero n) (more-law n (d .low) (d .high) b s h)
 
--- the byte at i, where the bytes from i on decide and `d` says what is due there; `r` is what is due behind it
-module _ (s : Bytes) (d r : Lead) (i : ℕ) (within : i < length s) (small : d .more < 4) (byte : getD s i 0 < 256)
-    (so-far : wellFormed [] s ≡ wellFormed (due d) (drop i s)) (next : r ≡ nextOf d (getD s i 0)) where
-  turn : wellFormed [] s ≡ after r (drop (i + 1) s)
-  turn =
-      so-far ∙ rw (next, add-one, drop-cons s i 0 within) (next-law d (getD s i 0) (drop (suc i) s) small byte)
+-- an ASCII byte where nothing is due
+ascii-law : (d : Lead) (b : ℕ) (s : Bytes) → d .more ≡ 0 → b < 0x80 → wellFormed (due d) (b ∷ s) ≡ wellFormed (due d) s
+unfolding rangesOf
+ascii-law d b s e h = rw e (lead-law b s (omega arith) ∙ rw (lt-ltb b 0x80 h))
 
-  pub wrong : 4 ≤ r .more → false ≡ isUtf8 s
-  unfolding isUtf8
-  wrong h = sym (turn ∙ rw (le-leb 4 (r .more) h))
+ascii-on : (n : ℕ) (d : Lead) (s : Bytes) → d .more ≡ 0 → every isAscii (take n s) ≡ true → wellFormed (due d) s ≡ wellFormed (due d) (drop n s)
+unfolding every
+ascii-on zero d s e h = refl
+ascii-on (suc n) d [] e h = refl
+ascii-on (suc n) d (b ∷ s) e h =
+    let p : (ltb b 0x80 ≡ true) × (every isAscii (take n s) ≡ true) = and-eq-true-iff _ _ .0 h in
+    ascii-law d b s e (ltb-true b 0x80 (p .0)) ∙ ascii-on n d s e (p .1)
 
-  pub right : r .more < 4 → wellFormed [] s ≡ wellFormed (due r) (drop (i + 1) s)
-  right h = turn ∙ rw (lt-leb 4 (r .more) h)
+-- the bytes of a block, one after the other
+module _ (s : Bytes) (all : Bool) (i : ℕ) (so-far : every isAscii s ≡ (all && every isAscii (drop i s))) where
+  pub ascii-turn : i < length s → every isAscii s ≡ ((all && isAscii (getD s i 0)) && every isAscii (drop (i + 1) s))
+  unfolding every
+  ascii-turn h = so-far ∙ rw (add-one, drop-cons s i 0 h) (sym (and-assoc all _ _))
+
+  pub ascii-end : length s ≤ i → all ≡ every isAscii s
+  unfolding every
+  ascii-end h = sym (so-far ∙ rw (drop-of-length-le s h) (and-true all))
+
+-- the byte at i, where the bytes from i on decide the answer and `d` says what is due there; `r` is what is due behind it
+module _ (answer : Bool) (s : Bytes) (d : Lead) (i : ℕ) (so-far : answer ≡ wellFormed (due d) (drop i s)) where
+  pub unmoved : (to : ℕ) → d .more < 4 → i ≡ to → answer ≡ after d (drop to s)
+  unmoved to h e = so-far ∙ rw (lt-leb 4 (d .more) h, e)
+
+  module _ (within : i < length s) where
+    pub skipped : (eqb (d .more) 0 && isAscii (getD s i 0)) ≡ true → answer ≡ wellFormed (due d) (drop (i + 1) s)
+    skipped e =
+        let p : (eqb (d .more) 0 ≡ true) × (ltb (getD s i 0) 0x80 ≡ true) = and-eq-true-iff _ _ .0 e in
+        so-far
+        ∙ rw (add-one, drop-cons s i 0 within) (ascii-law d (getD s i 0) (drop (suc i) s) (eqb-true _ _ (p .0)) (ltb-true _ _ (p .1)))
+
+    module _ (r : Lead) (small : d .more < 4) (byte : getD s i 0 < 256) (next : r ≡ nextOf d (getD s i 0)) where
+      turn : answer ≡ after r (drop (i + 1) s)
+      turn =
+          so-far ∙ rw (next, add-one, drop-cons s i 0 within) (next-law d (getD s i 0) (drop (suc i) s) small byte)
+
+      pub wrong : (to : ℕ) → 4 ≤ r .more → answer ≡ after r (drop to s)
+      wrong to h = turn ∙ rw (le-leb 4 (r .more) h)
+
+      pub right : r .more < 4 → answer ≡ wellFormed (due r) (drop (i + 1) s)
+      right h = turn ∙ rw (lt-leb 4 (r .more) h)
 
 -- nothing is due at the end
 ended : (n low high : ℕ) → wellFormed (rangesOf n low high) [] ≡ eqb n 0
@@ -123,6 +151,27 @@ unfolding wellFormed rangesOf
 ended zero low high = refl
 ended (suc n) low high = sym (eqb·suc-zero n)
 
-pub at-end : (s : Bytes) (d : Lead) (i : ℕ) → length s ≤ i → wellFormed [] s ≡ wellFormed (due d) (drop i s) → eqb (d .more) 0 ≡ isUtf8 s
-unfolding isUtf8
-at-end s d i h e = sym (e ∙ rw (drop-of-length-le s h) (ended (d .more) (d .low) (d .high)))
+-- the bytes of s from i to j, with r due behind them
+module _ (s : Bytes) (d r : Lead) (i j : ℕ) (so-far : isUtf8 s ≡ wellFormed (due d) (drop i s)) (behind : Behind d s i j r) where
+  pub refused : 4 ≤ r .more → false ≡ isUtf8 s
+  refused h = sym (so-far ∙ behind ∙ rw (le-leb 4 (r .more) h))
+
+  pub passed : r .more < 4 → isUtf8 s ≡ wellFormed (due r) (drop j s)
+  passed h = so-far ∙ behind ∙ rw (lt-leb 4 (r .more) h)
+
+  pub at-end : length s ≤ j → eqb (r .more) 0 ≡ isUtf8 s
+  at-end h = sym (so-far ∙ behind ∙ rw (drop-of-length-le s h) (go (leb 4 (r .more)) refl))
+    where
+      go : (t : Bool) → leb 4 (r .more) ≡ t → cond t false (wellFormed (due r) []) ≡ eqb (r .more) 0
+      go true e = sym (ne-eqb (r .more) 0 (not-none (leb-true 4 (r .more) e)))
+        where
+          not-none : 4 ≤ r .more → r .more ≡ 0 → ⊥
+          not-none h e = omega arith
+      go false e = ended (r .more) (r .low) (r .high)
+
+-- the block of bytes at i
+pub block-skipped : (d : Lead) (s : Bytes) (i : ℕ) → d .more ≡ 0 → every isAscii (take (i + 16 - i) (drop i s)) ≡ true
+    → Behind d s i (i + 16) d
+block-skipped d s i e h =
+    let long : i + 16 - i ≡ 16 = omega arith in
+    ascii-on 16 d (drop i s) e (rw long at h) ∙ rw (lt-leb 4 (d .more) (omega arith), drop-drop 16 i s)

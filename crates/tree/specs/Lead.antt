@@ -1,10 +1,12 @@
 -- What the first byte of a UTF-8 sequence says of the rest, as numbers. Assumes nothing.
 use Prim.Native.Nat.{ℕ, zero, suc, _-_}
-use mathlib.Core.Bool.{cond}
-use lib.Dec.{eqb, ltb}
-use lib.ListN.{replicate}
+use mathlib.Core.Path.{_≡_}
+use mathlib.Core.Bool.{Bool, false, cond}
+use lib.Dec.{eqb, leb, ltb}
+use lib.ListN.{drop, replicate}
 use mathlib.Core.List.{List, [], _∷_}
-use Rattle.spec.specs.Utf8.{Range, to}
+use Rattle.spec.specs.Bytes.{Bytes}
+use Rattle.spec.specs.Utf8.{Range, to, wellFormed}
 use Rattle.tree.specs.declared.utf8.Lead.{Lead}
 
 abbrev pub make : ℕ → ℕ → ℕ → Lead
@@ -36,3 +38,14 @@ rangesOf (suc n) low high = to low high ∷ replicate n (to 0x80 0xBF)
 
 abbrev pub due : Lead → List Range
 due d = rangesOf (d .more) (d .low) (d .high)
+
+-- the answer for s, where d says what is due before it
+abbrev pub after : Lead → Bytes → Bool
+after d s = cond (leb 4 (d .more)) false (wellFormed (due d) s)
+
+-- r is due behind the bytes of s from `from` to `to`, where d is due before them
+abbrev pub Behind : Lead → Bytes → ℕ → ℕ → Lead → Type 0
+Behind d s from to r = wellFormed (due d) (drop from s) ≡ after r (drop to s)
+
+abbrev pub isAscii : ℕ → Bool
+isAscii b = ltb b 0x80

@@ -1,8 +1,10 @@
 // Well-formed UTF-8.
 ghost use mathlib.Core.Path.{_≡_};
-ghost use Prim.Native.Nat.{_<_};
+ghost use Prim.Native.Nat.{_+_, _<_, _≤_};
+ghost use lib.ListN.{length};
+ghost use Rattle.spec.specs.Bytes.{every};
 ghost use Rattle.spec.specs.Utf8.{isUtf8};
-ghost use Rattle.tree.specs.Lead.{leadOf, lead3Of, lead4Of, nextOf};
+ghost use Rattle.tree.specs.Lead.{leadOf, lead3Of, lead4Of, nextOf, isAscii, Behind};
 
 // What the first byte of a sequence says of the rest: how many bytes follow, and the range of the first of them.
 // `more` is 4 where no sequence begins with the byte.
@@ -128,6 +130,60 @@ fn next_byte(due: Lead, b: u8) -> Lead
     }
 }
 
+// Whether a block of 16 bytes is ASCII, without an early exit, so that the block can be tested as a whole.
+fn is_ascii(block: &[u8]) -> bool
+    requires { ⌜ length (now block) ≡ 16 ⌝ }
+    ensures { λ r. ⌜ r ≡ every isAscii (now (block .entry)) ⌝ }
+{
+    let mut all = true;
+    let mut i = 0;
+    while i < 16 {
+        all = all & (block[i] < 0x80);
+        i += 1;
+    }
+    all
+}
+
+// What is due behind the bytes from `from` to `to`, where `before` is due before them. `more` is 4 or more where a byte
+// is wrong. An ASCII byte where nothing is due leaves nothing due.
+fn due_behind(before: Lead, s: &[u8], from: usize, to: usize) -> Lead
+    requires { ⌜ (before .more < 4) × (from ≤ to) × (to ≤ length (now s)) ⌝ }
+    ensures { λ r. ⌜ Behind before (now (s .entry)) from to r ⌝ }
+{
+    let mut due = before;
+    let mut i = from;
+    while i < to {
+        let b = s[i];
+        let more = due.more;
+        if (more == 0) & (b < 0x80) {
+            i += 1;
+            continue;
+        }
+        due = next_byte(due, b);
+        let left = due.more;
+        if 4 <= left {
+            return due;
+        }
+        i += 1;
+    }
+    due
+}
+
+// The same for the block of 16 bytes at `from`; one of ASCII is skipped.
+fn due_behind_block(before: Lead, s: &[u8], from: usize) -> Lead
+    requires { ⌜ (before .more < 4) × (from + 16 ≤ length (now s)) ⌝ }
+    ensures { λ r. ⌜ Behind before (now (s .entry)) from (from + 16) r ⌝ }
+{
+    let end = from + 16;
+    let more = before.more;
+    if more == 0 {
+        if is_ascii(&s[from..end]) {
+            return before;
+        }
+    }
+    due_behind(before, s, from, end)
+}
+
 pub fn is_utf8(s: &[u8]) -> bool
     ensures { λ r. ⌜ r ≡ isUtf8 (now (s .entry)) ⌝ }
 {
@@ -137,14 +193,15 @@ pub fn is_utf8(s: &[u8]) -> bool
         high: 0xBF,
     };
     let mut i = 0;
-    while i < s.len() {
-        due = next_byte(due, s[i]);
+    while 16 <= s.len() - i {
+        due = due_behind_block(due, s, i);
         let more = due.more;
         if 4 <= more {
             return false;
         }
-        i += 1;
+        i += 16;
     }
+    due = due_behind(due, s, i, s.len());
     let left = due.more;
     left == 0
 }
