@@ -8,11 +8,11 @@ use native.Mathlib.Numerals.{add-one}
 use lib.ListN.{length, take, drop, getD, length-drop}
 use lib.Seq.{slice, length-slice, drop-drop, take-add}
 use lib.Dec.{eqb}
-use borrow.Author.Tests.{eqb-true}
-use Rattle.spec.specs.Bytes.{ascii, isin, white, every, words, startsWith, «trim_start_matches»}
+use borrow.Author.Tests.{eqb-true, ne-eqb, le-leb, lt-leb}
+use Rattle.spec.specs.Bytes.{ascii, null, isin, white, digit, every, words, startsWith, endsWith, «trim_start_matches»}
 use Rattle.spec.specs.Out.{andThen, push}
 use Rattle.spec.specs.Md.Constants.{«ALWAYS_ESCAPED»}
-use Rattle.spec.specs.Md.TextUtils.{isEscaped, escapedFrom, escapedChunk, moreWords}
+use Rattle.spec.specs.Md.TextUtils.{isEscaped, escapedFrom, escapedChunk, moreWords, «is_ordered_list_marker»}
 use Rattle.text.specs.Class.{ordinary}
 use Rattle.text.specs.Source.{store, Apart}
 use Rattle.text.specs.Trimmed.{Skipped}
@@ -82,6 +82,52 @@ pub ordinary-chunk : (s : List ℕ) (escape : Bool) → every ordinary s ≡ tru
 unfolding escapedChunk
 ordinary-chunk s true h = ordinary-escaped (every (λ b. eqb b 61) s) s h
 ordinary-chunk s false h = refl
+
+-- the test that is made before any other
+pub not-escaped-at : (start marker underline : Bool) (b : ℕ) (rest : List ℕ) (o : Bool) → o ≡ ordinary b → not (start || marker) && o ≡ true → isEscaped start marker underline b rest ≡ false
+not-escaped-at true marker underline b rest o e h = absurd (false≢true h)
+not-escaped-at false true underline b rest o e h = absurd (false≢true h)
+not-escaped-at false false underline b rest o e h =
+    let r = ordinary-parts (white b) (isin b «ALWAYS_ESCAPED») (eqb b 33) (sym e ∙ h) in
+    not-escaped underline b rest (r .1) (r .2)
+
+-- ---- the beginning of a line
+
+not-digit : (b : ℕ) → 65 ≤ b → digit b ≡ false
+unfolding digit
+not-digit b h = rw (le-leb 48 b (omega arith), lt-leb b 57 (omega arith)) refl
+
+never : (a b : Bool) → b ≡ false → a && b ≡ false
+never true b e = e
+never false b e = refl
+
+no-marker : (b : ℕ) (t : List ℕ) → 65 ≤ b → «is_ordered_list_marker» (b ∷ t) ≡ false
+unfolding «is_ordered_list_marker» null every
+no-marker b [] h = never (endsWith (ascii ".") (b ∷ []) || endsWith (ascii ")") (b ∷ [])) false refl
+no-marker b (y ∷ t) h =
+    let n : length (b ∷ y ∷ t) - 1 ≡ suc (length t) = omega arith in
+    ap (λ (k : ℕ). (endsWith (ascii ".") (b ∷ y ∷ t) || endsWith (ascii ")") (b ∷ y ∷ t)) && (not (null (take k (b ∷ y ∷ t))) && every digit (take k (b ∷ y ∷ t)))) n
+    ∙ never (endsWith (ascii ".") (b ∷ y ∷ t) || endsWith (ascii ")") (b ∷ y ∷ t)) (digit b && every digit (take (length t) (y ∷ t))) (ap (λ (d : Bool). d && every digit (take (length t) (y ∷ t))) (not-digit b h))
+
+not-escaped-first : (u : Bool) (b : ℕ) (s : List ℕ) → isin b «ALWAYS_ESCAPED» ≡ false → eqb b 33 ≡ false → 65 ≤ b → isEscaped true false u b s ≡ false
+unfolding isEscaped isin
+not-escaped-first u b s e f h =
+    rw (e, f, ne-eqb b 35 (λ q. omega arith), ne-eqb b 62 (λ q. omega arith), ne-eqb b 45 (λ q. omega arith), ne-eqb b 43 (λ q. omega arith), ne-eqb b 61 (λ q. omega arith)) (never u false refl)
+
+-- a chunk of ordinary bytes stands as it is, at the beginning of a line too where its first byte is no sign and no digit
+pub bare-chunk : (s : List ℕ) (escape start : Bool) → every ordinary s ≡ true → (start ≡ true → 0 < length s → 65 ≤ getD s 0 0) → escapedChunk s escape start ≡ s
+unfolding escapedChunk escapedFrom every
+bare-chunk s escape false h k = ordinary-chunk s escape h
+bare-chunk s false true h k = refl
+bare-chunk [] true true h k = refl
+bare-chunk (b ∷ s) true true h k =
+    let low : 65 ≤ b = k refl (omega arith) in
+    let q = both (ordinary b) (every ordinary s) h in
+    let r = ordinary-parts (white b) (isin b «ALWAYS_ESCAPED») (eqb b 33) (q .0) in
+    let u = eqb b 61 && every (λ c. eqb c 61) s in
+    ap (λ (m : Bool). escapedFrom true m u (b ∷ s)) (no-marker b s low)
+    ∙ ap (λ (t : Bool). cond t (ascii "\\") [] ++ (b ∷ escapedFrom false false u s)) (not-escaped-first u b s (r .1) (r .2) low)
+    ∙ ap (λ (x : List ℕ). b ∷ x) (ordinary-escaped u s (q .1))
 
 -- ---- words
 

@@ -1,7 +1,7 @@
 // push_normalized_text of text_utils.rs with push_escaped_chunk, for a text from another slice or from the own memory.
 // What is read is src or, where `own` says so, text; what is written stays before `room`.
 ghost use mathlib.Core.Path.{_≡_};
-ghost use mathlib.Core.Bool.{cond, true, false, _||_, _&&_};
+ghost use mathlib.Core.Bool.{Bool, cond, true, false, _||_, _&&_};
 ghost use mathlib.Core.List.{List, [], _∷_, _++_};
 ghost use Prim.Native.Nat.{ℕ, _+_, _≤_, _<_};
 ghost use lib.ListN.{length, take, drop, getD};
@@ -100,6 +100,28 @@ fn follows(src: &[u8], text: &[u8], own: bool, i: usize, to: usize, b: u8) -> bo
     }
 }
 
+// Whether b, which stands at i, is escaped. An ordinary byte is not, but in a marker or at the beginning of a line.
+fn is_escaped_at(
+    src: &[u8],
+    text: &[u8],
+    own: bool,
+    i: usize,
+    to: usize,
+    start: bool,
+    marker: bool,
+    underline: bool,
+    b: u8,
+) -> bool
+    requires { ⌜ (i < to) × (to ≤ length (store own (now text) (now src))) ⌝ }
+    ensures { λ r. ⌜ r ≡ def.isEscaped start marker underline b (slice (i + 1) to (store own (now (text .entry)) (now (src .entry)))) ⌝ }
+{
+    if !(start | marker) & is_in(Class::Ordinary, b) {
+        return false;
+    }
+    let bracket = follows(src, text, own, i + 1, to, 91);
+    is_escaped(start, marker, underline, b, bracket)
+}
+
 fn is_marker_in(src: &[u8], text: &[u8], own: bool, from: usize, to: usize) -> bool
     requires { ⌜ (from ≤ to) × (to ≤ length (store own (now text) (now src))) ⌝ }
     ensures { λ r. ⌜ r ≡ def.«is_ordered_list_marker» (slice from to (store own (now (text .entry)) (now (src .entry)))) ⌝ }
@@ -144,8 +166,7 @@ fn push_marked(
     let mut i = from;
     while i < to {
         let b = byte_at(src, text, own, i);
-        let bracket = follows(src, text, own, i + 1, to, 91);
-        let escaped = escape & is_escaped(start, marker, underline, b, bracket);
+        let escaped = escape & is_escaped_at(src, text, own, i, to, start, marker, underline, b);
         match put_escaped(text, room, n, escaped, b) {
             Wrote::Done(m) => {
                 n = m;
@@ -230,6 +251,30 @@ fn push_ordinary(
     push_all(&mut text[..room], len, &src[from..to])
 }
 
+// Whether s begins with a byte below the letters: some of these are escaped at the beginning of a line, or begin a marker.
+fn starts_low(s: &[u8]) -> bool
+    ensures { λ r. ⌜ (r ≡ false → 0 < length (now (s .entry)) → 65 ≤ getD (now (s .entry)) 0 0) ⌝ }
+{
+    if s.len() == 0 {
+        return false;
+    }
+    s[0] < 65
+}
+
+// Whether a chunk of another slice is known to need no escape.
+fn is_bare(src: &[u8], text: &[u8], own: bool, from: usize, to: usize, line_start: bool) -> bool
+    requires { ⌜ (from ≤ to) × (to ≤ length (store own (now text) (now src))) ⌝ }
+    ensures { λ r. ⌜ (r ≡ true → (own ≡ false) × ((escape : Bool) → def.escapedChunk (slice from to (store own (now (text .entry)) (now (src .entry)))) escape «line_start» ≡ slice from to (store own (now (text .entry)) (now (src .entry))))) ⌝ }
+{
+    if own {
+        return false;
+    }
+    if line_start & starts_low(&src[from..to]) {
+        return false;
+    }
+    all_in(&src[from..to], Class::Ordinary)
+}
+
 // push_escaped_chunk for the chunk between `from` and `to`.
 fn push_escaped_chunk(
     src: &[u8],
@@ -245,6 +290,9 @@ fn push_escaped_chunk(
     requires { ⌜ Apart own (now text) (now src) room from to × (len ≤ room) ⌝ }
     ensures { λ r. ⌜ WritesIn room (now (text .entry)) (now (text .exit)) r (def.«push_escaped_chunk» (slice from to (store own (now (text .entry)) (now (src .entry)))) escape «line_start» (take len (now (text .entry)))) ⌝ }
 {
+    if is_bare(src, text, own, from, to, line_start) {
+        return push_ordinary(src, text, own, from, to - from, room, len);
+    }
     let marker = line_start & is_marker_in(src, text, own, from, to);
     let underline = all_in_part(src, text, own, from, to, Class::Equals);
     push_marked(

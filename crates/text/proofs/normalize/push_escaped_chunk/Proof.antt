@@ -1,31 +1,67 @@
 -- `text::normalize::push_escaped_chunk` meets its contract. Assumes nothing.
+use Prim.Native.Nat.{ℕ, _+_, _-_}
+use mathlib.Core.Path.{_≡_, sym, ap, _∙_}
+use mathlib.Core.Bool.{false≢true}
+use mathlib.Core.List.{List}
 use lib.ListN.{take}
 use lib.Seq.{slice}
+use Rattle.spec.specs.Out.{push}
+use Rattle.spec.specs.Md.TextUtils.{«push_escaped_chunk»}
 use Rattle.text.specs.Source.{store}
 use Rattle.text.proofs.Sourcing.{chunk-is, alike-in}
+use native.Mathlib.Omega.{arith}
 use Rattle.text.proofs.normalize.push_escaped_chunk.Statement.{statement}
 use Rattle.text.proofs.normalize.push_escaped_chunk.Tie as tie
 
-is-marker-in-requires : tie.Need-is-marker-in-requires
-is-marker-in-requires c κs =
+is-bare-requires : tie.Need-is-bare-requires
+is-bare-requires c κs =
     (c .before .before .before .pre .0 .ordered, c .before .before .before .pre .0 .within)
 
-all-in-part-requires : tie.Need-all-in-part-requires
-all-in-part-requires c κs =
-    (c .before .before .before .before .before .pre .0 .ordered, c .before .before .before .before .before .pre .0 .within)
+sub-push-ordinary : tie.Need-sub-push-ordinary
+sub-push-ordinary c =
+    c .before .before .before .before .before .before .pre .0 .ordered
 
-push-marked-requires : tie.Need-push-marked-requires
-push-marked-requires c κs =
-    c .before .before .before .before .before .before .before .pre
+push-ordinary-requires : tie.Need-push-ordinary-requires
+push-ordinary-requires c κs =
+    let a = c .before .before .before .before .before .before .args in
+    let p = c .before .before .before .before .before .before .pre in
+    let b = c .before .before .is-bare .ensures (c .before .if1 .taken) in
+    (λ e. absurd (false≢true (sym (b .0) ∙ e)), omega (arith, p .0 .ordered, p .0 .within), p .1, p .0 .inside)
 
 same-length : tie.Need-same-length
 same-length c =
-    c .before .before .push-marked .ensures .long
+    c .before .before .push-ordinary .ensures .long
 
 returns : tie.Need-returns
+unfolding «push_escaped_chunk»
 returns c =
-    let a = c .before .before .before .before .before .before .before .before .before .before .args in
+    let a = c .before .before .before .before .before .before .before .before .before .args in
+    let p = c .before .before .before .before .before .before .before .before .before .pre in
+    let b = c .before .before .before .before .before .is-bare .ensures (c .before .before .before .before .if1 .taken) in
+    let x = store (a .own) (a .text .now) (a .src .now) in
+    let n : a .from + (a .to - a .from) ≡ a .to = omega (arith, p .0 .ordered) in
+    alike-in (ap (λ (y : List ℕ). push y (take (a .len) (a .text .now))) (b .1 (a .escape) ∙ ap (λ (e : ℕ). slice (a .from) e x) (sym n))) (c .before .before .push-ordinary .ensures)
+
+is-marker-in-requires : tie.Need-is-marker-in-requires
+is-marker-in-requires c κs =
+    (c .before .before .before .before .before .before .pre .0 .ordered, c .before .before .before .before .before .before .pre .0 .within)
+
+all-in-part-requires : tie.Need-all-in-part-requires
+all-in-part-requires c κs =
+    (c .before .before .before .before .before .before .before .before .pre .0 .ordered, c .before .before .before .before .before .before .before .before .pre .0 .within)
+
+push-marked-requires : tie.Need-push-marked-requires
+push-marked-requires c κs =
+    c .before .before .before .before .before .before .before .before .before .before .pre
+
+same-length-2 : tie.Need-same-length-2
+same-length-2 c =
+    c .before .before .push-marked .ensures .long
+
+returns-2 : tie.Need-returns-2
+returns-2 c =
+    let a = c .before .before .before .before .before .before .before .before .before .before .before .before .before .args in
     alike-in (chunk-is (slice (a .from) (a .to) (store (a .own) (a .text .now) (a .src .now))) (a .escape) (a .line-start) (c .before .before .before .before .before .before .is-marker-in .result) (c .before .before .before .before .all-in-part .result) (take (a .len) (a .text .now)) (c .before .before .before .before .before .before .is-marker-in .ensures) (c .before .before .before .before .all-in-part .ensures)) (c .before .before .push-marked .ensures)
 
 pub push-escaped-chunk-spec : {M : Type 1} → statement M
-push-escaped-chunk-spec = tie.close (tie.spec is-marker-in-requires all-in-part-requires push-marked-requires same-length returns)
+push-escaped-chunk-spec = tie.close (tie.spec is-bare-requires sub-push-ordinary push-ordinary-requires same-length returns is-marker-in-requires all-in-part-requires push-marked-requires same-length-2 returns-2)

@@ -1,12 +1,13 @@
 -- `text::normalize::push_marked` meets its contract. Assumes nothing.
-use Prim.Native.Nat.{_≤_, _+_, _-_}
+use Prim.Native.Nat.{ℕ, _≤_, _+_, _-_}
 use mathlib.Core.Path.{ap, _∙_, refl}
 use mathlib.Core.Bool.{false, cond, _&&_}
-use mathlib.Core.List.{[], _∷_, _++_}
+use mathlib.Core.List.{List, [], _∷_, _++_}
 use lib.ListN.{take}
 use lib.Seq.{slice}
-use Rattle.spec.specs.Bytes.{ascii, startsWith}
+use Rattle.spec.specs.Bytes.{ascii}
 use Rattle.spec.specs.Out.{push}
+use Rattle.spec.specs.Md.TextUtils.{isEscaped}
 use Rattle.text.specs.Marks.{marks}
 use Rattle.text.specs.Source.{store}
 use Rattle.text.proofs.Sourcing.{OwesIn, owed-all, owed-step, owed-stop, owed-nothing, owed-reach, store-long, slice-kept, getD-kept, marks-turn, marks-ended}
@@ -35,23 +36,16 @@ byte-at-requires c κs =
     let o = c .before .before .loop .inv .2 in
     omega (arith, c .before .loop-test .taken, p .within, store-long p (o .still))
 
-add-follows : tie.Need-add-follows Inv-loop μ-loop
-add-follows c =
-    omega (arith, c .before .before .before .loop-test .taken)
-
-follows-requires : tie.Need-follows-requires Inv-loop μ-loop
-follows-requires c κs =
+is-escaped-at-requires : tie.Need-is-escaped-at-requires Inv-loop μ-loop
+is-escaped-at-requires c κs =
     let p = c .before .before .before .before .before .before .before .pre .0 in
     let o = c .before .before .before .before .loop .inv .2 in
-    omega (arith, p .within, store-long p (o .still))
-
-is-escaped-requires : tie.Need-is-escaped-requires Inv-loop μ-loop
-is-escaped-requires c κs = search needs
+    (c .before .before .before .loop-test .taken, omega (arith, p .within, store-long p (o .still)))
 
 put-escaped-requires : tie.Need-put-escaped-requires Inv-loop μ-loop
 put-escaped-requires c κs =
-    let p = c .before .before .before .before .before .before .before .before .before .before .pre .0 in
-    let o = c .before .before .before .before .before .before .before .loop .inv .2 in
+    let p = c .before .before .before .before .before .before .before .before .before .pre .0 in
+    let o = c .before .before .before .before .before .before .loop .inv .2 in
     (owed-reach o, omega (arith, o .still .long, p .inside))
 
 enum-known-m : tie.Need-enum-known-m Inv-loop μ-loop
@@ -62,20 +56,23 @@ enum-told c = search needs
 
 same-length : tie.Need-same-length Inv-loop μ-loop
 same-length c =
-    c .before .before .before .before .put-escaped .ensures .long ∙ c .before .before .before .before .before .before .before .before .before .before .before .before .loop .inv .2 .still .long
+    c .before .before .before .before .put-escaped .ensures .long ∙ c .before .before .before .before .before .before .before .before .before .before .before .loop .inv .2 .still .long
 
 returns : tie.Need-returns Inv-loop μ-loop
 returns c =
-    let a = c .before .before .before .before .before .before .before .before .before .before .before .before .before .before .before .args in
-    let p = c .before .before .before .before .before .before .before .before .before .before .before .before .before .before .before .pre .0 in
-    let l = c .before .before .before .before .before .before .before .before .before .before .before .before .loop in
+    let a = c .before .before .before .before .before .before .before .before .before .before .before .before .before .before .args in
+    let p = c .before .before .before .before .before .before .before .before .before .before .before .before .before .before .pre .0 in
+    let l = c .before .before .before .before .before .before .before .before .before .before .before .loop in
     let o = l .inv .2 in
     let x = store (a .own) (a .text .now) (a .src .now) in
-    owed-stop o (push (cond (a .escape && c .before .before .before .before .before .before .is-escaped .result) (ascii "\\") [] ++ (c .before .before .before .before .before .before .before .before .before .byte-at .result ∷ []))) (push (marks (a .escape) false (a .marker) (a .underline) (slice (l .i + 1) (a .to) x)))
-    (marks-turn x (l .i) (a .to) (a .escape) (l .start) (a .marker) (a .underline) (c .before .before .before .before .before .before .is-escaped .result) (c .before .before .before .before .before .before .before .before .before .byte-at .result) (take (l .n) (l .text)) (c .before .before .before .before .before .before .before .before .before .before .before .loop-test .taken) (p .within)
-    (c .before .before .before .before .before .before .before .before .before .byte-at .ensures ∙ getD-kept p (o .still) (l .i) (l .inv .0))
-    (c .before .before .before .before .before .before .is-escaped .ensures (slice (l .i + 1) (a .to) x) (c .before .before .before .before .before .before .before .follows .ensures ∙ ap (startsWith (91 ∷ [])) (slice-kept p (o .still) (l .i + 1) (a .to) (omega arith)))))
-    (c .enum-told .given .1) (c .before .before .before .before .put-escaped .ensures)
+    let b = c .before .before .before .before .before .before .before .before .byte-at in
+    let z = c .before .before .before .before .before .before .is-escaped-at in
+    let f = push (cond (a .escape && z .result) (ascii "\\") [] ++ (b .result ∷ [])) in
+    let g = push (marks (a .escape) false (a .marker) (a .underline) (slice (l .i + 1) (a .to) x)) in
+    let e =
+    marks-turn x (l .i) (a .to) (a .escape) (l .start) (a .marker) (a .underline) (z .result) (b .result) (take (l .n) (l .text)) (c .before .before .before .before .before .before .before .before .before .before .loop-test .taken) (p .within) (b .ensures ∙ getD-kept p (o .still) (l .i) (l .inv .0))
+    (z .ensures ∙ ap (λ (s : List ℕ). isEscaped (l .start) (a .marker) (a .underline) (b .result) s) (slice-kept p (o .still) (l .i + 1) (a .to) (omega (arith, l .inv .0)))) in
+    owed-stop o f g e (c .enum-told .given .1) (c .before .before .before .before .put-escaped .ensures)
 
 add-i : tie.Need-add-i Inv-loop μ-loop
 add-i c = search needs
@@ -85,19 +82,19 @@ loop-less c = search needs
 
 loop-again : tie.Need-loop-again Inv-loop μ-loop
 loop-again c =
-    let a = c .before .before .before .before .before .before .before .before .before .before .before .before .before .before .before .before .args in
-    let p = c .before .before .before .before .before .before .before .before .before .before .before .before .before .before .before .before .pre .0 in
-    let l = c .before .before .before .before .before .before .before .before .before .before .before .before .before .loop in
+    let a = c .before .before .before .before .before .before .before .before .before .before .before .before .before .before .before .args in
+    let p = c .before .before .before .before .before .before .before .before .before .before .before .before .before .before .before .pre .0 in
+    let l = c .before .before .before .before .before .before .before .before .before .before .before .before .loop in
     let o = l .inv .2 in
-    let x = store (a .own) (a .text .now) (a .src .now) in (
-      omega arith,
-      omega (arith, c .before .before .before .before .before .before .before .before .before .before .before .before .loop-test .taken),
-      owed-step o (push (cond (a .escape && c .before .before .before .before .before .before .before .is-escaped .result) (ascii "\\") [] ++ (c .before .before .before .before .before .before .before .before .before .before .byte-at .result ∷ []))) (push (marks (a .escape) false (a .marker) (a .underline) (slice (l .i + 1) (a .to) x)))
-          (marks-turn x (l .i) (a .to) (a .escape) (l .start) (a .marker) (a .underline) (c .before .before .before .before .before .before .before .is-escaped .result) (c .before .before .before .before .before .before .before .before .before .before .byte-at .result) (take (l .n) (l .text)) (c .before .before .before .before .before .before .before .before .before .before .before .before .loop-test .taken) (p .within)
-          (c .before .before .before .before .before .before .before .before .before .before .byte-at .ensures ∙ getD-kept p (o .still) (l .i) (l .inv .0))
-          (c .before .before .before .before .before .before .before .is-escaped .ensures (slice (l .i + 1) (a .to) x) (c .before .before .before .before .before .before .before .before .follows .ensures ∙ ap (startsWith (91 ∷ [])) (slice-kept p (o .still) (l .i + 1) (a .to) (omega arith)))))
-          (c .before .m .given .1) (c .before .before .before .before .before .put-escaped .ensures),
-    )
+    let x = store (a .own) (a .text .now) (a .src .now) in
+    let b = c .before .before .before .before .before .before .before .before .before .byte-at in
+    let z = c .before .before .before .before .before .before .before .is-escaped-at in
+    let f = push (cond (a .escape && z .result) (ascii "\\") [] ++ (b .result ∷ [])) in
+    let g = push (marks (a .escape) false (a .marker) (a .underline) (slice (l .i + 1) (a .to) x)) in
+    let e =
+    marks-turn x (l .i) (a .to) (a .escape) (l .start) (a .marker) (a .underline) (z .result) (b .result) (take (l .n) (l .text)) (c .before .before .before .before .before .before .before .before .before .before .before .loop-test .taken) (p .within) (b .ensures ∙ getD-kept p (o .still) (l .i) (l .inv .0))
+    (z .ensures ∙ ap (λ (s : List ℕ). isEscaped (l .start) (a .marker) (a .underline) (b .result) s) (slice-kept p (o .still) (l .i + 1) (a .to) (omega (arith, l .inv .0)))) in
+    (omega (arith, l .inv .0), omega (arith, c .before .before .before .before .before .before .before .before .before .before .before .loop-test .taken), owed-step o f g e (c .before .m .given .1) (c .before .before .before .before .before .put-escaped .ensures))
 
 same-length-2 : tie.Need-same-length-2 Inv-loop μ-loop
 same-length-2 c =
@@ -110,4 +107,4 @@ returns-2 c =
     owed-nothing (l .inv .2) (marks-ended (store (a .own) (a .text .now) (a .src .now)) (l .i) (a .to) (a .escape) (l .start) (a .marker) (a .underline) (take (l .n) (l .text)) (c .loop-test .left))
 
 pub push-marked-spec : {M : Type 1} → statement M
-push-marked-spec = tie.close (tie.spec Inv-loop μ-loop loop-holds byte-at-requires add-follows follows-requires is-escaped-requires put-escaped-requires enum-known-m enum-told same-length returns add-i loop-less loop-again same-length-2 returns-2)
+push-marked-spec = tie.close (tie.spec Inv-loop μ-loop loop-holds byte-at-requires is-escaped-at-requires put-escaped-requires enum-known-m enum-told same-length returns add-i loop-less loop-again same-length-2 returns-2)
