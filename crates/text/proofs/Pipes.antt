@@ -75,6 +75,23 @@ pipes-more s i j t e h q =
 
 -- ---- the bytes from the i-th on are moved
 
+-- a text that gains nothing stays as it is
+pipes-long : (before : Bool) (s : List ℕ) → length s ≤ length (pipesEscaped before s)
+unfolding pipesEscaped
+pipes-long before [] = omega arith
+pipes-long before (b ∷ s) =
+    omega (arith, pipes-long (eqb b 92) s, length-append (cond (eqb b 124 && not before) (ascii "\\") []) (b ∷ pipesEscaped (eqb b 92) s))
+
+pub pipes-none : (before : Bool) (s : List ℕ) → length (pipesEscaped before s) ≡ length s → pipesEscaped before s ≡ s
+unfolding pipesEscaped
+pipes-none before [] h = refl
+pipes-none before (b ∷ s) h = go (pipes-none (eqb b 92) s) (pipes-long (eqb b 92) s) (eqb b 124 && not before) h
+  where
+    go : (length (pipesEscaped (eqb b 92) s) ≡ length s → pipesEscaped (eqb b 92) s ≡ s) → length s ≤ length (pipesEscaped (eqb b 92) s) → (t : Bool)
+        → length (cond t (ascii "\\") [] ++ (b ∷ pipesEscaped (eqb b 92) s)) ≡ length (b ∷ s) → cond t (ascii "\\") [] ++ (b ∷ pipesEscaped (eqb b 92) s) ≡ b ∷ s
+    go f l true h = absurd (omega arith)
+    go f l false h = ap (λ (x : List ℕ). b ∷ x) (f (omega arith))
+
 pub record Escaping (d text : List ℕ) (len end i at : ℕ) : Type 0 where
   pub long : length text ≡ length d
   pub within : i ≤ len

@@ -102,6 +102,9 @@ pub fn escape_table_cell_inplace(text: &mut [u8], len: usize) -> Wrote
     ensures { λ r. ⌜ Writes (length (now (text .entry))) (now (text .exit)) r (def.«escape_table_cell_inplace» (take len (now (text .entry)))) ⌝ }
 {
     let extra = count_bare_pipes(&text[..len]);
+    if extra == 0 {
+        return Wrote::Done(len);
+    }
     if text.len() - len < extra {
         return Wrote::Full;
     }

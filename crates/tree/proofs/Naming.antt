@@ -12,7 +12,6 @@ use Rattle.spec.specs.Bytes.{Bytes, ascii, same, isin, among}
 use Rattle.spec.specs.Fields.{fields}
 use Rattle.spec.specs.Names.{place, names, tagOf}
 use Rattle.spec.specs.Call.{bodies}
-use Rattle.spec.specs.Md.Constants.{«DEFAULT_SKIP_TAGS»}
 use Rattle.tree.specs.Spans.{spanAt, fieldOf}
 use Rattle.tree.specs.declared.fields.Span.{Span}
 use Rattle.tree.proofs.Walking.{span-fields}
@@ -154,12 +153,3 @@ pub no-number : (q : Bytes → Bool) (f : Bytes → ℕ) (ks : List ℕ) (x : By
     → covered q f ks names ≡ true → 0 ≡ tagOf x
 unfolding tagOf
 no-number q f ks x qx h e = sym (none q f ks x qx (others (f x) ks h) 1 names e)
-
-pub none-of-default : (x : Bytes) → length x < 4 → false ≡ among x «DEFAULT_SKIP_TAGS»
-unfolding covered isin
-none-of-default x h =
-    rw (
-      ← among-place 0 x «DEFAULT_SKIP_TAGS»,
-      none (λ y. true) length (4 ∷ 5 ∷ 6 ∷ []) x refl (others (length x) (4 ∷ 5 ∷ 6 ∷ []) (((tt, λ e. omega arith), λ e. omega arith), λ e. omega arith)) 1
-          «DEFAULT_SKIP_TAGS» refl,
-    )

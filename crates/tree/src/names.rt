@@ -9,6 +9,7 @@ ghost use Rattle.spec.specs.Fields.{fields};
 ghost use Rattle.spec.specs.Bytes.{same, among};
 ghost use Rattle.spec.specs.Names.{place, tagOf};
 ghost use Rattle.spec.specs.Call.{bodies, skipTags};
+ghost use Rattle.spec.specs.Md.Constants.{«DEFAULT_SKIP_TAGS»};
 ghost use Rattle.tree.specs.Scans.{skipList};
 ghost use Rattle.tree.specs.Nodes.{nameAt, skippedAt};
 use crate::fields::is_same;
@@ -131,21 +132,22 @@ fn name_number(name: &[u8]) -> usize
     }
 }
 
-// Whether a name is one of the skip list. The default has no name of less than four bytes.
+// Whether a name is one of the default skip list.
+fn is_default_skip_tag(name: &[u8]) -> bool
+    ensures { λ r. ⌜ r ≡ among (now (name .entry)) «DEFAULT_SKIP_TAGS» ⌝ }
+{
+    is_same(name, b"script")
+        | (is_same(name, b"style") | (is_same(name, b"meta") | is_same(name, b"head")))
+}
+
+// Whether a name is one of the skip list.
 fn is_skip_tag(own: bool, run: &[u8], name: &[u8]) -> bool
     ensures { λ r. ⌜ r ≡ among (now (name .entry)) (skipTags (skipList own (now (run .entry)))) ⌝ }
 {
     if own {
         return place_in(run, name) != 0;
     }
-    if name.len() < 4 {
-        return false;
-    }
-    place_in(
-        b"\x07\0\x06script\x07\0\x05style\x07\0\x04meta\x07\0\x04head",
-        name,
-    )
-        != 0
+    is_default_skip_tag(name)
 }
 
 // The number of the name of the node whose field stands at `place`; 0 where it is no element.
