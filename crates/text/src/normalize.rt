@@ -10,6 +10,7 @@ ghost use Rattle.spec.specs.Bytes.{ascii, startsWith, isin, every, white, words
 ghost use Rattle.spec.specs.Out.{push};
 ghost use Rattle.spec.specs.Md.Constants.{«ALWAYS_ESCAPED», «LINE_START_ESCAPED»};
 ghost use Rattle.spec.specs.Md.TextUtils as def;
+ghost use Rattle.spec.specs.declared.ctx.FormatOpts as Opts;
 ghost use Rattle.text.specs.Class.{inClass};
 ghost use Rattle.text.specs.Marks.{marks, leadOf, firstAndMore, dotWord, leadText, blankText, lineStart};
 ghost use Rattle.text.specs.Trimmed.{Skipped};
@@ -100,7 +101,18 @@ fn follows(src: &[u8], text: &[u8], own: bool, i: usize, to: usize, b: u8) -> bo
     }
 }
 
-// Whether b, which stands at i, is escaped. An ordinary byte is not, but in a marker or at the beginning of a line.
+// Whether b, which stands at i, is escaped behind the beginning of a line and in no marker.
+fn is_escaped_inside(src: &[u8], text: &[u8], own: bool, i: usize, to: usize, b: u8) -> bool
+    requires { ⌜ (i < to) × (to ≤ length (store own (now text) (now src))) ⌝ }
+    ensures { λ r. ⌜ ((underline : Bool) → r ≡ def.isEscaped false false underline b (slice (i + 1) to (store own (now (text .entry)) (now (src .entry))))) ⌝ }
+{
+    if b == 33 {
+        return follows(src, text, own, i + 1, to, 91);
+    }
+    !is_in(Class::Ordinary, b) & !is_in(Class::White, b)
+}
+
+// Whether b, which stands at i, is escaped.
 fn is_escaped_at(
     src: &[u8],
     text: &[u8],
@@ -115,8 +127,8 @@ fn is_escaped_at(
     requires { ⌜ (i < to) × (to ≤ length (store own (now text) (now src))) ⌝ }
     ensures { λ r. ⌜ r ≡ def.isEscaped start marker underline b (slice (i + 1) to (store own (now (text .entry)) (now (src .entry)))) ⌝ }
 {
-    if !(start | marker) & is_in(Class::Ordinary, b) {
-        return false;
+    if !(start | marker) {
+        return is_escaped_inside(src, text, own, i, to, b);
     }
     let bracket = follows(src, text, own, i + 1, to, 91);
     is_escaped(start, marker, underline, b, bracket)
@@ -220,7 +232,26 @@ fn ordinary_words(s: &[u8]) -> usize
     at
 }
 
-// The same for a part of what is read; it is not asked of the own memory, which no text is copied from at once.
+// Whether a text is known to be appended as it is, whatever stands before it: ordinary words with one blank between them, the
+// first of which begins with no sign and no digit. Only short texts are looked at, for which the steps of any text cost most.
+pub fn is_bare_text(s: &[u8]) -> bool
+    ensures { λ r. ⌜ (r ≡ true → (opts : Opts.FormatOpts) (text : List ℕ) → def.normalized opts text (now (s .entry)) ≡ now (s .entry)) ⌝ }
+{
+    if (s.len() == 0) | (128 < s.len()) {
+        return false;
+    }
+    if starts_low(s) | ends_with_white(s) {
+        return false;
+    }
+    let n = trim_start_matches(s, Class::Ordinary);
+    if n == 0 {
+        return false;
+    }
+    n + ordinary_words(&s[n..]) == s.len()
+}
+
+// The bytes of such words that a part of what is read begins with. It is not asked of the own memory, from which no text is
+// copied at once.
 fn ordinary_in(src: &[u8], text: &[u8], own: bool, from: usize, to: usize) -> usize
     requires { ⌜ (from ≤ to) × (to ≤ length (store own (now text) (now src))) ⌝ }
     ensures { λ r. ⌜ OrdinaryWords (slice from to (store own (now (text .entry)) (now (src .entry)))) r × (own ≡ true → r ≡ 0) ⌝ }
@@ -364,7 +395,19 @@ fn push_word(
     ensures { λ r. ⌜ WritesIn room (now (text .entry)) (now (text .exit)) r (push (ascii " " ++ def.escapedChunk (slice from to (store own (now (text .entry)) (now (src .entry)))) escape false) (take len (now (text .entry)))) ⌝ }
 {
     match put(text, room, len, 32) {
-        Wrote::Done(n) => push_escaped_chunk(src, text, own, from, to, room, n, escape, false),
+        Wrote::Done(n) => push_marked(
+            src,
+            text,
+            own,
+            from,
+            to,
+            room,
+            n,
+            escape,
+            false,
+            false,
+            false,
+        ),
         Wrote::Full => Wrote::Full,
     }
 }

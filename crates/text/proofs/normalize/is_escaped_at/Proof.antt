@@ -1,20 +1,27 @@
 -- `text::normalize::is_escaped_at` meets its contract. Assumes nothing.
-use mathlib.Core.Path.{sym}
+use mathlib.Core.Path.{_≡_, refl}
+use mathlib.Core.Bool.{Bool, true, false, not, _||_, false≢true}
 use Prim.Native.Nat.{_+_}
 use lib.Seq.{slice}
 use Rattle.text.specs.Source.{store}
-use Rattle.text.proofs.Ordinary.{not-escaped-at}
 use borrow.Author.Needs.{needs}
 use Rattle.text.proofs.normalize.is_escaped_at.Statement.{statement}
 use Rattle.text.proofs.normalize.is_escaped_at.Tie as tie
 
-is-in-requires : tie.Need-is-in-requires
-is-in-requires c κs = search needs
+is-escaped-inside-requires : tie.Need-is-escaped-inside-requires
+is-escaped-inside-requires c κs = search needs
+
+-- neither of two
+neither : (a b : Bool) → not (a || b) ≡ true → (a ≡ false) × (b ≡ false)
+neither true b e = absurd (false≢true e)
+neither false true e = absurd (false≢true e)
+neither false false e = (refl, refl)
 
 returns : tie.Need-returns
 returns c =
     let a = c .before .before .before .before .args in
-    sym (not-escaped-at (a .start) (a .marker) (a .underline) (a .b) (slice (a .i + 1) (a .to) (store (a .own) (a .text .now) (a .src .now))) (c .before .is-in .result) (c .before .is-in .ensures) (c .if1 .taken))
+    let n = neither (a .start) (a .marker) (c .before .if1 .taken) in
+    rw (n .0, n .1) (c .is-escaped-inside .ensures (a .underline))
 
 add-follows : tie.Need-add-follows
 add-follows c = search needs
@@ -27,8 +34,8 @@ is-escaped-requires c κs = search needs
 
 returns-2 : tie.Need-returns-2
 returns-2 c =
-    let a = c .before .before .before .before .before .before .args in
+    let a = c .before .before .before .before .before .args in
     c .is-escaped .ensures (slice (a .i + 1) (a .to) (store (a .own) (a .text .now) (a .src .now))) (c .before .follows .ensures)
 
 pub is-escaped-at-spec : {M : Type 1} → statement M
-is-escaped-at-spec = tie.close (tie.spec is-in-requires returns add-follows follows-requires is-escaped-requires returns-2)
+is-escaped-at-spec = tie.close (tie.spec is-escaped-inside-requires returns add-follows follows-requires is-escaped-requires returns-2)

@@ -6,8 +6,9 @@ use Prim.Native.Nat.{ℕ}
 use lib.ListN.{take}
 use lib.Seq.{slice}
 use Rattle.spec.specs.Out.{push}
-use Rattle.spec.specs.Md.TextUtils.{escapedChunk, «push_escaped_chunk»}
+use Rattle.spec.specs.Md.TextUtils.{escapedChunk}
 use Rattle.text.specs.Source.{store}
+use Rattle.text.proofs.Ordinary.{inner-chunk}
 use Rattle.text.proofs.Writing.{push-both}
 use Rattle.text.proofs.Sourcing.{owed-all, owed-step, owed-stop, owed-last, owed-reach, owed-as, slice-kept, apart-kept}
 use borrow.Author.Needs.{needs}
@@ -22,8 +23,8 @@ put-requires c κs =
 enum-known-n : tie.Need-enum-known-n
 enum-known-n c = search needs
 
-push-escaped-chunk-requires : tie.Need-push-escaped-chunk-requires
-push-escaped-chunk-requires c κs =
+push-marked-requires : tie.Need-push-marked-requires
+push-marked-requires c κs =
     let a = c .before .before .before .before .before .before .before .before .before .before .args in
     let p = c .before .before .before .before .before .before .before .before .before .before .pre .0 in
     let w = escapedChunk (slice (a .from) (a .to) (store (a .own) (a .text .now) (a .src .now))) (a .escape) false in
@@ -35,16 +36,15 @@ enum-told c = search needs
 
 same-length : tie.Need-same-length
 same-length c =
-    c .before .before .push-escaped-chunk .ensures .long ∙ c .before .before .before .before .before .before .before .before .before .put .ensures .long
+    c .before .before .push-marked .ensures .long ∙ c .before .before .before .before .before .before .before .before .before .put .ensures .long
 
 returns : tie.Need-returns
-unfolding «push_escaped_chunk»
 returns c =
     let a = c .before .before .before .before .before .before .before .before .before .before .before .before .before .args in
     let p = c .before .before .before .before .before .before .before .before .before .before .before .before .before .pre .0 in
     let w = escapedChunk (slice (a .from) (a .to) (store (a .own) (a .text .now) (a .src .now))) (a .escape) false in
     let o = owed-step (owed-all (a .room) (a .text .now) (a .len) (push (32 ∷ w)) (c .before .before .before .before .before .before .before .before .before .before .before .before .before .pre .1) (p .inside) refl) (push (32 ∷ [])) (push w) (push-both (32 ∷ []) w (take (a .len) (a .text .now))) (c .before .before .before .before .before .n .given .1) (c .before .before .before .before .before .before .before .before .before .put .ensures) in
-    owed-last (owed-as (ap (λ (x : List ℕ). escapedChunk x (a .escape) false) (sym (slice-kept p (o .still) (a .from) (a .to) (omega arith)))) o) (c .before .before .push-escaped-chunk .ensures)
+    owed-last (owed-as (ap (λ (x : List ℕ). escapedChunk x (a .escape) false) (sym (slice-kept p (o .still) (a .from) (a .to) (omega arith))) ∙ inner-chunk _ (a .escape)) o) (c .before .before .push-marked .ensures)
 
 same-length-2 : tie.Need-same-length-2
 same-length-2 c =
@@ -58,4 +58,4 @@ returns-2 c =
     owed-stop (owed-all (a .room) (a .text .now) (a .len) (push (32 ∷ w)) (c .before .before .before .before .before .before .before .before .pre .1) (p .inside) refl) (push (32 ∷ [])) (push w) (push-both (32 ∷ []) w (take (a .len) (a .text .now))) (c .enum-told .given .1) (c .before .before .before .before .put .ensures)
 
 pub push-word-spec : {M : Type 1} → statement M
-push-word-spec = tie.close (tie.spec put-requires enum-known-n push-escaped-chunk-requires enum-told same-length returns same-length-2 returns-2)
+push-word-spec = tie.close (tie.spec put-requires enum-known-n push-marked-requires enum-told same-length returns same-length-2 returns-2)
