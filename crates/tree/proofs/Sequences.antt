@@ -5,7 +5,7 @@ use mathlib.Core.Path.{_≡_, refl, ap, ap₂, _∙_, sym}
 use mathlib.Core.Bool.{Bool, true, false, cond, not, _&&_, and-eq-true-iff, and-assoc, and-true, false≢true}
 use mathlib.Core.List.{List, [], _∷_}
 use lib.ListN.{length, getD, take, drop, replicate, drop-of-length-le}
-use lib.Seq.{drop-cons, drop-drop}
+use lib.Seq.{drop-cons, drop-drop, take-length, drop-length}
 use native.Mathlib.Numerals.{add-one}
 use lib.Dec.{eqb, leb, ltb, eqb·suc-zero}
 use borrow.Author.Tests.{eqb-true, eqb-false, ne-eqb, not-true, ltb-true, ltb-false, lt-ltb, leb-true, le-leb, lt-leb}
@@ -175,3 +175,7 @@ pub block-skipped : (d : Lead) (s : Bytes) (i : ℕ) → d .more ≡ 0 → every
 block-skipped d s i e h =
     let long : i + 16 - i ≡ 16 = omega arith in
     ascii-on 16 d (drop i s) e (rw long at h) ∙ rw (lt-leb 4 (d .more) (omega arith), drop-drop 16 i s)
+
+pub all-ascii : (s : Bytes) → every isAscii s ≡ true → true ≡ isUtf8 s
+unfolding isUtf8 wellFormed rangesOf
+all-ascii s h = sym (ascii-on (length s) (make 0 0x80 0xBF) s refl (rw (take-length s) h) ∙ rw (drop-length s) refl)

@@ -130,15 +130,14 @@ fn next_byte(due: Lead, b: u8) -> Lead
     }
 }
 
-// Whether a block of 16 bytes is ASCII, without an early exit, so that the block can be tested as a whole.
-fn is_ascii(block: &[u8]) -> bool
-    requires { ⌜ length (now block) ≡ 16 ⌝ }
-    ensures { λ r. ⌜ r ≡ every isAscii (now (block .entry)) ⌝ }
+// Whether all bytes are ASCII: without an early exit, so that many bytes can be tested at once.
+fn is_ascii(s: &[u8]) -> bool
+    ensures { λ r. ⌜ r ≡ every isAscii (now (s .entry)) ⌝ }
 {
     let mut all = true;
     let mut i = 0;
-    while i < 16 {
-        all = all & (block[i] < 0x80);
+    while i < s.len() {
+        all = all & (s[i] < 0x80);
         i += 1;
     }
     all
@@ -184,7 +183,8 @@ fn due_behind_block(before: Lead, s: &[u8], from: usize) -> Lead
     due_behind(before, s, from, end)
 }
 
-pub fn is_utf8(s: &[u8]) -> bool
+// The same as `is_utf8`, for bytes of which some are not ASCII.
+fn is_well_formed(s: &[u8]) -> bool
     ensures { λ r. ⌜ r ≡ isUtf8 (now (s .entry)) ⌝ }
 {
     let mut due = Lead {
@@ -204,4 +204,13 @@ pub fn is_utf8(s: &[u8]) -> bool
     due = due_behind(due, s, i, s.len());
     let left = due.more;
     left == 0
+}
+
+pub fn is_utf8(s: &[u8]) -> bool
+    ensures { λ r. ⌜ r ≡ isUtf8 (now (s .entry)) ⌝ }
+{
+    if is_ascii(s) {
+        return true;
+    }
+    is_well_formed(s)
 }

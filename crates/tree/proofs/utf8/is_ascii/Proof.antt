@@ -12,10 +12,10 @@ use Rattle.tree.proofs.utf8.is_ascii.Statement.{statement}
 use Rattle.tree.proofs.utf8.is_ascii.Tie as tie
 
 abbrev Inv-loop : tie.InvT-loop
-Inv-loop block all₀ i₀ all i = (i ≤ 16) × (every isAscii block ≡ (all && every isAscii (drop i block)))
+Inv-loop s all₀ i₀ all i = (i ≤ length s) × (every isAscii s ≡ (all && every isAscii (drop i s)))
 
 abbrev μ-loop : tie.MeasureT-loop
-μ-loop block all₀ i₀ all i = 16 - i
+μ-loop s all₀ i₀ all i = length s - i
 
 loop-holds : tie.Need-loop-holds Inv-loop μ-loop
 loop-holds c = (omega arith, refl)
@@ -32,12 +32,12 @@ loop-less c = search needs
 loop-again : tie.Need-loop-again Inv-loop μ-loop
 loop-again c =
     let l = c .before .before .loop in
-    (omega arith, ascii-turn (c .before .before .before .args .block .now) (l .all) (l .i) (l .inv .1) (omega arith))
+    (omega arith, ascii-turn (c .before .before .before .args .s .now) (l .all) (l .i) (l .inv .1) (omega arith))
 
 returns : tie.Need-returns Inv-loop μ-loop
 returns c =
     let l = c .before .loop in
-    ascii-end (c .before .before .args .block .now) (l .all) (l .i) (l .inv .1) (omega arith)
+    ascii-end (c .before .before .args .s .now) (l .all) (l .i) (l .inv .1) (omega arith)
 
 pub is-ascii-spec : {M : Type 1} → statement M
 is-ascii-spec =
