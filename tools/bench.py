@@ -1,0 +1,134 @@
+"""Times the linked library beside the Rust of dom_query, in one process and on the same trees, and counts instructions.
+
+    python3 tools/bench.py --oracle ../shared/oracle [--counts]
+
+The folder holds the Rust's sources with a build.sh that stages them. They are built, with hosts/bench and hosts/rust, below
+target/bench; the staged files are not changed, but `serialize_md` is made public. Prints the tables of docs/PERFORMANCE.md: times, and
+with --counts the instructions that valgrind's callgrind counts.
+"""
+import argparse
+import os
+import re
+import shutil
+import subprocess
+import tempfile
+
+HERE = os.path.dirname(os.path.abspath(__file__))
+ROOT = os.path.dirname(HERE)
+BENCH = os.path.join(ROOT, "target", "bench")
+SAMPLE = os.path.join(ROOT, "samples", "sample.sheet")
+
+MANIFEST = """[package]
+name = "bench"
+version = "0.1.0"
+edition = "2024"
+
+[workspace]
+
+[[bin]]
+name = "bench"
+path = "{root}/hosts/bench/main.rs"
+
+[dependencies]
+buzhnael = {{ path = "{root}/hosts/rust" }}
+dom_query = {{ path = "dom_query" }}
+html5ever = "0.26"
+tendril = "0.4"
+
+[patch.crates-io]
+tendril = {{ path = "{build}/tendril" }}
+
+[profile.release]
+opt-level = 3
+codegen-units = 1
+debug = 1
+"""
+
+
+def staged(oracle):
+    """stages and builds the Rust; gives the folder"""
+    subprocess.run(["sh", os.path.join(oracle, "build.sh")], check=True, stdout=subprocess.DEVNULL)
+    return os.environ.get("ORACLE_BUILD", os.path.expanduser("~/.cache/oracle-build"))
+
+
+def write(path, text):
+    """writes the file where it is another, so that nothing is built again for it"""
+    os.makedirs(os.path.dirname(path), exist_ok=True)
+    if not os.path.exists(path) or open(path, encoding="utf-8").read() != text:
+        with open(path, "w", encoding="utf-8") as h:
+            h.write(text)
+
+
+def read(path):
+    with open(path, encoding="utf-8") as h:
+        return h.read()
+
+
+def built(oracle):
+    """the program, with the Rust as a library in which `serialize_md` is public"""
+    build = staged(oracle)
+    stage, copy = os.path.join(build, "stage"), os.path.join(BENCH, "dom_query")
+    shutil.copytree(os.path.join(stage, "src"), os.path.join(copy, "src"), dirs_exist_ok=True)
+    manifest = read(os.path.join(stage, "Cargo.toml"))
+    write(os.path.join(copy, "Cargo.toml"), re.sub(r"\[(workspace|patch\.|profile\.)[^\[]*", "", manifest))
+    with open(os.path.join(copy, "src", "lib.rs"), "a", encoding="utf-8") as h:
+        h.write("pub use serializing::md::serialize_md;\n")
+    write(os.path.join(BENCH, "Cargo.toml"), MANIFEST.format(root=ROOT, build=build))
+    write(os.path.join(BENCH, ".cargo", "config.toml"), read(os.path.join(stage, ".cargo", "config.toml")))
+    subprocess.run(["cargo", "build", "--release", "--offline"], cwd=BENCH, check=True)
+    return os.path.join(BENCH, "target", "release", "bench")
+
+
+def instructions(program, corpus, side, count):
+    """what callgrind counts for a run"""
+    with tempfile.TemporaryDirectory() as room:
+        words = ["valgrind", "--tool=callgrind", "--callgrind-out-file=" + os.path.join(room, "out")]
+        words += [program, "run", SAMPLE, str(corpus), str(side), str(count)]
+        said = subprocess.run(words, check=True, capture_output=True, text=True).stderr
+    return int(re.search(r"Collected : (\d+)", said).group(1))
+
+
+def of_one(program, corpus, side):
+    """the instructions of one call: five calls less three, halved"""
+    return (instructions(program, corpus, side, 5) - instructions(program, corpus, side, 3)) // 2
+
+
+def table(heads, rows):
+    print("| %s |" % " | ".join(heads))
+    print("|%s" % (" --- |" + " ---: |" * (len(heads) - 1)))
+    for row in rows:
+        print("| %s |" % " | ".join(row))
+    print()
+
+
+def time(nanos):
+    return "%.2f" % (nanos / 1000)
+
+
+def main():
+    ap = argparse.ArgumentParser()
+    ap.add_argument("--oracle", required=True)
+    ap.add_argument("--counts", action="store_true")
+    args = ap.parse_args()
+    program = built(args.oracle)
+    said = subprocess.run([program, "times", SAMPLE], check=True, capture_output=True, text=True).stdout
+    rows, names = [], []
+    for line in said.splitlines():
+        name, sheet, nodes, text, *times = line.split("\t")
+        rust, call, leaf = map(float, times)
+        names.append(name)
+        row = [name, sheet, nodes, text, time(rust), time(call), "%.2f" % (rust / call), time(call - leaf)]
+        rows.append(row + ["%.2f" % (rust / (call - leaf)), "%.2f" % (call / int(sheet))])
+    heads = ["corpus", "bytes", "nodes", "text", "Rust, µs", "call, µs", "ratio", "writing, µs", "ratio", "call, ns per byte"]
+    table(heads, rows)
+    if args.counts:
+        rows = []
+        for n, name in enumerate(names):
+            rust, call, leaf = (of_one(program, n, side) for side in range(3))
+            row = [name, str(rust), str(call), "%.2f" % (rust / call), str(call - leaf), "%.2f" % (rust / (call - leaf))]
+            rows.append(row)
+        table(["corpus", "Rust", "call", "ratio", "writing", "ratio"], rows)
+
+
+if __name__ == "__main__":
+    main()
