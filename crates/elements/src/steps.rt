@@ -15,6 +15,8 @@ ghost use Rattle.spec.specs.Md.TextUtils.{«add_linebreaks»};
 ghost use Rattle.spec.specs.Md.Elements.Blocks as blocks;
 ghost use Rattle.spec.specs.Md.Elements.Emphasis as emphasis;
 ghost use Rattle.spec.specs.Md.Serializer as def;
+ghost use Rattle.tree.specs.Memory.{placeAt};
+ghost use Rattle.tree.specs.Nodes.{nameAt};
 ghost use Rattle.text.specs.Writes.{Writes};
 ghost use Rattle.elements.specs.EmphasisStep.{emphasisStep};
 ghost use Rattle.elements.specs.Stands.{ElementAt, SomeElement};
@@ -57,11 +59,10 @@ pub fn has_writer(name: usize, opts: FormatOpts) -> bool
 }
 
 // Whether node i is a list that one line break parts from the item text before it.
-fn is_tight(sheet: &[u8], nodes: &[u8], i: usize, opts: FormatOpts) -> bool
-    requires { ⌜ SomeElement (now sheet) (now nodes) i ⌝ }
+fn is_tight(sheet: &[u8], nodes: &[u8], i: usize, name: usize, opts: FormatOpts) -> bool
+    requires { ⌜ SomeElement (now sheet) (now nodes) i × (name ≡ nameAt (now sheet) (placeAt (now nodes) i)) ⌝ }
     ensures { λ r. ⌜ ((name : Bytes) (attrs : List Attr) (kids : Forest) → ElementAt (now (sheet .entry)) (now (nodes .entry)) i name attrs kids → r ≡ def.isTight opts (tagOf name) attrs kids) ⌝ }
 {
-    let name = node_name(sheet, nodes, i);
     if !(opts.list_item & is_list(name)) {
         return false;
     }
@@ -86,12 +87,12 @@ fn open_break(
     text: &mut [u8],
     len: usize,
     i: usize,
+    name: usize,
     opts: FormatOpts,
 ) -> Wrote
-    requires { ⌜ SomeElement (now sheet) (now nodes) i × (len ≤ length (now text)) ⌝ }
+    requires { ⌜ SomeElement (now sheet) (now nodes) i × (len ≤ length (now text)) × (name ≡ nameAt (now sheet) (placeAt (now nodes) i)) ⌝ }
     ensures { λ r. ⌜ ((name : Bytes) (attrs : List Attr) (kids : Forest) → ElementAt (now (sheet .entry)) (now (nodes .entry)) i name attrs kids → Writes (length (now (text .entry))) (now (text .exit)) r (def.openBreak opts (tagOf name) attrs kids (take len (now (text .entry))))) ⌝ }
 {
-    let name = node_name(sheet, nodes, i);
     if opts.link_body {
         if is_link_block(name) {
             return push_block_space(text, len);
@@ -104,7 +105,7 @@ fn open_break(
     if opts.table_cell {
         return add_cell_block_break(text, len, b"<br>");
     }
-    let tight = is_tight(sheet, nodes, i, opts);
+    let tight = is_tight(sheet, nodes, i, name, opts);
     add_breaks(text, len, tight)
 }
 
@@ -135,7 +136,7 @@ pub fn opened(
         return Wrote::Done(len);
     }
     let name = node_name(sheet, nodes, i);
-    match open_break(sheet, nodes, text, len, i, opts) {
+    match open_break(sheet, nodes, text, len, i, name, opts) {
         Wrote::Done(n) => push_opening(text, n, name, opts),
         Wrote::Full => Wrote::Full,
     }

@@ -11,9 +11,6 @@ use borrow.Author.Needs.{needs}
 use Rattle.elements.proofs.steps.open_break.Statement.{statement}
 use Rattle.elements.proofs.steps.open_break.Tie as tie
 
-node-name-requires : tie.Need-node-name-requires
-node-name-requires c κs = search needs
-
 is-link-block-requires : tie.Need-is-link-block-requires
 is-link-block-requires c κs = search needs
 
@@ -26,15 +23,15 @@ same-length c = search needs
 returns : tie.Need-returns
 returns c =
     λ name attrs kids x.
-    alike (open-space (c .before .before .before .before .before .before .before .before .before .before .before .args .opts) (tagOf name) attrs kids (take (c .before .before .before .before .before .before .before .before .before .before .before .args .len) (c .before .before .before .before .before .before .before .before .before .before .before .args .text .now)) (c .before .before .before .before .before .before .if1 .taken)
-    (ap «is_link_block» (sym (c .before .before .before .before .before .before .before .node-name .ensures ∙ element-name x)) ∙ sym (c .before .before .before .before .before .is-link-block .ensures) ∙ c .before .before .before .before .if2 .taken)) (c .before .before .push-block-space .ensures)
+    alike (open-space (c .before .before .before .before .before .before .before .before .before .before .args .opts) (tagOf name) attrs kids (take (c .before .before .before .before .before .before .before .before .before .before .args .len) (c .before .before .before .before .before .before .before .before .before .before .args .text .now)) (c .before .before .before .before .before .before .if1 .taken)
+    (ap «is_link_block» (sym (c .before .before .before .before .before .before .before .before .before .before .pre .2 ∙ element-name x)) ∙ sym (c .before .before .before .before .before .is-link-block .ensures) ∙ c .before .before .before .before .if2 .taken)) (c .before .before .push-block-space .ensures)
 
 returns-2 : tie.Need-returns-2
 returns-2 c =
     λ name attrs kids x.
-    alike (open-inline (c .before .before .before .before .before .before .before .args .opts) (tagOf name) attrs kids (take (c .before .before .before .before .before .before .before .args .len) (c .before .before .before .before .before .before .before .args .text .now)) (c .before .before .if1 .taken)
-    (ap «is_link_block» (sym (c .before .before .before .node-name .ensures ∙ element-name x)) ∙ sym (c .before .is-link-block .ensures) ∙ c .if2 .left))
-    (record { says = keeps (c .before .before .before .before .before .before .before .args .text .now) (c .before .before .before .before .before .before .before .args .len) (c .before .before .before .before .before .before .before .pre .1) })
+    alike (open-inline (c .before .before .before .before .before .before .args .opts) (tagOf name) attrs kids (take (c .before .before .before .before .before .before .args .len) (c .before .before .before .before .before .before .args .text .now)) (c .before .before .if1 .taken)
+    (ap «is_link_block» (sym (c .before .before .before .before .before .before .pre .2 ∙ element-name x)) ∙ sym (c .before .is-link-block .ensures) ∙ c .if2 .left))
+    (record { says = keeps (c .before .before .before .before .before .before .args .text .now) (c .before .before .before .before .before .before .args .len) (c .before .before .before .before .before .before .pre .1) })
 
 is-md-block-requires : tie.Need-is-md-block-requires
 is-md-block-requires c κs = search needs
@@ -42,9 +39,9 @@ is-md-block-requires c κs = search needs
 returns-3 : tie.Need-returns-3
 returns-3 c =
     λ name attrs kids x.
-    alike (open-none (c .before .before .before .before .before .before .before .args .opts) (tagOf name) attrs kids (take (c .before .before .before .before .before .before .before .args .len) (c .before .before .before .before .before .before .before .args .text .now)) (c .before .before .if1 .left)
-    (ap «is_md_block» (sym (c .before .before .before .node-name .ensures ∙ element-name x)) ∙ sym (c .before .is-md-block .ensures) ∙ not-true _ (c .if3 .taken)))
-    (record { says = keeps (c .before .before .before .before .before .before .before .args .text .now) (c .before .before .before .before .before .before .before .args .len) (c .before .before .before .before .before .before .before .pre .1) })
+    alike (open-none (c .before .before .before .before .before .before .args .opts) (tagOf name) attrs kids (take (c .before .before .before .before .before .before .args .len) (c .before .before .before .before .before .before .args .text .now)) (c .before .before .if1 .left)
+    (ap «is_md_block» (sym (c .before .before .before .before .before .before .pre .2 ∙ element-name x)) ∙ sym (c .before .is-md-block .ensures) ∙ not-true _ (c .if3 .taken)))
+    (record { says = keeps (c .before .before .before .before .before .before .args .text .now) (c .before .before .before .before .before .before .args .len) (c .before .before .before .before .before .before .pre .1) })
 
 slice-aggregate-add-cell-block-break : tie.Need-slice-aggregate-add-cell-block-break
 slice-aggregate-add-cell-block-break c = search needs
@@ -58,8 +55,8 @@ same-length-2 c = search needs
 returns-4 : tie.Need-returns-4
 returns-4 c =
     λ name attrs kids x.
-    alike (open-cell (c .before .before .before .before .before .before .before .before .before .before .before .before .before .args .opts) (tagOf name) attrs kids (take (c .before .before .before .before .before .before .before .before .before .before .before .before .before .args .len) (c .before .before .before .before .before .before .before .before .before .before .before .before .before .args .text .now)) (c .before .before .before .before .before .before .before .before .if1 .left)
-    (ap «is_md_block» (sym (c .before .before .before .before .before .before .before .before .before .node-name .ensures ∙ element-name x)) ∙ sym (c .before .before .before .before .before .before .before .is-md-block .ensures) ∙ not-false _ (c .before .before .before .before .before .before .if3 .left)) (c .before .before .before .before .before .if4 .taken))
+    alike (open-cell (c .before .before .before .before .before .before .before .before .before .before .before .before .args .opts) (tagOf name) attrs kids (take (c .before .before .before .before .before .before .before .before .before .before .before .before .args .len) (c .before .before .before .before .before .before .before .before .before .before .before .before .args .text .now)) (c .before .before .before .before .before .before .before .before .if1 .left)
+    (ap «is_md_block» (sym (c .before .before .before .before .before .before .before .before .before .before .before .before .pre .2 ∙ element-name x)) ∙ sym (c .before .before .before .before .before .before .before .is-md-block .ensures) ∙ not-false _ (c .before .before .before .before .before .before .if3 .left)) (c .before .before .before .before .before .if4 .taken))
     (c .before .before .add-cell-block-break .ensures)
 
 is-tight-requires : tie.Need-is-tight-requires
@@ -74,9 +71,9 @@ same-length-3 c = search needs
 returns-5 : tie.Need-returns-5
 returns-5 c =
     λ name attrs kids x.
-    alike (open-lines (c .before .before .before .before .before .before .before .before .before .before .before .before .before .args .opts) (tagOf name) attrs kids (take (c .before .before .before .before .before .before .before .before .before .before .before .before .before .args .len) (c .before .before .before .before .before .before .before .before .before .before .before .before .before .args .text .now)) (c .before .before .before .before .before .before .before .before .if1 .left)
-    (ap «is_md_block» (sym (c .before .before .before .before .before .before .before .before .before .node-name .ensures ∙ element-name x)) ∙ sym (c .before .before .before .before .before .before .before .is-md-block .ensures) ∙ not-false _ (c .before .before .before .before .before .before .if3 .left)) (c .before .before .before .before .before .if4 .left)
+    alike (open-lines (c .before .before .before .before .before .before .before .before .before .before .before .before .args .opts) (tagOf name) attrs kids (take (c .before .before .before .before .before .before .before .before .before .before .before .before .args .len) (c .before .before .before .before .before .before .before .before .before .before .before .before .args .text .now)) (c .before .before .before .before .before .before .before .before .if1 .left)
+    (ap «is_md_block» (sym (c .before .before .before .before .before .before .before .before .before .before .before .before .pre .2 ∙ element-name x)) ∙ sym (c .before .before .before .before .before .before .before .is-md-block .ensures) ∙ not-false _ (c .before .before .before .before .before .before .if3 .left)) (c .before .before .before .before .before .if4 .left)
     (c .before .before .before .before .is-tight .ensures name attrs kids x)) (c .before .before .add-breaks .ensures)
 
 pub open-break-spec : {M : Type 1} → statement M
-open-break-spec = tie.close (tie.spec node-name-requires is-link-block-requires push-block-space-requires same-length returns returns-2 is-md-block-requires returns-3 slice-aggregate-add-cell-block-break add-cell-block-break-requires same-length-2 returns-4 is-tight-requires add-breaks-requires same-length-3 returns-5)
+open-break-spec = tie.close (tie.spec is-link-block-requires push-block-space-requires same-length returns returns-2 is-md-block-requires returns-3 slice-aggregate-add-cell-block-break add-cell-block-break-requires same-length-2 returns-4 is-tight-requires add-breaks-requires same-length-3 returns-5)
