@@ -51,28 +51,28 @@ def staged(oracle):
     return os.environ.get("ORACLE_BUILD", os.path.expanduser("~/.cache/oracle-build"))
 
 
-def write(path, text):
-    """writes the file where it is another, so that nothing is built again for it"""
-    os.makedirs(os.path.dirname(path), exist_ok=True)
-    if not os.path.exists(path) or open(path, encoding="utf-8").read() != text:
-        with open(path, "w", encoding="utf-8") as h:
-            h.write(text)
-
-
 def read(path):
     with open(path, encoding="utf-8") as h:
         return h.read()
+
+
+def write(path, text):
+    """writes the file where it is another, so that nothing is built again for it"""
+    os.makedirs(os.path.dirname(path), exist_ok=True)
+    if not os.path.exists(path) or read(path) != text:
+        with open(path, "w", encoding="utf-8") as h:
+            h.write(text)
 
 
 def built(oracle):
     """the program, with the Rust as a library in which `serialize_md` is public"""
     build = staged(oracle)
     stage, copy = os.path.join(build, "stage"), os.path.join(BENCH, "dom_query")
-    shutil.copytree(os.path.join(stage, "src"), os.path.join(copy, "src"), dirs_exist_ok=True)
+    source = os.path.join(stage, "src")
+    shutil.copytree(source, os.path.join(copy, "src"), dirs_exist_ok=True, ignore=shutil.ignore_patterns("lib.rs"))
+    write(os.path.join(copy, "src", "lib.rs"), read(os.path.join(source, "lib.rs")) + "pub use serializing::md::serialize_md;\n")
     manifest = read(os.path.join(stage, "Cargo.toml"))
     write(os.path.join(copy, "Cargo.toml"), re.sub(r"\[(workspace|patch\.|profile\.)[^\[]*", "", manifest))
-    with open(os.path.join(copy, "src", "lib.rs"), "a", encoding="utf-8") as h:
-        h.write("pub use serializing::md::serialize_md;\n")
     write(os.path.join(BENCH, "Cargo.toml"), MANIFEST.format(root=ROOT, build=build))
     write(os.path.join(BENCH, ".cargo", "config.toml"), read(os.path.join(stage, ".cargo", "config.toml")))
     subprocess.run(["cargo", "build", "--release", "--offline"], cwd=BENCH, check=True)
