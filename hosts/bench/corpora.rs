@@ -171,8 +171,8 @@ fn of_blocks(name: &str, block: fn(&mut Sheet, usize)) -> Corpus {
     named(name, move || filled(LONGEST / 4, block))
 }
 
-pub fn all(quay: Vec<u8>) -> Vec<Corpus> {
-    let mut out = vec![named("quay sheet", move || quay.clone())];
+pub fn all(sample: Vec<u8>) -> Vec<Corpus> {
+    let mut out = vec![named("sample sheet", move || sample.clone())];
     for kib in [1, 4, 16, 64, 256, 1024] {
         let name = if kib == 1024 { "mixed, 1 MiB".into() } else { format!("mixed, {kib} KiB") };
         out.push(named(name, move || filled(kib << 10, block)));
