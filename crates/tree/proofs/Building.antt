@@ -8,7 +8,7 @@ use mathlib.Core.Logic._⊎_.{inl, inr}
 use mathlib.Core.List.{List, [], _∷_}
 use lib.ListN.{length}
 use Rattle.spec.specs.Bytes.{Bytes}
-use Rattle.tree.specs.Memory.{wordAt, Stored, placeAt, endAt, parentAt}
+use Rattle.tree.specs.Memory.{wordAt, Stored, entryAt, endAt, parentAt}
 use Rattle.tree.specs.Kinds.{Placed}
 use Rattle.tree.proofs.Numbers.{word-same, quad-same}
 
@@ -23,12 +23,12 @@ Off i (j ∷ js) = (i ≡ j → ⊥) × Off i js
 -- of the first k records b says what a says, but for the ends of those that are still open
 pub record Later (k : ℕ) (stack : List ℕ) (a b : Bytes) : Type 0 where
   pub long : length b ≡ length a
-  pub place : (i : ℕ) → i < k → placeAt b i ≡ placeAt a i
+  pub entry : (i : ℕ) → i < k → entryAt b i ≡ entryAt a i
   pub parent : (i : ℕ) → i < k → parentAt b i ≡ parentAt a i
   pub shut : (i : ℕ) → i < k → Off i stack → endAt b i ≡ endAt a i
 
 pub later-refl : (k : ℕ) (stack : List ℕ) (a : Bytes) → Later k stack a a
-later-refl k stack a = record { long = refl; place = λ i h. refl; parent = λ i h. refl; shut = λ i h o. refl }
+later-refl k stack a = record { long = refl; entry = λ i h. refl; parent = λ i h. refl; shut = λ i h o. refl }
 
 -- the open nodes: the innermost, and those around it, each the parent of the one before it; the last is node 0
 abbrev pub Chain : Bytes → ℕ → List ℕ → Type 0
@@ -48,8 +48,8 @@ chain-later a b k cur (q ∷ around) same h c = (c .0, same cur h ∙ c .1, chai
 -- ---- a new record
 
 module _ (k p e cur : ℕ) {a b : Bytes} (new : Placed k p e cur a b) where
-  old-place : (i : ℕ) → i < k → placeAt b i ≡ placeAt a i
-  old-place i h = quad-same a b (i * 24) (λ j l m. new .before j (omega arith))
+  old-entry : (i : ℕ) → i < k → entryAt b i ≡ entryAt a i
+  old-entry i h = quad-same a b (i * 24) (λ j l m. new .before j (omega arith))
 
   pub old-parent : (i : ℕ) → i < k → parentAt b i ≡ parentAt a i
   old-parent i h = word-same a b (i * 24 + 6) (λ j l m. new .before j (omega arith))
@@ -62,7 +62,7 @@ module _ (k p e cur : ℕ) {a b : Bytes} (new : Placed k p e cur a b) where
   placed-later stack stack′ c off l =
       record {
         long = l .long ∙ new .same-long;
-        place = λ i h. l .place i (omega arith) ∙ old-place i h;
+        entry = λ i h. l .entry i (omega arith) ∙ old-entry i h;
         parent = λ i h. l .parent i (omega arith) ∙ old-parent i h;
         shut = λ i h o. l .shut i (omega arith) (off i h o) ∙ old-end i h;
       }
@@ -70,8 +70,8 @@ module _ (k p e cur : ℕ) {a b : Bytes} (new : Placed k p e cur a b) where
 -- ---- the end of an open node
 
 module _ (k cur : ℕ) {a b : Bytes} (end : Stored wordAt 2 (cur * 24 + 4) k a b) where
-  end-place : (i : ℕ) → placeAt b i ≡ placeAt a i
-  end-place i =
+  end-entry : (i : ℕ) → entryAt b i ≡ entryAt a i
+  end-entry i =
       quad-same a b (i * 24)
       (λ j l m. ⊎-elim (λ (h : i ≤ cur). end .before j (omega arith)) (λ (h : cur < i). end .behind j (omega arith)) (le-or-lt i cur))
 
@@ -89,7 +89,7 @@ module _ (k cur : ℕ) {a b : Bytes} (end : Stored wordAt 2 (cur * 24 + 4) k a b
   end-later around c l =
       record {
         long = l .long ∙ end .same-long;
-        place = λ i h. l .place i h ∙ end-place i;
+        entry = λ i h. l .entry i h ∙ end-entry i;
         parent = λ i h. l .parent i h ∙ end-parent i;
         shut = λ i h o. l .shut i h (o .1) ∙ end-other i (o .0);
       }

@@ -1,5 +1,5 @@
 -- What the record of the first node of a forest says of the forest. Assumes nothing.
-use Prim.Native.Nat.{ℕ, _+_, _*_, _≤_, _<_}
+use Prim.Native.Nat.{ℕ, _+_, _*_, _/_, _≤_, _<_}
 use native.Mathlib.Omega.{arith}
 use mathlib.Core.Path.{_≡_, refl, ap, ap₂, sym, subst}
 use mathlib.Core.List.{List}
@@ -7,9 +7,9 @@ use lib.ListN.{length, getD}
 use Rattle.spec.specs.Bytes.{Bytes}
 use Rattle.spec.specs.Fields.{Field}
 use Rattle.spec.specs.Tree.{Attr, Forest, nothing, text, comment, element, height, kidsOf}
-use Rattle.tree.specs.Memory.{placeAt, endAt, parentAt}
+use Rattle.tree.specs.Memory.{placeAt, numberAt, endAt, parentAt}
 use Rattle.tree.specs.Represents.{FieldAt, attrsBehind, Rep, headOf, restOf}
-use Rattle.tree.specs.Nodes.{bodyAt}
+use Rattle.tree.specs.Nodes.{bodyAt, nameAt}
 
 module _ (sh ns : Bytes) where
   pub rep-le : (parent i e : ℕ) (f : Forest) → Rep sh ns parent i e f → i ≤ e
@@ -33,6 +33,7 @@ module _ (sh ns : Bytes) where
 pub record First (sh ns : Bytes) (parent i e : ℕ) (f : Forest) : Type 0 where
   pub inside : i * 24 + 24 ≤ length ns
   pub placed : placeAt ns i + 3 ≤ length sh
+  pub numbered : numberAt ns i ≡ nameAt sh (placeAt ns i)
   pub later : i < endAt ns i
   pub within : endAt ns i ≤ e
   pub parent-is : parentAt ns i ≡ parent
@@ -48,11 +49,11 @@ pub record First (sh ns : Bytes) (parent i e : ℕ) (f : Forest) : Type 0 where
   pub comment-is : (getD sh (placeAt ns i) 0 ≡ 1 → ⊥) → (getD sh (placeAt ns i) 0 ≡ 4 → ⊥)
       → f ≡ comment (bodyAt sh (placeAt ns i)) (restOf f)
 
-module _ {sh : Bytes} {p tag : ℕ} {body : Bytes} (at : FieldAt sh p tag body) where
-  pub its-tag : getD sh p 0 ≡ tag
+module _ {sh : Bytes} {e tag : ℕ} {body : Bytes} (at : FieldAt sh e tag body) where
+  pub its-tag : getD sh (e / 256) 0 ≡ tag
   its-tag = ap (λ (f : Field). f .tag) (at .field)
 
-  pub its-body : body ≡ bodyAt sh p
+  pub its-body : body ≡ bodyAt sh (e / 256)
   its-body = sym (ap (λ (f : Field). f .body) (at .field))
 
 module _ (sh ns : Bytes) (parent i e : ℕ) where
@@ -63,6 +64,7 @@ module _ (sh ns : Bytes) (parent i e : ℕ) where
       record {
         inside = h .0;
         placed = h .1 .head;
+        numbered = h .1 .number;
         later = omega (arith, h .2);
         within = omega (arith, h .2, rep-le sh ns parent (i + 1) e r (h .4));
         parent-is = h .3;
@@ -80,6 +82,7 @@ module _ (sh ns : Bytes) (parent i e : ℕ) where
       record {
         inside = h .0;
         placed = h .1 .head;
+        numbered = h .1 .number;
         later = omega (arith, h .2);
         within = omega (arith, h .2, rep-le sh ns parent (i + 1) e r (h .4));
         parent-is = h .3;
@@ -97,6 +100,7 @@ module _ (sh ns : Bytes) (parent i e : ℕ) where
       record {
         inside = h .0;
         placed = h .1 .head;
+        numbered = h .1 .number;
         later = omega (arith, rep-le sh ns i (i + 1) (endAt ns i) k (h .4));
         within = rep-le sh ns parent (endAt ns i) e r (h .5);
         parent-is = h .3;

@@ -1,5 +1,5 @@
 -- What changes only scratch leaves the tree in node memory as it was. Assumes nothing.
-use Prim.Native.Nat.{ℕ, _+_, _-_, _*_, _≤_, _<_}
+use Prim.Native.Nat.{ℕ, _+_, _-_, _*_, _/_, _≤_, _<_}
 use native.Mathlib.Omega.{arith}
 use mathlib.Core.Path.{_≡_, refl, ap, _∙_, sym, subst}
 use mathlib.Core.Logic.{⊎-elim}
@@ -7,7 +7,7 @@ use mathlib.Core.List.{List, [], _∷_}
 use lib.ListN.{getD}
 use Rattle.spec.specs.Bytes.{Bytes}
 use Rattle.spec.specs.Tree.{Attr, Forest, nothing, text, comment, element}
-use Rattle.tree.specs.Memory.{longAt, Stored, placeAt, endAt, parentAt, Kept}
+use Rattle.tree.specs.Memory.{longAt, Stored, entryAt, placeAt, endAt, parentAt, Kept}
 use Rattle.tree.specs.Represents.{FieldAt, attrsBehind, Rep, Stands, Around, Holds}
 use Rattle.tree.proofs.Numbers.{word-same, quad-same}
 use Rattle.tree.proofs.Building.{le-or-lt}
@@ -44,8 +44,11 @@ module _ {from to : ℕ} {a b : Bytes} (p : Kept from to a b) where
       let e : i * 24 + (k - i * 24) ≡ k = omega arith in
       subst (λ (j : ℕ). getD b j 0 ≡ getD a j 0) e (p .tree i (k - i * 24) (omega arith))
 
+  pub entry-kept : (i : ℕ) → entryAt b i ≡ entryAt a i
+  entry-kept i = quad-same a b (i * 24) (λ k l h. same-tree i k (omega arith) (omega arith))
+
   pub place-kept : (i : ℕ) → placeAt b i ≡ placeAt a i
-  place-kept i = quad-same a b (i * 24) (λ k l h. same-tree i k (omega arith) (omega arith))
+  place-kept i = ap (λ (e : ℕ). e / 256) (entry-kept i)
 
   pub end-kept : (i : ℕ) → endAt b i ≡ endAt a i
   end-kept i = word-same a b (i * 24 + 4) (λ k l h. same-tree i k (omega arith) (omega arith))
@@ -58,21 +61,21 @@ module _ {from to : ℕ} {a b : Bytes} (p : Kept from to a b) where
   rep-kept sh parent i e nothing h = h
   rep-kept sh parent i e (text s r) h = (
     omega (arith, p .long, h .0),
-    subst (λ (q : ℕ). FieldAt sh q 4 s) (sym (place-kept i)) (h .1),
+    subst (λ (q : ℕ). FieldAt sh q 4 s) (sym (entry-kept i)) (h .1),
     end-kept i ∙ h .2,
     parent-kept i ∙ h .3,
     rep-kept sh parent (i + 1) e r (h .4),
   )
   rep-kept sh parent i e (comment s r) h = (
     omega (arith, p .long, h .0),
-    subst (λ (q : ℕ). FieldAt sh q 5 s) (sym (place-kept i)) (h .1),
+    subst (λ (q : ℕ). FieldAt sh q 5 s) (sym (entry-kept i)) (h .1),
     end-kept i ∙ h .2,
     parent-kept i ∙ h .3,
     rep-kept sh parent (i + 1) e r (h .4),
   )
   rep-kept sh parent i e (element name attrs k r) h = (
     omega (arith, p .long, h .0),
-    subst (λ (q : ℕ). FieldAt sh q 1 name) (sym (place-kept i)) (h .1),
+    subst (λ (q : ℕ). FieldAt sh q 1 name) (sym (entry-kept i)) (h .1),
     h .2 ∙ ap (attrsBehind sh) (sym (place-kept i)),
     parent-kept i ∙ h .3,
     subst (λ (j : ℕ). Rep sh b i (i + 1) j k) (sym (end-kept i)) (rep-kept sh i (i + 1) (endAt a i) k (h .4)),

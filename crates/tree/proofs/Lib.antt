@@ -7,8 +7,10 @@ pub mod Sounding
 pub mod Attrs
 pub mod Values
 pub mod Naming
+pub mod Unskipped
 pub mod Access
 pub mod Numbers
+pub mod Entries
 pub mod Telling
 pub mod Placing
 pub mod Building

@@ -47,7 +47,7 @@ among-place n x (y ∷ ys) = go (same x y) (among-place (suc n) x ys)
 
 -- ---- the names that can be the same
 
-same-is : (x y : Bytes) → same x y ≡ true → x ≡ y
+pub same-is : (x y : Bytes) → same x y ≡ true → x ≡ y
 unfolding same
 same-is [] [] e = refl
 same-is [] (b ∷ y) e = absurd (false≢true e)

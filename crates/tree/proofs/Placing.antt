@@ -8,12 +8,12 @@ use Rattle.tree.specs.Memory.{wordAt, quadAt, Stored}
 use Rattle.tree.specs.Kinds.{opens, closes, texts, comments, kindOf, Placed}
 use Rattle.tree.proofs.Numbers.{word-same, quad-same}
 
-pub placed : (i place end parent : ℕ) {a b c d : Bytes} → Stored quadAt 4 (i * 24) place a b → Stored wordAt 2 (i * 24 + 4) end b c
-    → Stored wordAt 2 (i * 24 + 6) parent c d → Placed i place end parent a d
-placed i place end parent {a} {b} {c} {d} p q r =
+pub placed : (i entry end parent : ℕ) {a b c d : Bytes} → Stored quadAt 4 (i * 24) entry a b → Stored wordAt 2 (i * 24 + 4) end b c
+    → Stored wordAt 2 (i * 24 + 6) parent c d → Placed i entry end parent a d
+placed i entry end parent {a} {b} {c} {d} p q r =
     record {
       same-long = r .same-long ∙ (q .same-long ∙ p .same-long);
-      place-is = quad-same c d (i * 24) (λ j l h. r .before j (omega arith)) ∙ (quad-same b c (i * 24) (λ j l h. q .before j (omega arith)) ∙ p .value);
+      entry-is = quad-same c d (i * 24) (λ j l h. r .before j (omega arith)) ∙ (quad-same b c (i * 24) (λ j l h. q .before j (omega arith)) ∙ p .value);
       end-is = word-same c d (i * 24 + 4) (λ j l h. r .before j (omega arith)) ∙ q .value;
       parent-is = r .value;
       before = λ j l. r .before j (omega arith) ∙ (q .before j (omega arith) ∙ p .before j l);

@@ -17,7 +17,7 @@ use Rattle.tree.specs.declared.store.Turn.{Turn}
 use Rattle.tree.specs.declared.fields.Span.{Span}
 use Rattle.tree.proofs.Walking.{span-fields}
 use Rattle.spec.specs.Tree.{treeOf}
-use Rattle.tree.specs.Represents.{Holds}
+use Rattle.tree.specs.Represents.{entryOf, Holds}
 use Rattle.tree.proofs.Telling.{Recorded, ToldAs, Told, RepAll, told-all}
 use Rattle.tree.proofs.Building.{Later, later-refl, Chain, off-above, chain-later, old-parent, placed-later, end-parent, end-later}
 
@@ -47,7 +47,7 @@ module _ (n tag : ℕ) (fs : List Field) (next : Bytes → ℕ → ℕ → List 
   recorded : (k p e cur : ℕ) (stack : List ℕ) {a b : Bytes} (c : Bytes) → k * 24 + 24 ≤ length a → Placed k p e cur a b
       → Later (k + 1) stack b c → Recorded c k p cur
   recorded k p e cur stack c room new l =
-      (omega (arith, l .long, new .same-long), l .place k (omega arith) ∙ new .place-is, l .parent k (omega arith) ∙ new .parent-is)
+      (omega (arith, l .long, new .same-long), l .entry k (omega arith) ∙ new .entry-is, l .parent k (omega arith) ∙ new .parent-is)
 
   -- the stage behind a text or a comment
   leaf-stage : (a b : Bytes) (p k cur : ℕ) (around : List ℕ) → parentAt a 0 ≡ 0 → k * 24 + 24 ≤ length a → Placed k p (k + 1) cur a b
@@ -189,7 +189,7 @@ fits-by aside n m k cur a e below few room = tt
 
 stored-at : (sh a : Bytes) (p k cur : ℕ) → Storing sh a p k cur → p + 3 ≤ length sh → (b : Bytes) (t : Turn)
     → FitsAs (kindOf (getD sh p 0)) k cur a
-    → TurnedAs (kindOf (getD sh p 0)) p k cur a b t
+    → TurnedAs (kindOf (getD sh p 0)) (entryOf sh p) k cur a b t
     → Storing sh b (endOf sh p) (t .count) (t .cur)
 unfolding keepRules stillOpen nodesIn noStray openAfter Told
 stored-at sh a p k cur s h b t fits turned =
@@ -209,7 +209,7 @@ stored-at sh a p k cur s h b t fits turned =
       tag,
       next-stage (nodeCount sh) tag fs (λ c j i around. Told sh c (nodeCount sh) fs (endOf sh p) j i around)
           (λ c. Told sh c (nodeCount sh) (fields sh) 0 1 0 [])
-          (eqb tag 1) (eqb tag 6) (eqb tag 4) (eqb tag 5) a b p k cur (g .around) t (g .root) (kept .0) (kept .1) shut counted (g .chain) (g .below)
+          (eqb tag 1) (eqb tag 6) (eqb tag 4) (eqb tag 5) a b (entryOf sh p) k cur (g .around) t (g .root) (kept .0) (kept .1) shut counted (g .chain) (g .below)
           (λ c l told. g .rest c l (subst (λ (gs : List Field). Told sh c (nodeCount sh) gs p k cur (g .around)) (sym e) told)) fits turned,
     )
 
@@ -221,12 +221,13 @@ module _ (sh a : Bytes) (p k cur : ℕ) (s : Storing sh a p k cur) (r : Span) (h
   pub fits-field : Storable sh (length a) → FitsAs (kindOf (r .tag)) k cur a
   fits-field room = fits-by (kindOf (r .tag)) (nodeCount sh) _ k cur a counted-by (s .1 .below) (room .few) (room .room-for)
 
-  pub stored-on : (b : Bytes) (t : Turn) → Storable sh (length a) → TurnedAs (kindOf (r .tag)) p k cur a b t → Storing sh b (r .end) (t .count) (t .cur)
-  stored-on b t room turned =
+  pub stored-on : (b : Bytes) (t : Turn) → Storable sh (length a) → (v : ℕ) → v ≡ entryOf sh p → TurnedAs (kindOf (r .tag)) v k cur a b t
+      → Storing sh b (r .end) (t .count) (t .cur)
+  stored-on b t room v v-is turned =
       subst (λ (q : Span). Storing sh b (q .end) (t .count) (t .cur)) (sym r-is)
       (stored-at sh a p k cur s h b t
       (subst (λ (q : Span). FitsAs (kindOf (q .tag)) k cur a) r-is (fits-field room))
-      (subst (λ (q : Span). TurnedAs (kindOf (q .tag)) p k cur a b t) r-is turned))
+      (subst₂ (λ (q : Span) (x : ℕ). TurnedAs (kindOf (q .tag)) x k cur a b t) r-is v-is turned))
 
 -- ---- beginning and end
 

@@ -7,7 +7,7 @@ use lib.Dec.{eqb}
 use Rattle.spec.specs.Bytes.{Bytes}
 use Rattle.spec.specs.Fields.{fields}
 use Rattle.spec.specs.Questions.{keepRules, stillOpen, nodeCount}
-use Rattle.tree.specs.Memory.{wordAt, Stored, placeAt, endAt, parentAt}
+use Rattle.tree.specs.Memory.{wordAt, Stored, entryAt, endAt, parentAt}
 use Rattle.tree.specs.declared.store.Turn.{Turn}
 
 -- what a field does to the nodes
@@ -25,9 +25,9 @@ abbrev pub kindOf : ℕ → Kind
 kindOf tag = kindBy (eqb tag 1) (eqb tag 6) (eqb tag 4) (eqb tag 5)
 
 -- the record of node i says this now, and all but its first eight bytes is as it was
-pub record Placed (i place end parent : ℕ) (a b : Bytes) : Type 0 where
+pub record Placed (i entry end parent : ℕ) (a b : Bytes) : Type 0 where
   pub same-long : length b ≡ length a
-  pub place-is : placeAt b i ≡ place
+  pub entry-is : entryAt b i ≡ entry
   pub end-is : endAt b i ≡ end
   pub parent-is : parentAt b i ≡ parent
   pub before : (j : ℕ) → j < i * 24 → getD b j 0 ≡ getD a j 0
@@ -42,13 +42,13 @@ FitsAs texts k cur a = (k * 24 + 24 ≤ length a) × (k < 65535) × (cur < 65536
 FitsAs comments k cur a = (k * 24 + 24 ≤ length a) × (k < 65535) × (cur < 65536)
 FitsAs aside k cur a = Unit {0}
 
--- what storing a field at p does
+-- what storing a field does; e is the entry of the node that it begins, if it does
 abbrev pub TurnedAs : Kind → ℕ → ℕ → ℕ → Bytes → Bytes → Turn → Type 0
-TurnedAs opens p k cur a b t = Placed k p (k + 1) cur a b × (t .count ≡ k + 1) × (t .cur ≡ k)
-TurnedAs closes p k cur a b t = Stored wordAt 2 (cur * 24 + 4) k a b × (t .count ≡ k) × (t .cur ≡ parentAt a cur)
-TurnedAs texts p k cur a b t = Placed k p (k + 1) cur a b × (t .count ≡ k + 1) × (t .cur ≡ cur)
-TurnedAs comments p k cur a b t = Placed k p (k + 1) cur a b × (t .count ≡ k + 1) × (t .cur ≡ cur)
-TurnedAs aside p k cur a b t = (b ≡ a) × (t .count ≡ k) × (t .cur ≡ cur)
+TurnedAs opens e k cur a b t = Placed k e (k + 1) cur a b × (t .count ≡ k + 1) × (t .cur ≡ k)
+TurnedAs closes e k cur a b t = Stored wordAt 2 (cur * 24 + 4) k a b × (t .count ≡ k) × (t .cur ≡ parentAt a cur)
+TurnedAs texts e k cur a b t = Placed k e (k + 1) cur a b × (t .count ≡ k + 1) × (t .cur ≡ cur)
+TurnedAs comments e k cur a b t = Placed k e (k + 1) cur a b × (t .count ≡ k + 1) × (t .cur ≡ cur)
+TurnedAs aside e k cur a b t = (b ≡ a) × (t .count ≡ k) × (t .cur ≡ cur)
 
 -- the sheet's fields keep the rules, all elements are closed, and its nodes have room in a memory of so many bytes
 pub record Storable (sh : Bytes) (room : ℕ) : Type 0 where

@@ -1,5 +1,5 @@
 -- Numbers in memory, and the records of nodes: 24 bytes each, in the order of opening. Assumes nothing.
-use Prim.Native.Nat.{ℕ, _+_, _*_, _≤_, _<_}
+use Prim.Native.Nat.{ℕ, _+_, _*_, _/_, _%_, _≤_, _<_}
 use mathlib.Core.Path.{_≡_}
 use lib.ListN.{length, getD}
 use Rattle.spec.specs.Bytes.{Bytes}
@@ -22,10 +22,16 @@ pub record Stored (read : Bytes → ℕ → ℕ) (w j v : ℕ) (a b : Bytes) : T
   pub before : (i : ℕ) → i < j → getD b i 0 ≡ getD a i 0
   pub behind : (i : ℕ) → j + w ≤ i → getD b i 0 ≡ getD a i 0
 
--- a record: the place of the node's field in the sheet, the number of the node behind its last descendant, its parent; then
--- scratch, a part of the text memory by its start and its length
+-- a record: the place of the node's field in the sheet with the number of its name, the number of the node behind its last
+-- descendant, its parent; then scratch, a part of the text memory by its start and its length
+abbrev pub entryAt : Bytes → ℕ → ℕ
+entryAt ns i = quadAt ns (i * 24)
+
 abbrev pub placeAt : Bytes → ℕ → ℕ
-placeAt ns i = quadAt ns (i * 24)
+placeAt ns i = entryAt ns i / 256
+
+abbrev pub numberAt : Bytes → ℕ → ℕ
+numberAt ns i = entryAt ns i % 256
 
 abbrev pub endAt : Bytes → ℕ → ℕ
 endAt ns i = wordAt ns (i * 24 + 4)

@@ -1,6 +1,6 @@
 -- The tree in node memory. Node 0 is the fragment; nodes are numbered in the order of opening, so that a node and its
 -- descendants are a range of numbers. Assumes nothing.
-use Prim.Native.Nat.{ℕ, _+_, _*_, _≤_, _<_}
+use Prim.Native.Nat.{ℕ, _+_, _*_, _/_, _%_, _≤_, _<_}
 use mathlib.Core.Path.{_≡_}
 use mathlib.Core.List.{List, [], _∷_}
 use lib.ListN.{length, drop}
@@ -8,12 +8,18 @@ use Rattle.spec.specs.Bytes.{Bytes}
 use Rattle.spec.specs.Fields.{Field, fields}
 use Rattle.spec.specs.Tree.{Attr, Forest, nothing, text, comment, element, height, tail, treeOf}
 use Rattle.tree.specs.Spans.{endOf, spanAt, fieldOf}
-use Rattle.tree.specs.Memory.{placeAt, endAt, parentAt}
+use Rattle.tree.specs.Memory.{entryAt, placeAt, endAt, parentAt}
+use Rattle.tree.specs.Nodes.{nameAt}
 
--- at p of the sheet stands a field with this tag and these bytes
-pub record FieldAt (sh : Bytes) (p tag : ℕ) (body : Bytes) : Type 0 where
-  pub head : p + 3 ≤ length sh
-  pub field : _≡_ {A = Field} (fieldOf sh (spanAt sh p)) (record { tag = tag; body = body })
+-- the entry of a node whose field stands at p
+unfoldable pub entryOf : Bytes → ℕ → ℕ
+entryOf sh p = p * 256 + nameAt sh p
+
+-- the entry e is that of a field with this tag and these bytes
+pub record FieldAt (sh : Bytes) (e tag : ℕ) (body : Bytes) : Type 0 where
+  pub head : e / 256 + 3 ≤ length sh
+  pub field : _≡_ {A = Field} (fieldOf sh (spanAt sh (e / 256))) (record { tag = tag; body = body })
+  pub number : e % 256 ≡ nameAt sh (e / 256)
 
 -- the attributes of the element that opens at p
 abbrev pub attrsBehind : Bytes → ℕ → List Attr
@@ -23,13 +29,13 @@ attrsBehind sh p = tail (fields (drop (endOf sh p) sh)) .attrs
 unfoldable pub Rep : Bytes → Bytes → ℕ → ℕ → ℕ → Forest → Type 0
 Rep sh ns parent i e nothing = i ≡ e
 Rep sh ns parent i e (text s rest) =
-    (i * 24 + 24 ≤ length ns) × FieldAt sh (placeAt ns i) 4 s × (endAt ns i ≡ i + 1) × (parentAt ns i ≡ parent)
+    (i * 24 + 24 ≤ length ns) × FieldAt sh (entryAt ns i) 4 s × (endAt ns i ≡ i + 1) × (parentAt ns i ≡ parent)
     × Rep sh ns parent (i + 1) e rest
 Rep sh ns parent i e (comment s rest) =
-    (i * 24 + 24 ≤ length ns) × FieldAt sh (placeAt ns i) 5 s × (endAt ns i ≡ i + 1) × (parentAt ns i ≡ parent)
+    (i * 24 + 24 ≤ length ns) × FieldAt sh (entryAt ns i) 5 s × (endAt ns i ≡ i + 1) × (parentAt ns i ≡ parent)
     × Rep sh ns parent (i + 1) e rest
 Rep sh ns parent i e (element name attrs kids rest) =
-    (i * 24 + 24 ≤ length ns) × FieldAt sh (placeAt ns i) 1 name × (attrs ≡ attrsBehind sh (placeAt ns i))
+    (i * 24 + 24 ≤ length ns) × FieldAt sh (entryAt ns i) 1 name × (attrs ≡ attrsBehind sh (placeAt ns i))
     × (parentAt ns i ≡ parent) × Rep sh ns i (i + 1) (endAt ns i) kids × Rep sh ns parent (endAt ns i) e rest
 
 -- they are some forest, of at most so many levels

@@ -2,7 +2,7 @@
 ghost use mathlib.Core.Path.{_≡_};
 ghost use Prim.Native.Nat.{_+_, _*_, _≤_, _<_};
 ghost use lib.ListN.{length, getD};
-ghost use Rattle.tree.specs.Memory.{placeAt, endAt, parentAt};
+ghost use Rattle.tree.specs.Memory.{placeAt, numberAt, endAt, parentAt};
 ghost use Rattle.tree.specs.Nodes.{textAt, PartIs, firstChild, nextSibling};
 use crate::fields::span_at;
 use crate::memory::read_quad;
@@ -25,7 +25,15 @@ pub fn node_place(ns: &[u8], i: usize) -> usize
     requires { ⌜ i * 24 + 24 ≤ length (now ns) ⌝ }
     ensures { λ r. ⌜ r ≡ placeAt (now (ns .entry)) i ⌝ }
 {
-    read_quad(ns, i * 24)
+    read_quad(ns, i * 24) / 256
+}
+
+// The number of its name; 0 where it is no element.
+pub fn node_number(ns: &[u8], i: usize) -> usize
+    requires { ⌜ i * 24 + 24 ≤ length (now ns) ⌝ }
+    ensures { λ r. ⌜ r ≡ numberAt (now (ns .entry)) i ⌝ }
+{
+    read_quad(ns, i * 24) % 256
 }
 
 // The number of the node behind the last descendant of node i. The children of node i are i + 1, the end of that, and so

@@ -4,12 +4,13 @@ ghost use Prim.Native.Nat.{_+_, _*_, _≤_, _<_};
 ghost use lib.ListN.{length};
 ghost use Rattle.spec.specs.Questions.{nodeCount};
 ghost use Rattle.tree.specs.Memory.{parentAt};
-ghost use Rattle.tree.specs.Represents.{Holds};
+ghost use Rattle.tree.specs.Represents.{entryOf, Holds};
 ghost use Rattle.tree.specs.Kinds.{kindOf, Placed, FitsAs, TurnedAs, Storable};
 use crate::fields::span_at;
 use crate::memory::read_word;
 use crate::memory::store_quad;
 use crate::memory::store_word;
+use crate::names::name_at;
 
 // How far storing has come: the nodes begun, and the innermost open one.
 pub struct Turn {
@@ -18,22 +19,22 @@ pub struct Turn {
 }
 
 // Stores the record of node i; its scratch stays as it was.
-fn store_record(ns: &mut [u8], i: usize, place: usize, end: usize, parent: usize)
-    requires { ⌜ (i * 24 + 24 ≤ length (now ns)) × (place < 4294967296) × (end < 65536) × (parent < 65536) ⌝ }
-    ensures { λ _. ⌜ Placed i place end parent (now (ns .entry)) (now (ns .exit)) ⌝ }
+fn store_record(ns: &mut [u8], i: usize, entry: usize, end: usize, parent: usize)
+    requires { ⌜ (i * 24 + 24 ≤ length (now ns)) × (entry < 4294967296) × (end < 65536) × (parent < 65536) ⌝ }
+    ensures { λ _. ⌜ Placed i entry end parent (now (ns .entry)) (now (ns .exit)) ⌝ }
 {
-    store_quad(ns, i * 24, place);
+    store_quad(ns, i * 24, entry);
     store_word(ns, i * 24 + 4, end);
     store_word(ns, i * 24 + 6, parent);
 }
 
-// Stores what the field at p with this tag says of the nodes.
-fn store_field(ns: &mut [u8], tag: u8, p: usize, count: usize, cur: usize) -> Turn
-    requires { ⌜ (p < 4294967296) × FitsAs (kindOf tag) count cur (now ns) ⌝ }
-    ensures { λ r. ⌜ TurnedAs (kindOf tag) p count cur (now (ns .entry)) (now (ns .exit)) r ⌝ }
+// Stores what a field with this tag and this entry says of the nodes.
+fn store_field(ns: &mut [u8], tag: u8, entry: usize, count: usize, cur: usize) -> Turn
+    requires { ⌜ (entry < 4294967296) × FitsAs (kindOf tag) count cur (now ns) ⌝ }
+    ensures { λ r. ⌜ TurnedAs (kindOf tag) entry count cur (now (ns .entry)) (now (ns .exit)) r ⌝ }
 {
     if tag == 1 {
-        store_record(ns, count, p, count + 1, cur);
+        store_record(ns, count, entry, count + 1, cur);
         return Turn {
             count: count + 1,
             cur: count,
@@ -48,14 +49,14 @@ fn store_field(ns: &mut [u8], tag: u8, p: usize, count: usize, cur: usize) -> Tu
         };
     }
     if tag == 4 {
-        store_record(ns, count, p, count + 1, cur);
+        store_record(ns, count, entry, count + 1, cur);
         return Turn {
             count: count + 1,
             cur: cur,
         };
     }
     if tag == 5 {
-        store_record(ns, count, p, count + 1, cur);
+        store_record(ns, count, entry, count + 1, cur);
         return Turn {
             count: count + 1,
             cur: cur,
@@ -65,6 +66,14 @@ fn store_field(ns: &mut [u8], tag: u8, p: usize, count: usize, cur: usize) -> Tu
         count: count,
         cur: cur,
     }
+}
+
+// The entry of a node whose field stands at p: its place, and the number of its name.
+fn entry_of(sheet: &[u8], p: usize) -> usize
+    requires { ⌜ (p + 3 ≤ length (now sheet)) × (length (now sheet) ≤ 1048576) ⌝ }
+    ensures { λ r. ⌜ (r ≡ entryOf (now (sheet .entry)) p) × (r < 4294967296) ⌝ }
+{
+    p * 256 + name_at(sheet, p)
 }
 
 // Stores the nodes behind the fragment, and where the fragment ends.
@@ -78,7 +87,8 @@ fn store_rest(sheet: &[u8], nodes: &mut [u8]) -> usize
     while 3 <= sheet.len() - p {
         let f = span_at(sheet, p);
         let tag = f.tag;
-        let t = store_field(nodes, tag, p, count, cur);
+        let entry = entry_of(sheet, p);
+        let t = store_field(nodes, tag, entry, count, cur);
         count = t.count;
         cur = t.cur;
         p = f.end;

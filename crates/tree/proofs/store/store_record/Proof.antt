@@ -7,7 +7,7 @@ use Rattle.tree.proofs.store.store_record.Tie as tie
 returns : tie.Need-returns
 returns c =
     let a = c .before .before .before .before .before .before .before .before .before .before .before .before .before .args in
-    placed (a .i) (a .place) (a .end) (a .parent) (c .before .before .before .before .before .before .before .before .before .before .store-quad .ensures) (c .before .before .before .before .before .before .store-word .ensures) (c .before .before .store-word2 .ensures)
+    placed (a .i) (a .entry) (a .end) (a .parent) (c .before .before .before .before .before .before .before .before .before .before .store-quad .ensures) (c .before .before .before .before .before .before .store-word .ensures) (c .before .before .store-word2 .ensures)
 
 mul-store-quad : tie.Need-mul-store-quad
 mul-store-quad c = search needs

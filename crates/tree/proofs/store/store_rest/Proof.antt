@@ -21,22 +21,24 @@ loop-holds c =
     let a = c .before .before .args in
     (omega arith, refl, stored-none (a .sheet .now) (a .nodes .now) (c .before .before .pre .0) (c .before .before .pre .1))
 
+entry-of-requires : tie.Need-entry-of-requires Inv-loop μ-loop
+entry-of-requires c κs = (omega arith, c .before .before .before .before .before .pre .0 .short)
+
 store-field-requires : tie.Need-store-field-requires Inv-loop μ-loop
 store-field-requires c κs =
-    let a = c .before .before .before .before .before .before .args in let l = c .before .before .before .loop in
-    let room : Storable (a .sheet .now) (length (l .nodes)) = subst (Storable (a .sheet .now)) (sym (l .inv .1)) (c .before .before .before .before .before .before .pre .0) in (
-      omega (arith, room .short, l .inv .0),
-      fits-field (a .sheet .now) (l .nodes) (l .p) (l .count) (l .cur) (l .inv .2) (c .before .span-at .result) (omega arith) (c .before .span-at .ensures .at) room,
-    )
+    let a = c .before .before .before .before .before .before .before .args in let l = c .before .before .before .before .loop in let s = c .before .before .span-at in
+    let room : Storable (a .sheet .now) (length (l .nodes)) = subst (Storable (a .sheet .now)) (sym (l .inv .1)) (c .before .before .before .before .before .before .before .pre .0) in
+    (c .before .entry-of .ensures .1, fits-field (a .sheet .now) (l .nodes) (l .p) (l .count) (l .cur) (l .inv .2) (s .result) (omega arith) (s .ensures .at) room)
 
 loop-again : tie.Need-loop-again Inv-loop μ-loop
 loop-again c =
-    let a = c .before .before .before .before .before .before .before .before .before .args in let l = c .before .before .before .before .before .before .loop in
-    let room : Storable (a .sheet .now) (length (l .nodes)) = subst (Storable (a .sheet .now)) (sym (l .inv .1)) (c .before .before .before .before .before .before .before .before .before .pre .0) in (
-      omega (arith, c .before .before .before .before .span-at .ensures .inside),
-      c .before .before .store-field .kept .0 ∙ l .inv .1,
-      stored-on (a .sheet .now) (l .nodes) (l .p) (l .count) (l .cur) (l .inv .2) (c .before .before .before .before .span-at .result) (omega arith) (c .before .before .before .before .span-at .ensures .at) _ (c .before .before .store-field .result) room
-          (c .before .before .store-field .ensures),
+    let a = c .before .before .before .before .before .before .before .before .before .before .args in let l = c .before .before .before .before .before .before .before .loop in
+    let room : Storable (a .sheet .now) (length (l .nodes)) = subst (Storable (a .sheet .now)) (sym (l .inv .1)) (c .before .before .before .before .before .before .before .before .before .before .pre .0) in
+    let f = c .before .before .store-field in let s = c .before .before .before .before .before .span-at in (
+      omega (arith, s .ensures .inside),
+      f .kept .0 ∙ l .inv .1,
+      stored-on (a .sheet .now) (l .nodes) (l .p) (l .count) (l .cur) (l .inv .2) (s .result) (omega arith) (s .ensures .at) _ (f .result) room
+          (c .before .before .before .before .entry-of .result) (c .before .before .before .before .entry-of .ensures .0) (f .ensures),
     )
 
 store-word-requires : tie.Need-store-word-requires Inv-loop μ-loop
@@ -64,4 +66,4 @@ same-length : tie.Need-same-length Inv-loop μ-loop
 same-length c = search needs
 
 pub store-rest-spec : {M : Type 1} → statement M
-store-rest-spec = tie.close (tie.spec Inv-loop μ-loop loop-holds sub-loop span-at-requires store-field-requires loop-less loop-again store-word-requires same-length returns)
+store-rest-spec = tie.close (tie.spec Inv-loop μ-loop loop-holds sub-loop span-at-requires entry-of-requires store-field-requires loop-less loop-again store-word-requires same-length returns)
