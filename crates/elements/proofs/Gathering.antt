@@ -17,6 +17,7 @@ use Rattle.tree.specs.Nodes.{nameAt}
 use Rattle.tree.specs.Represents.{Rep, restOf}
 use Rattle.tree.proofs.Firsts.{First, first}
 use Rattle.tree.proofs.Kin.{first-name}
+use Rattle.elements.proofs.Numbers.{node-first}
 use Rattle.elements.specs.Stands.{Siblings, NodeAt}
 use Rattle.elements.specs.Spans.{gather, lengthIf, cellLengths, sum, zeros, CellFrom}
 use Rattle.elements.proofs.TableRows.{parents-in}
@@ -111,7 +112,7 @@ module _ {sh ns : Bytes} {from to c : ℕ} (p : Looking sh ns from to c) where
   looking-first l = first sh ns (p .here .0) c to (p .here .1) (p .here .2) l
 
   pub looking-node : c < to → NodeAt sh ns c
-  looking-node l = record { inside = looking-first l .inside; placed = looking-first l .placed }
+  looking-node l = node-first (looking-first l)
 
   pub looking-on : c < to → «is_table_cell» (nameAt sh (placeAt ns c)) ≡ false → Looking sh ns from to (endAt ns c)
   looking-on l q =

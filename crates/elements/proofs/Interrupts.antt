@@ -46,7 +46,7 @@ unfolding nameAt
 element-name {sh} {ns} {i} x = rw (eq-eqb (getD sh (placeAt ns i) 0) 1 (its-tag (x .field))) (ap tagOf (sym (its-body (x .field))))
 
 pub element-node : {sh ns : Bytes} {i : ℕ} {name : Bytes} {attrs : List Attr} {kids : Forest} → ElementAt sh ns i name attrs kids → NodeAt sh ns i
-element-node x = record { inside = x .inside; placed = x .field .head }
+element-node x = record { inside = x .inside; placed = x .field .head; numbered = x .field .number }
 
 -- its children, where it ends at d
 pub element-kids : {sh ns : Bytes} {i d : ℕ} {name : Bytes} {attrs : List Attr} {kids : Forest} → ElementAt sh ns i name attrs kids → d ≡ endAt ns i

@@ -28,10 +28,14 @@ use Rattle.elements.specs.TextStep.{textStep}
 
 -- ---- every number of the range is a node
 
+-- the first of some siblings is one
+pub node-first : {sh ns : Bytes} {parent i e : ℕ} {f : Forest} → First sh ns parent i e f → NodeAt sh ns i
+node-first t = record { inside = t .inside; placed = t .placed; numbered = t .numbered }
+
 first-node : (sh ns : Bytes) (parent i j e : ℕ) (f : Forest) → Rep sh ns parent i e f → i < e → i ≡ j → NodeAt sh ns j
 first-node sh ns parent i j e f h l q =
     let t : First sh ns parent i e f = first sh ns parent i e f h l in
-    subst (λ (k : ℕ). NodeAt sh ns k) q (record { inside = t .inside; placed = t .placed })
+    subst (λ (k : ℕ). NodeAt sh ns k) q (node-first t)
 
 rep-node : (sh ns : Bytes) (j parent i e : ℕ) (f : Forest) → Rep sh ns parent i e f → i ≤ j → j < e → NodeAt sh ns j
 unfolding Rep

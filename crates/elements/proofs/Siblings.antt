@@ -6,6 +6,7 @@ use Rattle.spec.specs.Tree.{Forest, nothing, kidsOf}
 use Rattle.tree.specs.Memory.{endAt}
 use Rattle.tree.specs.Represents.{Rep, headOf, restOf}
 use Rattle.tree.proofs.Firsts.{First, first, ended}
+use Rattle.elements.proofs.Numbers.{node-first}
 use Rattle.elements.specs.Stands.{Siblings, NodeAt}
 
 -- of the siblings from `from` up to `to` those from i on are left: they have the value v of all
@@ -21,7 +22,7 @@ module _ {M : Type 0} {v : Forest → M} {sh ns : Bytes} {from to i : ℕ} (p : 
   left-first l = first sh ns (p .here .0) i to (p .here .1) (p .here .2) l
 
   pub left-node : i < to → NodeAt sh ns i
-  left-node l = record { inside = left-first l .inside; placed = left-first l .placed }
+  left-node l = node-first (left-first l)
 
   -- the value is what the next sibling and those behind it have
   pub left-on : i < to → ((parent : ℕ) (g : Forest) → Rep sh ns parent i to g → v g ≡ v (restOf g)) → Left v sh ns from to (endAt ns i)
@@ -44,7 +45,7 @@ module _ {M : Type 0} {v : Forest → M} {sh ns : Bytes} {from to i : ℕ} (p : 
 
 module _ (sh ns : Bytes) (parent i e : ℕ) (f : Forest) (h : Rep sh ns parent i e f) (l : i < e) where
   pub its-node : NodeAt sh ns i
-  its-node = record { inside = first sh ns parent i e f h l .inside; placed = first sh ns parent i e f h l .placed }
+  its-node = node-first (first sh ns parent i e f h l)
 
   module _ {d : ℕ} (q : d ≡ endAt ns i) where
     pub its-kids : Rep sh ns i (i + 1) d (kidsOf f)

@@ -1,5 +1,5 @@
 -- The rows of a table, found by number. Assumes nothing.
-use Prim.Native.Nat.{ℕ, _+_, _≤_, _<_}
+use Prim.Native.Nat.{ℕ, _+_, _%_, _≤_, _<_}
 use native.Mathlib.Omega.{arith}
 use mathlib.Core.Path.{_≡_, refl, ap, _∙_, sym, subst}
 use mathlib.Core.Logic.{⊎-elim}
@@ -20,7 +20,7 @@ use Rattle.tree.proofs.Building.{le-or-lt}
 use Rattle.tree.proofs.Firsts.{rep-le}
 use Rattle.tree.proofs.Kin.{first-name}
 use Rattle.tree.proofs.Ancestry.{around-in}
-use Rattle.tree.proofs.Frames.{place-kept, end-kept, parent-kept, rep-kept, around-kept}
+use Rattle.tree.proofs.Frames.{entry-kept, place-kept, end-kept, parent-kept, rep-kept, around-kept}
 use Rattle.elements.specs.Stands.{NodeAt, ElementAt}
 use Rattle.elements.specs.Rows.{RowAt, NoRow, Rows, RowsAt}
 use Rattle.elements.proofs.Siblings.{its-node}
@@ -174,14 +174,19 @@ module _ (sh ns : Bytes) where
 
 module _ {from to : ℕ} {a b : Bytes} (p : Kept from to a b) (sh : Bytes) where
   pub node-kept : (i : ℕ) → NodeAt sh a i → NodeAt sh b i
-  node-kept i n = record { inside = omega (arith, p .long, n .inside); placed = omega (arith, place-kept p i, n .placed) }
+  node-kept i n =
+      record {
+        inside = omega (arith, p .long, n .inside);
+        placed = omega (arith, place-kept p i, n .placed);
+        numbered = ap (λ (e : ℕ). e % 256) (entry-kept p i) ∙ (n .numbered ∙ ap (nameAt sh) (sym (place-kept p i)));
+      }
 
   pub element-kept : (i : ℕ) (name : Bytes) (attrs : List Attr) (kids : Forest) → ElementAt sh a i name attrs kids → ElementAt sh b i name attrs kids
   element-kept i name attrs kids x =
       record {
         positive = x .positive;
         inside = omega (arith, p .long, x .inside);
-        field = subst (λ (q : ℕ). FieldAt sh q 1 name) (sym (place-kept p i)) (x .field);
+        field = subst (λ (q : ℕ). FieldAt sh q 1 name) (sym (entry-kept p i)) (x .field);
         attrs-are = x .attrs-are ∙ ap (attrsBehind sh) (sym (place-kept p i));
         kids-are = subst (λ (j : ℕ). Rep sh b i (i + 1) j kids) (sym (end-kept p i)) (rep-kept p sh i (i + 1) (endAt a i) kids (x .kids-are));
       }

@@ -6,7 +6,8 @@ use lib.ListN.{length}
 use Rattle.spec.specs.Bytes.{Bytes}
 use Rattle.spec.specs.Tree.{Attr, Forest}
 use Rattle.spec.specs.Md.MDSerializer.{Ancestors}
-use Rattle.tree.specs.Memory.{placeAt, endAt, parentAt}
+use Rattle.tree.specs.Memory.{entryAt, placeAt, numberAt, endAt, parentAt}
+use Rattle.tree.specs.Nodes.{nameAt}
 use Rattle.tree.specs.Represents.{FieldAt, attrsBehind, Rep, Around}
 
 -- the nodes from number i up to e are some forest
@@ -17,16 +18,17 @@ Siblings sh ns i e = (parent : ℕ) × (f : Forest) × Rep sh ns parent i e f
 abbrev pub SomeNode : Bytes → Bytes → ℕ → Type 0
 SomeNode sh ns i = (e : ℕ) × (i < e) × Siblings sh ns i e
 
--- node i has a record, and a field in the sheet
+-- node i has a record, a field in the sheet, and the number of its name
 pub record NodeAt (sh ns : Bytes) (i : ℕ) : Type 0 where
   pub inside : i * 24 + 24 ≤ length ns
   pub placed : placeAt ns i + 3 ≤ length sh
+  pub numbered : numberAt ns i ≡ nameAt sh (placeAt ns i)
 
 -- node i is this element
 pub record ElementAt (sh ns : Bytes) (i : ℕ) (name : Bytes) (attrs : List Attr) (kids : Forest) : Type 0 where
   pub positive : 0 < i
   pub inside : i * 24 + 24 ≤ length ns
-  pub field : FieldAt sh (placeAt ns i) 1 name
+  pub field : FieldAt sh (entryAt ns i) 1 name
   pub attrs-are : attrs ≡ attrsBehind sh (placeAt ns i)
   pub kids-are : Rep sh ns i (i + 1) (endAt ns i) kids
 

@@ -5,11 +5,13 @@ ghost use lib.ListN.{length, take};
 ghost use Rattle.spec.specs.Tree.{Forest, «text_of»};
 ghost use Rattle.spec.specs.Bytes.{null, «trim_end»};
 ghost use Rattle.spec.specs.Out.{push};
+ghost use Rattle.spec.specs.Call.{skipTags};
 ghost use Rattle.spec.specs.Md.Elements.Link as link;
 ghost use Rattle.spec.specs.Md.Elements.Link.{hasElement};
 ghost use Rattle.tree.specs.Memory.{placeAt};
 ghost use Rattle.tree.specs.Represents.{Rep};
-ghost use Rattle.tree.specs.Nodes.{nameAt};
+ghost use Rattle.tree.specs.Nodes.{nameAt, skippedAt};
+ghost use Rattle.tree.specs.Scans.{skipList};
 ghost use Rattle.text.specs.Writes.{Writes};
 ghost use Rattle.elements.specs.Stands.{Siblings, NodeAt};
 ghost use Rattle.elements.specs.TextStep.{textStep};
@@ -20,18 +22,28 @@ use spec::ctx::FormatOpts;
 use text::buffer::Wrote;
 use text::buffer::push_all;
 use text::text_utils::push_normalized_text;
-use tree::names::name_at;
+use tree::names::is_skipped;
+use tree::nodes::node_number;
 use tree::nodes::node_place;
 use tree::nodes::tag_at;
 use tree::nodes::text_at;
 
-// The number of the name of node i; 0 where it is no element.
+// The number of the name of node i; 0 where it is no element. It stands in node memory as the sheet says it.
 pub fn node_name(sheet: &[u8], nodes: &[u8], i: usize) -> usize
     requires { ⌜ NodeAt (now sheet) (now nodes) i ⌝ }
     ensures { λ r. ⌜ r ≡ nameAt (now (sheet .entry)) (placeAt (now (nodes .entry)) i) ⌝ }
 {
+    node_number(nodes, i)
+}
+
+// Whether node i is an element that the skip list leaves out.
+pub fn node_is_skipped(sheet: &[u8], own: bool, run: &[u8], nodes: &[u8], i: usize) -> bool
+    requires { ⌜ NodeAt (now sheet) (now nodes) i ⌝ }
+    ensures { λ r. ⌜ r ≡ skippedAt (skipTags (skipList own (now (run .entry)))) (now (sheet .entry)) (placeAt (now (nodes .entry)) i) ⌝ }
+{
     let place = node_place(nodes, i);
-    name_at(sheet, place)
+    let number = node_number(nodes, i);
+    is_skipped(sheet, place, number, own, run)
 }
 
 // Whether one of the nodes from number `from` up to `to` is an element of this name.

@@ -17,6 +17,7 @@ use Rattle.text.specs.Writes.{Writes}
 use Rattle.text.specs.declared.buffer.Wrote.{Wrote}
 use Rattle.elements.specs.Stands.{ElementAt, Placed, Placeds, PlacedNode, NodeAt}
 use Rattle.serializer.specs.Writers.{WritesForest, WritesElement}
+use Rattle.elements.proofs.Numbers.{node-first}
 use Rattle.elements.proofs.Interrupts.{element-node, element-kids}
 use Rattle.elements.proofs.Languages.{around-it}
 
@@ -68,7 +69,7 @@ module _ {sh ns : Bytes} {i e : ℕ} (p : Placeds sh ns i e) (l : i < e) where
   placeds-here = first sh ns (p .parent) i e (p .forest) (p .rep) l
 
   pub placeds-at : NodeAt sh ns i
-  placeds-at = record { inside = placeds-here .inside; placed = placeds-here .placed }
+  placeds-at = node-first placeds-here
 
   pub placeds-later : i < endAt ns i
   placeds-later = placeds-here .later

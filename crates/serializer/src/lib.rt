@@ -45,6 +45,7 @@ use elements::list_nodes::kind_of;
 use elements::list_nodes::node_is_block_wrapper;
 use elements::list_nodes::node_is_list_item_block;
 use elements::nodes::has_element;
+use elements::nodes::node_is_skipped;
 use elements::nodes::node_name;
 use elements::nodes::write_text;
 use elements::nodes::write_text_node;
@@ -82,7 +83,6 @@ use text::text_utils::push_linebreak;
 use text::text_utils::trim_space;
 use tree::attributes::Value;
 use tree::attributes::attribute;
-use tree::names::is_skipped;
 use tree::nodes::node_end;
 use tree::nodes::node_place;
 use tree::nodes::tag_at;
@@ -145,7 +145,7 @@ fn node(
     if tag_at(sheet, place) != 1 {
         return write_text_node(sheet, nodes, text, len, at, opts);
     }
-    if is_skipped(sheet, place, own, run) {
+    if node_is_skipped(sheet, own, run, nodes, at) {
         return Wrote::Done(len);
     }
     match opened(sheet, nodes, text, len, at, opts) {
@@ -664,7 +664,7 @@ fn child(
     if (tag != 4) & (tag != 1) {
         return Going::On(len, first, due);
     }
-    if is_skipped(sheet, place, own, run) {
+    if node_is_skipped(sheet, own, run, nodes, c) {
         return Going::On(len, first, due);
     }
     if node_is_block_wrapper(sheet, nodes, c) {

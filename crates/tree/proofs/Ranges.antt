@@ -79,7 +79,7 @@ numbered-in sh ns n j h l m =
 pub readable : {sh ns : Bytes} {j e levels : ℕ} → Numbered sh ns j e levels → Readable sh ns j
 readable {sh} {ns} {j} n =
     let t : First sh ns (n .parent) j (endAt ns (n .parent)) (n .from-it) = first sh ns (n .parent) j _ (n .from-it) (n .rep) (n .below) in
-    record { inside = t .inside; placed = t .placed; up-inside = omega (arith, t .parent-is, n .up, t .inside) }
+    record { inside = t .inside; placed = t .placed; numbered = t .numbered; up-inside = omega (arith, t .parent-is, n .up, t .inside) }
 
 -- ---- what n numbers from i on give together
 

@@ -8,7 +8,7 @@ use lib.Dec.{eqb, ltb}
 use Rattle.spec.specs.Bytes.{Bytes, among}
 use Rattle.spec.specs.Names.{tagOf}
 use Rattle.tree.specs.Spans.{spanAt, fieldOf}
-use Rattle.tree.specs.Memory.{placeAt, endAt, parentAt}
+use Rattle.tree.specs.Memory.{placeAt, numberAt, endAt, parentAt}
 use Rattle.tree.specs.declared.nodes.Part.{Part}
 use Rattle.tree.specs.declared.nodes.Node.{Node}
 use Rattle.tree.specs.declared.nodes.Node.the-variants.{At, Nothing}
@@ -49,4 +49,5 @@ nextSibling ns i = nodeIf (ltb (endAt ns i) (endAt ns (parentAt ns i))) (endAt n
 pub record Readable (sh ns : Bytes) (i : ℕ) : Type 0 where
   pub inside : i * 24 + 24 ≤ length ns
   pub placed : placeAt ns i + 3 ≤ length sh
+  pub numbered : numberAt ns i ≡ nameAt sh (placeAt ns i)
   pub up-inside : parentAt ns i * 24 + 24 ≤ length ns

@@ -9,11 +9,11 @@ use tree::attributes::Value;
 use tree::attributes::attribute;
 use tree::attributes::language_attribute;
 use tree::names::is_skipped;
-use tree::names::name_at;
 use tree::nodes::Node;
 use tree::nodes::first_child;
 use tree::nodes::next_sibling;
 use tree::nodes::node_end;
+use tree::nodes::node_number;
 use tree::nodes::node_parent;
 use tree::nodes::node_place;
 use tree::nodes::tag_at;
@@ -69,6 +69,7 @@ fn read_record(ns: &[u8], i: usize, line: &mut [usize; 14])
     line[1] = node_parent(ns, i);
     line[2] = behind_node(first_child(ns, i), i);
     line[3] = behind_node(next_sibling(ns, i), i);
+    line[5] = node_number(ns, i);
 }
 
 // What the field at `place` says of the node.
@@ -77,7 +78,6 @@ fn read_field(sheet: &[u8], place: usize, line: &mut [usize; 14])
 {
     let text = text_at(sheet, place);
     line[4] = tag_at(sheet, place) as usize;
-    line[5] = name_at(sheet, place);
     line[6] = behind(text.start, place);
     line[7] = behind(text.end, text.start);
 }
@@ -155,7 +155,7 @@ fn read_node(
     read_record(ns, i, line);
     read_field(sheet, place, line);
     read_values(sheet, place, name, line);
-    line[12] = one_if(is_skipped(sheet, place, own, run));
+    line[12] = one_if(is_skipped(sheet, place, node_number(ns, i), own, run));
     line[13] = behind(place, before);
     place
 }
