@@ -122,6 +122,25 @@ module _ (s : Bytes) (all : Bool) (i : ℕ) (so-far : every isAscii s ≡ (all &
   unfolding every
   ascii-end h = sym (so-far ∙ rw (drop-of-length-le s h) (and-true all))
 
+-- the first k bytes are ASCII where the first n are and those of the k behind them, if there are any
+ascii-behind : (n k : ℕ) (s : Bytes) → every isAscii (take n s) ≡ true → every isAscii (take (k - n) (drop n s)) ≡ true
+    → every isAscii (take k s) ≡ true
+unfolding every
+ascii-behind zero k s h r = let all : k - 0 ≡ k = omega arith in rw all at r
+ascii-behind (suc n) zero s h r = refl
+ascii-behind (suc n) (suc k) [] h r = refl
+ascii-behind (suc n) (suc k) (b ∷ s) h r =
+    let p : (ltb b 0x80 ≡ true) × (every isAscii (take n s) ≡ true) = and-eq-true-iff _ _ .0 h in
+    let left : suc k - suc n ≡ k - n = omega arith in
+    and-eq-true-iff _ _ .1 (p .0, ascii-behind n k s (p .1) (rw left at r))
+
+-- the bytes from i to `to`, where the block at i may reach behind `to`
+pub ascii-block : (s : Bytes) (i to : ℕ) → every isAscii (take (i + 16 - i) (drop i s)) ≡ true
+    → every isAscii (take (to - (i + 16)) (drop (i + 16) s)) ≡ true → every isAscii (take (to - i) (drop i s)) ≡ true
+ascii-block s i to h r =
+    let long : i + 16 - i ≡ 16 = omega arith in let left : to - (i + 16) ≡ to - i - 16 = omega arith in
+    ascii-behind 16 (to - i) (drop i s) (rw long at h) (rw (drop-drop 16 i s, ← left) r)
+
 -- the byte at i, where the bytes from i on decide the answer and `d` says what is due there; `r` is what is due behind it
 module _ (answer : Bool) (s : Bytes) (d : Lead) (i : ℕ) (so-far : answer ≡ wellFormed (due d) (drop i s)) where
   pub unmoved : (to : ℕ) → d .more < 4 → i ≡ to → answer ≡ after d (drop to s)

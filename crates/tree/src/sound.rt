@@ -1,17 +1,20 @@
 // Questions 1 to 6 in one pass over the fields, for a sheet that they let pass.
 ghost use mathlib.Core.Path.{_≡_};
-ghost use Prim.Native.Nat.{_<_};
+ghost use Prim.Native.Nat.{_-_, _<_, _≤_};
+ghost use lib.ListN.{length, take, drop};
 ghost use Rattle.tree.specs.Sound.{soundField, Ended, Sound};
 use crate::fields::length_at;
 use crate::questions::count_after;
 use crate::questions::field_right;
 use crate::questions::open_after;
 use crate::questions::opens_blockquote;
-use crate::utf8::is_utf8;
+use crate::utf8::is_utf8_part;
 
-// Whether a field with these bytes has a tag from 1 to 6, keeps the rules, opens no block quote and is UTF-8.
-fn is_sound(before: u8, depth: usize, tag: u8, body: &[u8]) -> bool
-    ensures { λ r. ⌜ r ≡ soundField before depth tag (now (body .entry)) ⌝ }
+// Whether a field with the bytes from `start` to `end` has a tag from 1 to 6, keeps the rules, opens no block quote and
+// is UTF-8.
+fn is_sound(before: u8, depth: usize, tag: u8, s: &[u8], start: usize, end: usize) -> bool
+    requires { ⌜ (start ≤ end) × (end ≤ length (now s)) ⌝ }
+    ensures { λ r. ⌜ r ≡ soundField before depth tag (take (end - start) (drop start (now (s .entry)))) ⌝ }
 {
     if tag < 1 {
         return false;
@@ -19,13 +22,13 @@ fn is_sound(before: u8, depth: usize, tag: u8, body: &[u8]) -> bool
     if 6 < tag {
         return false;
     }
-    if !field_right(before, depth, tag, body.len()) {
+    if !field_right(before, depth, tag, end - start) {
         return false;
     }
-    if opens_blockquote(tag, body) {
+    if opens_blockquote(tag, &s[start..end]) {
         return false;
     }
-    is_utf8(body)
+    is_utf8_part(s, start, end)
 }
 
 // The count, where nothing is left over behind the fields, no name stands last, every element is closed and the count
@@ -67,7 +70,7 @@ pub fn sound_count(s: &[u8]) -> usize
             return 0;
         }
         let end = start + n;
-        if !is_sound(before, depth, tag, &s[start..end]) {
+        if !is_sound(before, depth, tag, s, start, end) {
             return 0;
         }
         depth = open_after(depth, tag);

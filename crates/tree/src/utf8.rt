@@ -1,7 +1,8 @@
 // Well-formed UTF-8.
 ghost use mathlib.Core.Path.{_≡_};
-ghost use Prim.Native.Nat.{_+_, _<_, _≤_};
-ghost use lib.ListN.{length};
+ghost use mathlib.Core.Bool.{true};
+ghost use Prim.Native.Nat.{_+_, _-_, _<_, _≤_};
+ghost use lib.ListN.{length, take, drop};
 ghost use Rattle.spec.specs.Bytes.{every};
 ghost use Rattle.spec.specs.Utf8.{isUtf8};
 ghost use Rattle.tree.specs.Lead.{leadOf, lead3Of, lead4Of, nextOf, isAscii, Behind};
@@ -213,4 +214,35 @@ pub fn is_utf8(s: &[u8]) -> bool
         return true;
     }
     is_well_formed(s)
+}
+
+// Whether the bytes from `from` to `to` are known to be ASCII. Blocks of 16 are tested; the last may reach behind `to`,
+// and where it would reach behind the end of `s`, nothing is known.
+fn is_ascii_part(s: &[u8], from: usize, to: usize) -> bool
+    requires { ⌜ (from ≤ to) × (to ≤ length (now s)) ⌝ }
+    ensures { λ r. ⌜ (r ≡ true → every isAscii (take (to - from) (drop from (now (s .entry)))) ≡ true) ⌝ }
+{
+    let mut i = from;
+    while i < to {
+        if s.len() - i < 16 {
+            return false;
+        }
+        let end = i + 16;
+        if !is_ascii(&s[i..end]) {
+            return false;
+        }
+        i = end;
+    }
+    true
+}
+
+// The same as `is_utf8`, for the bytes from `from` to `to`.
+pub fn is_utf8_part(s: &[u8], from: usize, to: usize) -> bool
+    requires { ⌜ (from ≤ to) × (to ≤ length (now s)) ⌝ }
+    ensures { λ r. ⌜ r ≡ isUtf8 (take (to - from) (drop from (now (s .entry)))) ⌝ }
+{
+    if is_ascii_part(s, from, to) {
+        return true;
+    }
+    is_utf8(&s[from..to])
 }

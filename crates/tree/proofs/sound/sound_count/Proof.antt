@@ -42,15 +42,6 @@ returns-2 c h = absurd (omega arith)
 add-end : tie.Need-add-end Inv-loop μ-loop
 add-end c = search needs
 
-sub-is-sound : tie.Need-sub-is-sound Inv-loop μ-loop
-sub-is-sound c = search needs
-
-part-is-sound-start : tie.Need-part-is-sound-start Inv-loop μ-loop
-part-is-sound-start c = search needs
-
-part-is-sound-end : tie.Need-part-is-sound-end Inv-loop μ-loop
-part-is-sound-end c = search needs
-
 is-sound-requires : tie.Need-is-sound-requires Inv-loop μ-loop
 is-sound-requires c κs = search needs
 
@@ -71,9 +62,9 @@ loop-less c = search needs
 
 loop-again : tie.Need-loop-again Inv-loop μ-loop
 loop-again c =
-    let s = c .before .before .before .before .before .before .before .before .before .before .before .before .before .args .s .now in
-    let l = c .before .before .before .before .before .before .before .before .before .before .loop in
-    let n = c .before .before .before .before .before .before .before .before .length-at in
+    let s = c .before .before .before .before .before .before .before .before .before .before .before .before .args .s .now in
+    let l = c .before .before .before .before .before .before .before .before .before .loop in
+    let n = c .before .before .before .before .before .before .before .length-at in
     let o = c .before .before .open-after in
     on s (l .p) (n .result) (l .before) (l .depth) (l .count) (omega arith) (n .ensures .0) (omega arith) (l .inv)
     (sym (c .before .before .before .before .is-sound .ensures) ∙ not-false _ (c .before .before .before .if3 .left))
@@ -94,4 +85,4 @@ returns-5 c h =
     sound _ (l .p) (l .before) (l .depth) (l .count) _ (omega arith) (l .inv) (c .count-at-end .ensures h)
 
 pub sound-count-spec : {M : Type 1} → statement M
-sound-count-spec = tie.close (tie.spec Inv-loop μ-loop returns loop-holds sub-loop length-at-requires shared-slice-read-tag add-start sub-if2 returns-2 add-end sub-is-sound part-is-sound-start part-is-sound-end is-sound-requires returns-3 open-after-requires returns-4 count-after-requires loop-less loop-again sub-count-at-end add-count-at-end count-at-end-requires returns-5)
+sound-count-spec = tie.close (tie.spec Inv-loop μ-loop returns loop-holds sub-loop length-at-requires shared-slice-read-tag add-start sub-if2 returns-2 add-end is-sound-requires returns-3 open-after-requires returns-4 count-after-requires loop-less loop-again sub-count-at-end add-count-at-end count-at-end-requires returns-5)
