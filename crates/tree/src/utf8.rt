@@ -244,5 +244,5 @@ pub fn is_utf8_part(s: &[u8], from: usize, to: usize) -> bool
     if is_ascii_part(s, from, to) {
         return true;
     }
-    is_utf8(&s[from..to])
+    is_well_formed(&s[from..to])
 }

@@ -10,17 +10,17 @@ is-ascii-part-requires c κs = search needs
 returns : tie.Need-returns
 returns c = all-ascii _ (c .before .is-ascii-part .ensures (c .if1 .taken))
 
-sub-is-utf8 : tie.Need-sub-is-utf8
-sub-is-utf8 c = search needs
+sub-is-well-formed : tie.Need-sub-is-well-formed
+sub-is-well-formed c = search needs
 
-part-is-utf8-start : tie.Need-part-is-utf8-start
-part-is-utf8-start c = search needs
+part-is-well-formed-start : tie.Need-part-is-well-formed-start
+part-is-well-formed-start c = search needs
 
-part-is-utf8-end : tie.Need-part-is-utf8-end
-part-is-utf8-end c = search needs
+part-is-well-formed-end : tie.Need-part-is-well-formed-end
+part-is-well-formed-end c = search needs
 
-is-utf8-requires : tie.Need-is-utf8-requires
-is-utf8-requires c κs = search needs
+is-well-formed-requires : tie.Need-is-well-formed-requires
+is-well-formed-requires c κs = search needs
 
 returns-2 : tie.Need-returns-2
 returns-2 c = search needs
@@ -31,8 +31,8 @@ is-utf8-part-spec =
     (tie.spec
     is-ascii-part-requires
     returns
-    sub-is-utf8
-    part-is-utf8-start
-    part-is-utf8-end
-    is-utf8-requires
+    sub-is-well-formed
+    part-is-well-formed-start
+    part-is-well-formed-end
+    is-well-formed-requires
     returns-2)
