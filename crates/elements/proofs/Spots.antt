@@ -234,7 +234,7 @@ module _ (skips : List Bytes) (opts : FormatOpts) (sh ns : Bytes) (top o at : �
           stays-turn (element name attrs k r) r l (endAt ns at) (omega (arith, rep-le sh ns at (at + 1) (endAt ns at) k (h .4)))
           (below-skipped skips sh ns o at (sym skips-it ∙ e)) (h .5) (λ t. rw e (ap (λ (x : Out). andThen x (writeSkipMd skips opts r)) (sym (none t))))
       go false e =
-          opens-turn (element name attrs k r) r l k (below-in skips sh ns o at (sym skips-it ∙ e) tag) (record { inside = h .0; placed = h .1 .head }) (h .3)
+          opens-turn (element name attrs k r) r l k (below-in skips sh ns o at (sym skips-it ∙ e) tag) (record { inside = h .0; placed = h .1 .head; numbered = h .1 .number }) (h .3)
           (rep-le sh ns o (endAt ns at) (endAt ns o) r (h .5)) (h .4) (h .5) none
           (λ t. rw (e, name-is))
 
