@@ -76,6 +76,10 @@ less-or-not {A} i k f g = on (ltb i k) refl
     on true e = f (ltb-true i k e)
     on false e = g (ltb-false i k e)
 
+-- a byte stands behind them
+pub flows-short : {s : Bytes} {n : ℕ} → Flows s n → 0 < length s → n < length s
+flows-short {s} {n} f h = less-or-not n (length s) (λ k. k) (λ k. absurd (omega (arith, f .each (length s - 1) (omega arith) .followed)))
+
 pub flow-split : (escape : Bool) (part rest : Bytes) → flow escape (part ++ rest) ≡ flowBefore escape part rest ++ flow escape rest
 unfolding flow flowBefore
 flow-split escape [] rest = refl

@@ -26,7 +26,8 @@ is-plain-block-requires : tie.Need-is-plain-block-requires Inv-loop μ-loop
 is-plain-block-requires c κs = search needs
 
 returns : tie.Need-returns Inv-loop μ-loop
-returns c = ?
+returns c =
+    c .before .before .before .loop .inv
 
 add-at : tie.Need-add-at Inv-loop μ-loop
 add-at c = search needs
@@ -35,10 +36,16 @@ loop-less : tie.Need-loop-less Inv-loop μ-loop
 loop-less c = search needs
 
 loop-again : tie.Need-loop-again Inv-loop μ-loop
-loop-again c = ?
+loop-again c =
+    let l = c .before .before .before .loop in
+    record {
+      within = omega arith;
+      each = λ i h. less-or-not i (l .at) (l .inv .each i) (λ k. c .before .is-plain-block .ensures (not-false (c .before .is-plain-block .result) (c .if1 .left)) i k h);
+    }
 
 returns-2 : tie.Need-returns-2 Inv-loop μ-loop
-returns-2 c = ?
+returns-2 c =
+    c .before .loop .inv
 
 pub plain-blocks-spec : {M : Type 1} → statement M
 plain-blocks-spec = tie.close (tie.spec Inv-loop μ-loop loop-holds sub-loop is-plain-block-requires returns add-at loop-less loop-again returns-2)
