@@ -8,12 +8,12 @@ use lib.ListN.{length, take, drop, getD, drop-of-length-le}
 use lib.Seq.{drop-cons, take-suc, take-all}
 use lib.Dec.{eqb, ltb}
 use borrow.Author.Tests.{eqb-true, eqb-false, ne-eqb, ltb-true, ltb-false, not-true}
-use Rattle.spec.specs.Bytes.{Bytes, ascii, null, same, isin, every, startsWith, endsWith, white, isBlank, words, split, parts, cutAt, filled, one, «trim_end_matches», «trim_ascii_end»}
+use Rattle.spec.specs.Bytes.{Bytes, ascii, null, same, isin, every, startsWith, white, isBlank, words, split, parts, cutAt, filled, one, «trim_end_matches», «trim_ascii_end»}
 use Rattle.spec.specs.Md.Constants.{«ALWAYS_ESCAPED»}
 use Rattle.spec.specs.Md.TextUtils as def
 use Rattle.spec.specs.declared.ctx.FormatOpts as Opts
 use Rattle.text.specs.Class.{ordinary}
-use Rattle.text.specs.Flow.{startsBlack, added, flow, flowBefore, plain, Plain, Flows}
+use Rattle.text.specs.Flow.{startsBlack, added, flow, flowBefore, plain, Flows}
 use Rattle.text.specs.Marks.{marks}
 use Rattle.text.proofs.Reading.{same-self}
 use Rattle.text.proofs.Trimming.{trim-here}

@@ -1,29 +1,18 @@
 -- Words of ordinary bytes: they are appended as they are. Assumes nothing.
-use Prim.Native.Nat.{ℕ, zero, suc, _+_, _-_, _≤_, _<_, zero-le}
-use mathlib.Core.Path.{_≡_, refl, sym, ap, subst, _∙_}
+use Prim.Native.Nat.{ℕ, suc, _-_, _≤_, _<_}
+use mathlib.Core.Path.{_≡_, refl, sym, ap, _∙_}
 use mathlib.Core.Bool.{Bool, true, false, cond, not, _&&_, _||_, false≢true, and-false, or-false}
-use mathlib.Core.List.{List, [], _∷_, _++_, append-assoc, append-nil}
+use mathlib.Core.List.{List, [], _∷_, _++_}
 use native.Mathlib.Omega.{arith}
-use native.Mathlib.Numerals.{add-one}
-use lib.ListN.{length, take, drop, getD, length-drop, take-append-drop}
-use lib.Seq.{slice, length-slice, drop-drop, take-add, take-length, drop-length, getD-drop, getD-take}
+use lib.ListN.{length, take, getD}
 use lib.Dec.{eqb}
-use borrow.Author.Tests.{eqb-true, ne-eqb, le-leb, lt-leb}
-use Rattle.spec.specs.Bytes.{ascii, null, same, isin, white, digit, every, isBlank, words, split, parts, filled, startsWith, endsWith, «trim_start_matches»}
-use Rattle.spec.specs.Out.{andThen, push}
+use borrow.Author.Tests.{ne-eqb, le-leb, lt-leb}
+use Rattle.spec.specs.Bytes.{ascii, null, isin, white, digit, every, startsWith, endsWith}
 use Rattle.spec.specs.Md.Constants.{«ALWAYS_ESCAPED»}
-use Rattle.spec.specs.Md.TextUtils.{isEscaped, escapedFrom, escapedChunk, moreWords, normalized, normalizedWords, startsWithWhite, endsWithWhite, «ends_with_marker_digits», «is_ordered_list_marker»}
-use Rattle.spec.specs.declared.ctx.FormatOpts.{FormatOpts}
+use Rattle.spec.specs.Md.TextUtils.{isEscaped, escapedFrom, escapedChunk, «is_ordered_list_marker»}
 use Rattle.text.specs.Class.{ordinary}
 use Rattle.text.specs.Marks.{marks}
-use Rattle.text.specs.Source.{store, Apart}
-use Rattle.text.specs.Trimmed.{Skipped}
-use Rattle.text.specs.Words.{OrdinaryWords}
 use Rattle.tree.proofs.Sequences.{below, below-at}
-use Rattle.text.proofs.Reading.{starts-byte, starts-short}
-use Rattle.text.proofs.Writing.{push-both}
-use Rattle.text.proofs.Sourcing.{Still, slice-kept, store-long}
-use Rattle.text.proofs.Wording.{black, shorter, words-white, words-first, slice-front}
 
 -- ---- ordinary bytes
 
@@ -49,7 +38,7 @@ pub not-escaped : (u : Bool) (b : ℕ) (s : List ℕ) → isin b «ALWAYS_ESCAPE
 unfolding isEscaped
 not-escaped u b s e f = rw (e, f) refl
 
-pub ordinary-escaped : (u : Bool) (s : List ℕ) → every ordinary s ≡ true → escapedFrom false false u s ≡ s
+ordinary-escaped : (u : Bool) (s : List ℕ) → every ordinary s ≡ true → escapedFrom false false u s ≡ s
 unfolding escapedFrom every
 ordinary-escaped u [] h = refl
 ordinary-escaped u (b ∷ s) h =
@@ -58,7 +47,7 @@ ordinary-escaped u (b ∷ s) h =
     ap (λ (t : Bool). cond t (ascii "\\") [] ++ (b ∷ escapedFrom false false u s)) (not-escaped u b s (r .1) (r .2))
     ∙ ap (λ (x : List ℕ). b ∷ x) (ordinary-escaped u s (q .1))
 
-pub ordinary-chunk : (s : List ℕ) (escape : Bool) → every ordinary s ≡ true → escapedChunk s escape false ≡ s
+ordinary-chunk : (s : List ℕ) (escape : Bool) → every ordinary s ≡ true → escapedChunk s escape false ≡ s
 unfolding escapedChunk
 ordinary-chunk s true h = ordinary-escaped (every (λ b. eqb b 61) s) s h
 ordinary-chunk s false h = refl
@@ -72,7 +61,7 @@ all-inside : below inside 256 ≡ true
 unfolding below inside white isin
 all-inside = refl
 
-agree : (x y : Bool) → cond x y (not y) ≡ true → x ≡ y
+pub agree : (x y : Bool) → cond x y (not y) ≡ true → x ≡ y
 agree true true e = refl
 agree true false e = sym e
 agree false true e = e

@@ -1,7 +1,7 @@
 -- `text::normalize::is_bare_text` meets its contract. Assumes nothing.
 use Prim.Native.Nat.{ℕ, zero, suc, _-_, _<_}
 use mathlib.Core.Path.{_≡_, sym, _∙_}
-use mathlib.Core.Bool.{Bool, true, false, _||_, false≢true}
+use mathlib.Core.Bool.{false, _||_, false≢true}
 use lib.ListN.{length}
 use lib.Dec.{eqb, ltb}
 use Rattle.text.proofs.Ordinary.{both}
@@ -27,19 +27,29 @@ some zero e = absurd (false≢true (sym e))
 some (suc n) e = omega arith
 
 is-plain-text-requires : tie.Need-is-plain-text-requires
-is-plain-text-requires c κs = ?
+is-plain-text-requires c κs =
+    some (length (c .before .before .before .before .args .s .now)) (c .before .before .if1 .left)
 
 sub-is-in : tie.Need-sub-is-in
-sub-is-in c = ?
+sub-is-in c =
+    some (length (c .before .before .before .before .before .args .s .now)) (c .before .before .before .if1 .left)
 
 shared-slice-read-is-in : tie.Need-shared-slice-read-is-in
-shared-slice-read-is-in c = ?
+shared-slice-read-is-in c =
+    omega (arith, some (length (c .before .before .before .before .before .before .args .s .now)) (c .before .before .before .before .if1 .left))
 
 is-in-requires : tie.Need-is-in-requires
 is-in-requires c κs = search needs
 
 returns-3 : tie.Need-returns-3
-returns-3 c = ?
+returns-3 c =
+    let s = c .before .before .before .before .before .before .before .args .s .now in
+    let plain = c .before .before .is-plain-text in
+    let h = some (length s) (c .before .before .before .before .before .if1 .left) in
+    λ e.
+    let q = both (plain .result) (c .is-in .result) e in
+    bare-flow {s = s} {n = length s - 1} (omega arith) (c .before .before .before .before .starts-low .ensures (c .before .before .before .if2 .left) h)
+    (plain .ensures (q .0) (length s - 1) (omega arith)) (sym (c .is-in .ensures) ∙ q .1)
 
 pub is-bare-text-spec : {M : Type 1} → statement M
 is-bare-text-spec = tie.close (tie.spec returns starts-low-requires returns-2 is-plain-text-requires sub-is-in shared-slice-read-is-in is-in-requires returns-3)

@@ -1,13 +1,12 @@
 -- `text::normalize::is_plain_at` meets its contract. Assumes nothing.
 use Prim.Native.Nat.{ℕ, _+_, _≤_}
 use mathlib.Core.Path.{_≡_, sym, ap, _∙_}
-use mathlib.Core.Bool.{Bool, true, false, not, _&&_, _||_, false≢true, or-true}
+use mathlib.Core.Bool.{Bool, true, not, _&&_, _||_, false≢true, or-true}
 use lib.ListN.{getD}
 use lib.Dec.{eqb}
 use native.Mathlib.Omega.{arith}
 use borrow.Author.Tests.{eq-eqb, ltb-true}
 use Rattle.spec.specs.Bytes.{white}
-use Rattle.text.specs.Class.{ordinary}
 use Rattle.text.specs.Flow.{plain}
 use Rattle.text.proofs.Ordinary.{not-white}
 use borrow.Author.Needs.{needs}

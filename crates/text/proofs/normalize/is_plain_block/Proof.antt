@@ -2,7 +2,6 @@
 use Prim.Native.Nat.{ℕ, _+_, _-_, _≤_, _<_}
 use mathlib.Core.Path.{_≡_, subst}
 use mathlib.Core.Bool.{true}
-use lib.ListN.{length, getD}
 use Rattle.text.specs.Flow.{Plain}
 use Rattle.text.proofs.Ordinary.{both}
 use Rattle.text.proofs.Flowing.{less-or-not}

@@ -1,8 +1,7 @@
 -- `text::normalize::is_plain_text` meets its contract. Assumes nothing.
-use Prim.Native.Nat.{ℕ, _+_, _-_, _≤_}
-use mathlib.Core.Path.{_≡_, subst}
-use mathlib.Core.Bool.{true, false≢true}
-use lib.ListN.{length}
+use Prim.Native.Nat.{_-_, _≤_}
+use mathlib.Core.Path.{subst}
+use mathlib.Core.Bool.{false≢true}
 use borrow.Author.Tests.{not-false}
 use Rattle.text.specs.Flow.{Plain, Flows}
 use Rattle.text.proofs.Flowing.{less-or-not, flows-short}

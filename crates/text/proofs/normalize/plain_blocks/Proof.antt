@@ -1,5 +1,5 @@
 -- `text::normalize::plain_blocks` meets its contract. Assumes nothing.
-use Prim.Native.Nat.{ℕ, _-_}
+use Prim.Native.Nat.{_-_}
 use lib.ListN.{length}
 use borrow.Author.Tests.{not-false}
 use Rattle.text.specs.Flow.{Flows}
