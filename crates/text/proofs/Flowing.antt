@@ -21,15 +21,11 @@ use Rattle.text.proofs.Ordinary.{both, ordinary-parts, not-escaped, inn
 
 -- ---- plain bytes
 
-ordinary-added : (escape : Bool) (b : ℕ) (rest : Bytes) → ordinary b ≡ true → added escape b rest ≡ b ∷ []
+pub added-ordinary : (escape : Bool) (b : ℕ) (rest : Bytes) → ordinary b ≡ true → added escape b rest ≡ b ∷ []
 unfolding added
-ordinary-added escape b rest h =
+added-ordinary escape b rest h =
     let r = ordinary-parts (white b) (isin b «ALWAYS_ESCAPED») (eqb b 33) h in
-    rw (r .0, not-escaped false b rest (r .1) (r .2)) (none escape)
-  where
-    none : (t : Bool) → cond (t && false) (ascii "\\") [] ++ (b ∷ []) ≡ b ∷ []
-    none true = refl
-    none false = refl
+    rw (r .0, not-escaped false b rest (r .1) (r .2), and-false escape)
 
 blank-white : (b : ℕ) → eqb b 32 ≡ true → white b ≡ true
 unfolding white isin
@@ -43,7 +39,7 @@ plain-added : (escape : Bool) (b c : ℕ) (rest : Bytes) → plain b c ≡ true 
 plain-added escape b c rest = on (ordinary b) refl
   where
     on : (t : Bool) → ordinary b ≡ t → t || (eqb b 32 && not (white c)) ≡ true → added escape b (c ∷ rest) ≡ b ∷ []
-    on true e h = ordinary-added escape b (c ∷ rest) e
+    on true e h = added-ordinary escape b (c ∷ rest) e
     on false e h = let q = both (eqb b 32) (not (white c)) h in blank-added escape b c rest (q .0) (not-true (white c) (q .1))
 
 flows-rest : {b : ℕ} {s : Bytes} {n : ℕ} → Flows (b ∷ s) (suc n) → Flows s n
@@ -201,7 +197,7 @@ module _ (b : ℕ) (s : Bytes) (n : ℕ) (long : length (b ∷ s) ≡ n + 1) (le
       let x = getD (b ∷ s) n 0 in
       let q : drop n (b ∷ s) ≡ x ∷ [] = drop-cons (b ∷ s) n 0 (omega arith) ∙ ap (λ (r : Bytes). x ∷ r) (drop-of-length-le (b ∷ s) {i = suc n} (omega arith)) in
       flows-flow f escape ∙ ap (λ (r : Bytes). take n (b ∷ s) ++ flow escape r) q
-      ∙ ap (λ (r : Bytes). take n (b ∷ s) ++ (r ++ [])) (ordinary-added escape x [] last)
+      ∙ ap (λ (r : Bytes). take n (b ∷ s) ++ (r ++ [])) (added-ordinary escape x [] last)
       ∙ sym (take-suc (b ∷ s) n 0 (omega arith)) ∙ take-all (suc n) (b ∷ s) (omega arith)
 
   parts-are : parts white (b ∷ s) ≡ (first, parts white s .1)
@@ -232,12 +228,14 @@ module _ (b : ℕ) (s : Bytes) (n : ℕ) (long : length (b ∷ s) ≡ n + 1) (le
       ∙ ap (λ (r : Bytes × List Bytes). marks escape false false false (r .0) ++ def.moreWords escape (filled (r .1))) (sym parts-are)
       ∙ sym (parted escape (b ∷ s)) ∙ flow-is escape
 
+  black-last : white (getD (b ∷ s) n 0) ≡ false
+  black-last = let x = getD (b ∷ s) n 0 in ordinary-parts (white x) (isin x «ALWAYS_ESCAPED») (eqb x 33) last .0
+
   black-end : def.endsWithWhite (b ∷ s) ≡ false
   unfolding def.endsWithWhite «trim_ascii_end»
   black-end =
-      let w : white (getD (b ∷ s) (suc n - 1) 0) ≡ false =
-          let e : n ≡ suc n - 1 = omega arith in
-          subst (λ (k : ℕ). white (getD (b ∷ s) k 0) ≡ false) e (ordinary-parts (white (getD (b ∷ s) n 0)) (isin (getD (b ∷ s) n 0) «ALWAYS_ESCAPED») (eqb (getD (b ∷ s) n 0) 33) last .0) in
+      let e : n ≡ suc n - 1 = omega arith in
+      let w = subst (λ (k : ℕ). white (getD (b ∷ s) k 0) ≡ false) e black-last in
       let q = take-all (suc n) (b ∷ s) (omega arith) in
       ap (λ (x : Bytes). not (same x (b ∷ s))) (ap («trim_end_matches» (one white)) (sym q) ∙ trim-here white (b ∷ s) (suc n) (omega arith) (omega arith) w ∙ q)
       ∙ ap not (same-self (b ∷ s))

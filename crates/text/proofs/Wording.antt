@@ -24,7 +24,7 @@ use Rattle.text.proofs.Reading.{drop-take, null-some}
 abbrev pub black : ℕ → Bool
 black b = not (white b)
 
-pub shorter : (p : ℕ → Bool) (s : List ℕ) → length («trim_start_matches» p s) ≤ length s
+shorter : (p : ℕ → Bool) (s : List ℕ) → length («trim_start_matches» p s) ≤ length s
 unfolding «trim_start_matches»
 shorter p [] = omega arith
 shorter p (b ∷ s) = go (shorter p s) (p b)
@@ -35,7 +35,7 @@ shorter p (b ∷ s) = go (shorter p s) (p b)
 
 -- ---- white bytes in front
 
-pub words-white : (s : List ℕ) → words s ≡ words («trim_start_matches» white s)
+words-white : (s : List ℕ) → words s ≡ words («trim_start_matches» white s)
 unfolding words split parts cutAt filled null «trim_start_matches»
 words-white [] = refl
 words-white (b ∷ s) = go (words-white s) (white b) refl
@@ -132,7 +132,7 @@ black-some (b ∷ s) zero h e p =
     absurd (omega (arith, ap length q, shorter black s))
 black-some (b ∷ s) (suc k) h e p = omega arith
 
-pub words-first : (s : List ℕ) (k : ℕ) → 0 < k → Skipped s k («trim_start_matches» black s) → words s ≡ take k s ∷ words (drop k s)
+words-first : (s : List ℕ) (k : ℕ) → 0 < k → Skipped s k («trim_start_matches» black s) → words s ≡ take k s ∷ words (drop k s)
 unfolding words split filled
 words-first s k h p =
     let r = first-parts s k p in

@@ -48,12 +48,13 @@ loop-again : tie.Need-loop-again Inv-loop μ-loop
 loop-again c =
     let a = c .before .before .before .before .before .before .args in
     let s = a .s .now in
-    let l = c .before .before .before .before .loop in
-    (omega arith,
-    λ e j h k.
-    let q = both (l .all) (c .is-plain .result) e in
-    less-or-not j (a .at + l .i) (l .inv .1 (q .0) j h)
-    (λ m. subst (Plain s) (omega arith) (record { followed = omega arith; adds-itself = c .is-plain .ensures (q .1) })))
+    let l = c .before .before .before .before .loop in (
+      omega arith,
+      λ e j h k.
+          let q = both (l .all) (c .is-plain .result) e in
+          less-or-not j (a .at + l .i) (l .inv .1 (q .0) j h)
+          (λ m. subst (Plain s) (omega arith) (record { followed = omega arith; adds-itself = c .is-plain .ensures (q .1) })),
+    )
 
 returns : tie.Need-returns Inv-loop μ-loop
 returns c =
