@@ -1,10 +1,10 @@
 // push_normalized_text of text_utils.rs with push_escaped_chunk, for a text from another slice or from the own memory.
 // What is read is src or, where `own` says so, text; what is written stays before `room`.
 ghost use mathlib.Core.Path.{_≡_};
-ghost use mathlib.Core.Bool.{Bool, cond, true, false, _||_, _&&_};
+ghost use mathlib.Core.Bool.{Bool, cond, true, false, _||_};
 ghost use mathlib.Core.List.{List, [], _∷_, _++_};
 ghost use Prim.Native.Nat.{ℕ, _+_, _≤_, _<_};
-ghost use lib.ListN.{length, take, drop, getD};
+ghost use lib.ListN.{length, take, getD};
 ghost use lib.Seq.{slice};
 ghost use Rattle.spec.specs.Bytes.{ascii, startsWith, isin, every, white, words, same, «trim_start_matches»};
 ghost use Rattle.spec.specs.Out.{push};
@@ -26,7 +26,6 @@ use crate::buffer::ends_with_white;
 use crate::buffer::is_in;
 use crate::buffer::push_all;
 use crate::buffer::push_byte;
-use crate::buffer::starts_with_byte;
 use crate::buffer::trim_start_matches;
 use crate::text_utils::ends_with_marker_digits;
 use crate::text_utils::is_ordered_list_marker;
