@@ -28,7 +28,7 @@ use Rattle.text.proofs.Wording.{black, shorter, words-white, words-firs
 -- ---- ordinary bytes
 
 -- an ordinary byte is not white, not escaped wherever it stands, and no `!`
-ordinary-parts : (w e x : Bool) → not w && (not e && not x) ≡ true → (w ≡ false) × (e ≡ false) × (x ≡ false)
+pub ordinary-parts : (w e x : Bool) → not w && (not e && not x) ≡ true → (w ≡ false) × (e ≡ false) × (x ≡ false)
 ordinary-parts true e x h = absurd (false≢true h)
 ordinary-parts false true x h = absurd (false≢true h)
 ordinary-parts false false true h = absurd (false≢true h)
@@ -68,7 +68,7 @@ ordinary-front (b ∷ s) (suc k) p = on (λ q. ordinary-front s k (record { with
 
 -- ---- no escapes
 
-not-escaped : (u : Bool) (b : ℕ) (s : List ℕ) → isin b «ALWAYS_ESCAPED» ≡ false → eqb b 33 ≡ false → isEscaped false false u b s ≡ false
+pub not-escaped : (u : Bool) (b : ℕ) (s : List ℕ) → isin b «ALWAYS_ESCAPED» ≡ false → eqb b 33 ≡ false → isEscaped false false u b s ≡ false
 unfolding isEscaped
 not-escaped u b s e f = rw (e, f) refl
 
