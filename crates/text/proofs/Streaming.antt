@@ -16,7 +16,7 @@ use Rattle.text.specs.Class.{ordinary}
 use Rattle.text.specs.Flow.{startsBlack, added, flow, flowBefore, Flows}
 use Rattle.text.specs.Source.{store, Apart}
 use Rattle.text.proofs.Writing.{push-both}
-use Rattle.text.proofs.Sourcing.{Still, slice-kept, store-long, part-none}
+use Rattle.text.proofs.Sourcing.{Still, slice-kept, getD-kept, store-long, part-none}
 use Rattle.text.proofs.Wording.{slice-front}
 use Rattle.text.proofs.Ordinary.{ordinary-parts, not-escaped, escaped-inside, bang-inside}
 use Rattle.text.proofs.Flowing.{flows-flow, flow-split}
@@ -71,18 +71,9 @@ slice-join s i m to h k =
     ∙ ap (λ (x : List ℕ). take (m - i) (slice i to s) ++ x) (ap (λ (j : ℕ). slice j to s) (sym z) ∙ sym (drop-drop (m - i) i (take to s)))
     ∙ take-append-drop (m - i) (slice i to s)
 
-module _ (s : List ℕ) (i stop to : ℕ) (escape : Bool) (t : List ℕ) where
-  pub bytes-turn : i < stop → stop ≤ to → to ≤ length s
-      → push (flowBefore escape (slice i stop s) (slice stop to s)) t ≡ andThen (push (added escape (getD s i 0) (slice (i + 1) to s)) t) (push (flowBefore escape (slice (i + 1) stop s) (slice stop to s)))
-  unfolding flowBefore
-  bytes-turn h k l =
-      ap (λ (x : List ℕ). push (flowBefore escape x (slice stop to s)) t) (slice-on s i stop h (omega arith))
-      ∙ ap (λ (x : List ℕ). push (added escape (getD s i 0) x ++ flowBefore escape (slice (i + 1) stop s) (slice stop to s)) t) (slice-join s (i + 1) stop to (omega arith) k)
-      ∙ push-both (added escape (getD s i 0) (slice (i + 1) to s)) (flowBefore escape (slice (i + 1) stop s) (slice stop to s)) t
-
-  pub bytes-ended : stop ≤ i → push (flowBefore escape (slice i stop s) (slice stop to s)) t ≡ push [] t
-  unfolding flowBefore
-  bytes-ended h = ap (λ (x : List ℕ). push (flowBefore escape x (slice stop to s)) t) (part-none i stop s h)
+pub bytes-ended : (s : List ℕ) (i stop to : ℕ) (escape : Bool) (t : List ℕ) → stop ≤ i → push (flowBefore escape (slice i stop s) (slice stop to s)) t ≡ push [] t
+unfolding flowBefore
+bytes-ended s i stop to escape t h = ap (λ (x : List ℕ). push (flowBefore escape x (slice stop to s)) t) (part-none i stop s h)
 
 pub flow-ended : (s : List ℕ) (i to : ℕ) (escape : Bool) (t : List ℕ) → to ≤ i → push (flow escape (slice i to s)) t ≡ push [] t
 unfolding flow
@@ -104,6 +95,19 @@ module _ {own : Bool} {text src : List ℕ} {room from to : ℕ} (p : Apart own 
         (flows-flow w escape ∙ ap (λ (x : List ℕ). x ++ flow escape (drop k (slice i to (store own now src)))) (slice-front (store own now src) i to k plain-reach)
         ∙ ap (λ (x : List ℕ). slice i (i + k) (store own now src) ++ flow escape x) (drop-drop k i (take to (store own now src)) ∙ slice-kept p q (i + k) to (omega (arith, h))))
         ∙ push-both (slice i (i + k) (store own now src)) (flow escape (slice (i + k) to (store own text src))) t
+
+  -- one byte
+  pub byte-turn : (stop : ℕ) (escape : Bool) (t : List ℕ) → i < stop → stop ≤ to
+      → push (flowBefore escape (slice i stop (store own text src)) (slice stop to (store own text src))) t
+      ≡ andThen (push (added escape (getD (store own now src) i 0) (slice (i + 1) to (store own now src))) t) (push (flowBefore escape (slice (i + 1) stop (store own text src)) (slice stop to (store own text src))))
+  unfolding flowBefore
+  byte-turn stop escape t l m =
+      let s = store own text src in
+      let g = flowBefore escape (slice (i + 1) stop s) (slice stop to s) in
+      ap (λ (x : List ℕ). push (flowBefore escape x (slice stop to s)) t) (slice-on s i stop l (omega (arith, p .within)))
+      ∙ ap (λ (x : List ℕ). push (added escape (getD s i 0) x ++ g) t) (slice-join s (i + 1) stop to (omega arith) m ∙ sym (slice-kept p q (i + 1) to (omega (arith, h))))
+      ∙ ap (λ (x : ℕ). push (added escape x (slice (i + 1) to (store own now src)) ++ g) t) (sym (getD-kept p q i h))
+      ∙ push-both (added escape (getD (store own now src) i 0) (slice (i + 1) to (store own now src))) g t
 
   -- the bytes up to `stop`
   pub stretch-turn : (stop : ℕ) (escape : Bool) (t : List ℕ) → i ≤ stop → stop ≤ to

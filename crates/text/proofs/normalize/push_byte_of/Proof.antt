@@ -1,7 +1,24 @@
 -- `text::normalize::push_byte_of` meets its contract. Assumes nothing.
+use Prim.Native.Nat.{ℕ, _+_}
+use mathlib.Core.Path.{_≡_, refl, sym, ap, _∙_}
+use mathlib.Core.Bool.{Bool, cond, _&&_}
+use mathlib.Core.List.{List, [], _∷_, _++_}
+use lib.ListN.{take}
+use lib.Seq.{slice}
+use Rattle.spec.specs.Bytes.{ascii}
+use Rattle.spec.specs.Out.{push}
+use Rattle.text.specs.Flow.{added}
+use Rattle.text.specs.Source.{store}
+use Rattle.text.proofs.Writing.{yes, no}
+use Rattle.text.proofs.Sourcing.{owed-all, owed-nothing, alike-in}
+use Rattle.text.proofs.Streaming.{added-ordinary, added-white, added-bang, added-other}
 use borrow.Author.Needs.{needs}
 use Rattle.text.proofs.normalize.push_byte_of.Statement.{statement}
 use Rattle.text.proofs.normalize.push_byte_of.Tie as tie
+
+-- what is appended is what the byte adds
+adds : (escape : Bool) {b x : ℕ} (rest t : List ℕ) {y : List ℕ} → b ≡ x → added escape b rest ≡ y → push (added escape x rest) t ≡ push y t
+adds escape rest t e f = ap (λ (z : List ℕ). push z t) (ap (λ (z : ℕ). added escape z rest) (sym e) ∙ f)
 
 byte-at-requires : tie.Need-byte-at-requires
 byte-at-requires c κs = search needs
@@ -16,7 +33,12 @@ same-length : tie.Need-same-length
 same-length c = search needs
 
 returns : tie.Need-returns
-returns c = ?
+returns c =
+    let a = c .before .before .before .before .before .before .before .before .before .before .args in
+    let s = store (a .own) (a .text .now) (a .src .now) in
+    let rest = slice (a .i + 1) (a .to) s in
+    let b = c .before .before .before .before .before .before .byte-at in
+    alike-in (adds (a .escape) rest (take (a .len) (a .text .now)) (b .ensures) (added-ordinary (a .escape) (b .result) rest (sym (c .before .before .before .before .before .is-in .ensures) ∙ c .before .before .before .before .if1 .taken))) (c .before .before .put .ensures)
 
 is-in-requires-2 : tie.Need-is-in-requires-2
 is-in-requires-2 c κs = search needs
@@ -34,13 +56,23 @@ same-length-2 : tie.Need-same-length-2
 same-length-2 c = search needs
 
 returns-2 : tie.Need-returns-2
-returns-2 c = ?
+returns-2 c =
+    let a = c .before .before .before .before .before .before .before .before .before .before .before .before .before .before .before .args in
+    let s = store (a .own) (a .text .now) (a .src .now) in
+    let rest = slice (a .i + 1) (a .to) s in
+    let b = c .before .before .before .before .before .before .before .before .before .before .before .byte-at in
+    alike-in (adds (a .escape) rest (take (a .len) (a .text .now)) (b .ensures) (added-white (a .escape) (b .result) rest (sym (c .before .before .before .before .before .before .before .before .is-in2 .ensures) ∙ c .before .before .before .before .before .before .before .if2 .taken) ∙ yes (ascii " ") [] (sym (c .before .before .before .before .before .begins-word .ensures) ∙ c .before .before .before .before .if3 .taken))) (c .before .before .put2 .ensures)
 
 same-length-3 : tie.Need-same-length-3
 same-length-3 c = search needs
 
 returns-3 : tie.Need-returns-3
-returns-3 c = ?
+returns-3 c =
+    let a = c .before .before .before .before .before .before .before .before .before .before .before .args in
+    let s = store (a .own) (a .text .now) (a .src .now) in
+    let rest = slice (a .i + 1) (a .to) s in
+    let b = c .before .before .before .before .before .before .before .byte-at in
+    alike-in (adds (a .escape) rest (take (a .len) (a .text .now)) (b .ensures) (added-white (a .escape) (b .result) rest (sym (c .before .before .before .before .is-in2 .ensures) ∙ c .before .before .before .if2 .taken) ∙ no (ascii " ") [] (sym (c .before .begins-word .ensures) ∙ c .if3 .left))) (owed-nothing (owed-all (a .room) (a .text .now) (a .len) (push []) (c .before .before .before .before .before .before .before .before .before .before .before .pre .2) (c .before .before .before .before .before .before .before .before .before .before .before .pre .0 .inside) refl) refl)
 
 add-follows : tie.Need-add-follows
 add-follows c = search needs
@@ -55,7 +87,12 @@ same-length-4 : tie.Need-same-length-4
 same-length-4 c = search needs
 
 returns-4 : tie.Need-returns-4
-returns-4 c = ?
+returns-4 c =
+    let a = c .before .before .before .before .before .before .before .before .before .before .before .before .before .before .before .args in
+    let s = store (a .own) (a .text .now) (a .src .now) in
+    let rest = slice (a .i + 1) (a .to) s in
+    let b = c .before .before .before .before .before .before .before .before .before .before .before .byte-at in
+    alike-in (adds (a .escape) rest (take (a .len) (a .text .now)) (b .ensures) (added-bang (a .escape) (b .result) rest (c .before .before .before .before .before .before .if4 .taken) ∙ ap (λ (t : Bool). cond (a .escape && t) (ascii "\\") [] ++ (b .result ∷ [])) (sym (c .before .before .before .before .follows .ensures)))) (c .before .before .put-escaped .ensures)
 
 put-escaped-requires-2 : tie.Need-put-escaped-requires-2
 put-escaped-requires-2 c κs = search needs
@@ -64,7 +101,12 @@ same-length-5 : tie.Need-same-length-5
 same-length-5 c = search needs
 
 returns-5 : tie.Need-returns-5
-returns-5 c = ?
+returns-5 c =
+    let a = c .before .before .before .before .before .before .before .before .before .before .before .before .before .args in
+    let s = store (a .own) (a .text .now) (a .src .now) in
+    let rest = slice (a .i + 1) (a .to) s in
+    let b = c .before .before .before .before .before .before .before .before .before .byte-at in
+    alike-in (adds (a .escape) rest (take (a .len) (a .text .now)) (b .ensures) (added-other (a .escape) (b .result) rest (b .ok) (c .before .before .before .before .if4 .left) (sym (c .before .before .before .before .before .before .before .before .is-in .ensures) ∙ c .before .before .before .before .before .before .before .if1 .left) (sym (c .before .before .before .before .before .before .is-in2 .ensures) ∙ c .before .before .before .before .before .if2 .left))) (c .before .before .put-escaped2 .ensures)
 
 pub push-byte-of-spec : {M : Type 1} → statement M
 push-byte-of-spec = tie.close (tie.spec byte-at-requires is-in-requires put-requires same-length returns is-in-requires-2 add-begins-word begins-word-requires put-requires-2 same-length-2 returns-2 same-length-3 returns-3 add-follows follows-requires put-escaped-requires same-length-4 returns-4 put-escaped-requires-2 same-length-5 returns-5)

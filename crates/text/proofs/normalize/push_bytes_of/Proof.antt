@@ -1,14 +1,13 @@
 -- `text::normalize::push_bytes_of` meets its contract. Assumes nothing.
-use Prim.Native.Nat.{ℕ, _≤_, _+_, _-_}
-use mathlib.Core.Path.{refl, ap, _∙_}
-use mathlib.Core.List.{List}
+use Prim.Native.Nat.{_≤_, _+_, _-_}
+use mathlib.Core.Path.{refl, _∙_}
 use lib.ListN.{take, getD}
 use lib.Seq.{slice}
 use Rattle.spec.specs.Out.{push}
 use Rattle.text.specs.Flow.{added, flowBefore}
 use Rattle.text.specs.Source.{store}
-use Rattle.text.proofs.Sourcing.{OwesIn, owed-all, owed-step, owed-stop, owed-nothing, owed-reach, apart-kept, slice-kept, getD-kept}
-use Rattle.text.proofs.Streaming.{bytes-turn, bytes-ended}
+use Rattle.text.proofs.Sourcing.{OwesIn, owed-all, owed-step, owed-stop, owed-nothing, owed-reach, apart-kept}
+use Rattle.text.proofs.Streaming.{byte-turn, bytes-ended}
 use borrow.Author.Needs.{needs}
 use native.Mathlib.Omega.{arith}
 use Rattle.text.proofs.normalize.push_bytes_of.Statement.{statement}
@@ -30,7 +29,13 @@ loop-holds c =
     (omega arith, p .1, owed-all (a .room) (a .text .now) (a .len) (push (flowBefore (a .escape) (slice (a .from) (a .stop) x) (slice (a .stop) (a .to) x))) (p .3) (p .0 .inside) refl)
 
 push-byte-of-requires : tie.Need-push-byte-of-requires Inv-loop μ-loop
-push-byte-of-requires c κs = ?
+push-byte-of-requires c κs =
+    let a = c .before .before .before .before .before .args in
+    let p = c .before .before .before .before .before .pre in
+    let l = c .before .before .loop in
+    let h = c .before .loop-test .taken in
+    let o = l .inv .2 in
+    (apart-kept (p .0) (o .still) (l .i) (a .to) (l .inv .0) (omega (arith, h, p .2)) (omega arith), omega (arith, h, p .2), owed-reach o)
 
 enum-known-m : tie.Need-enum-known-m Inv-loop μ-loop
 enum-known-m c = search needs
@@ -39,10 +44,21 @@ enum-told : tie.Need-enum-told Inv-loop μ-loop
 enum-told c = search needs
 
 same-length : tie.Need-same-length Inv-loop μ-loop
-same-length c = ?
+same-length c = c .before .before .before .before .push-byte-of .ensures .long ∙ c .before .before .before .before .before .before .before .loop .inv .2 .still .long
 
 returns : tie.Need-returns Inv-loop μ-loop
-returns c = ?
+returns c =
+    let a = c .before .before .before .before .before .before .before .before .before .before .args in
+    let p = c .before .before .before .before .before .before .before .before .before .before .pre in
+    let l = c .before .before .before .before .before .before .before .loop in
+    let h = c .before .before .before .before .before .before .loop-test .taken in
+    let o = l .inv .2 in
+    let x = store (a .own) (a .text .now) (a .src .now) in
+    let y = store (a .own) (l .text) (a .src .now) in
+    let f = push (added (a .escape) (getD y (l .i) 0) (slice (l .i + 1) (a .to) y)) in
+    let g = push (flowBefore (a .escape) (slice (l .i + 1) (a .stop) x) (slice (a .stop) (a .to) x)) in
+    let e = byte-turn (p .0) (o .still) (l .i) (l .inv .0) (a .stop) (a .escape) (take (l .n) (l .text)) h (p .2) in
+    owed-stop o f g e (c .enum-told .given .1) (c .before .before .before .before .push-byte-of .ensures)
 
 add-i : tie.Need-add-i Inv-loop μ-loop
 add-i c = search needs
@@ -51,13 +67,27 @@ loop-less : tie.Need-loop-less Inv-loop μ-loop
 loop-less c = search needs
 
 loop-again : tie.Need-loop-again Inv-loop μ-loop
-loop-again c = ?
+loop-again c =
+    let a = c .before .before .before .before .before .before .before .before .before .before .before .args in
+    let p = c .before .before .before .before .before .before .before .before .before .before .before .pre in
+    let l = c .before .before .before .before .before .before .before .before .loop in
+    let h = c .before .before .before .before .before .before .before .loop-test .taken in
+    let o = l .inv .2 in
+    let x = store (a .own) (a .text .now) (a .src .now) in
+    let y = store (a .own) (l .text) (a .src .now) in
+    let f = push (added (a .escape) (getD y (l .i) 0) (slice (l .i + 1) (a .to) y)) in
+    let g = push (flowBefore (a .escape) (slice (l .i + 1) (a .stop) x) (slice (a .stop) (a .to) x)) in
+    let e = byte-turn (p .0) (o .still) (l .i) (l .inv .0) (a .stop) (a .escape) (take (l .n) (l .text)) h (p .2) in
+    (omega (arith, l .inv .0), omega (arith, h), owed-step o f g e (c .before .m .given .1) (c .before .before .before .before .before .push-byte-of .ensures))
 
 same-length-2 : tie.Need-same-length-2 Inv-loop μ-loop
 same-length-2 c = c .before .loop .inv .2 .still .long
 
 returns-2 : tie.Need-returns-2 Inv-loop μ-loop
-returns-2 c = ?
+returns-2 c =
+    let a = c .before .before .before .before .args in
+    let l = c .before .loop in
+    owed-nothing (l .inv .2) (bytes-ended (store (a .own) (a .text .now) (a .src .now)) (l .i) (a .stop) (a .to) (a .escape) (take (l .n) (l .text)) (c .loop-test .left))
 
 pub push-bytes-of-spec : {M : Type 1} → statement M
 push-bytes-of-spec = tie.close (tie.spec Inv-loop μ-loop loop-holds push-byte-of-requires enum-known-m enum-told same-length returns add-i loop-less loop-again same-length-2 returns-2)
