@@ -1,13 +1,13 @@
 -- `text::normalize::push_bytes_of` meets its contract. Assumes nothing.
 use Prim.Native.Nat.{_≤_, _+_, _-_}
 use mathlib.Core.Path.{refl, _∙_}
-use lib.ListN.{take, getD}
+use lib.ListN.{take}
 use lib.Seq.{slice}
 use Rattle.spec.specs.Out.{push}
-use Rattle.text.specs.Flow.{added, flowBefore}
+use Rattle.text.specs.Flow.{flowBefore}
 use Rattle.text.specs.Source.{store}
-use Rattle.text.proofs.Sourcing.{OwesIn, owed-all, owed-step, owed-stop, owed-nothing, owed-reach, apart-kept}
-use Rattle.text.proofs.Streaming.{byte-turn, bytes-ended}
+use Rattle.text.proofs.Sourcing.{OwesIn, owed-all, owed-nothing, owed-reach, apart-kept}
+use Rattle.text.proofs.Streaming.{byte-go, byte-stop, bytes-ended}
 use borrow.Author.Needs.{needs}
 use native.Mathlib.Omega.{arith}
 use Rattle.text.proofs.normalize.push_bytes_of.Statement.{statement}
@@ -52,13 +52,7 @@ returns c =
     let p = c .before .before .before .before .before .before .before .before .before .before .pre in
     let l = c .before .before .before .before .before .before .before .loop in
     let h = c .before .before .before .before .before .before .loop-test .taken in
-    let o = l .inv .2 in
-    let x = store (a .own) (a .text .now) (a .src .now) in
-    let y = store (a .own) (l .text) (a .src .now) in
-    let f = push (added (a .escape) (getD y (l .i) 0) (slice (l .i + 1) (a .to) y)) in
-    let g = push (flowBefore (a .escape) (slice (l .i + 1) (a .stop) x) (slice (a .stop) (a .to) x)) in
-    let e = byte-turn (p .0) (o .still) (l .i) (l .inv .0) (a .stop) (a .escape) (take (l .n) (l .text)) h (p .2) in
-    owed-stop o f g e (c .enum-told .given .1) (c .before .before .before .before .push-byte-of .ensures)
+    byte-stop (p .0) (a .escape) (l .i) (a .stop) (l .inv .2) (l .inv .0) h (p .2) (c .before .before .before .before .push-byte-of .ensures) (c .enum-told .given .1)
 
 add-i : tie.Need-add-i Inv-loop μ-loop
 add-i c = search needs
@@ -72,13 +66,7 @@ loop-again c =
     let p = c .before .before .before .before .before .before .before .before .before .before .before .pre in
     let l = c .before .before .before .before .before .before .before .before .loop in
     let h = c .before .before .before .before .before .before .before .loop-test .taken in
-    let o = l .inv .2 in
-    let x = store (a .own) (a .text .now) (a .src .now) in
-    let y = store (a .own) (l .text) (a .src .now) in
-    let f = push (added (a .escape) (getD y (l .i) 0) (slice (l .i + 1) (a .to) y)) in
-    let g = push (flowBefore (a .escape) (slice (l .i + 1) (a .stop) x) (slice (a .stop) (a .to) x)) in
-    let e = byte-turn (p .0) (o .still) (l .i) (l .inv .0) (a .stop) (a .escape) (take (l .n) (l .text)) h (p .2) in
-    (omega (arith, l .inv .0), omega (arith, h), owed-step o f g e (c .before .m .given .1) (c .before .before .before .before .before .push-byte-of .ensures))
+    (omega (arith, l .inv .0), omega (arith, h), byte-go (p .0) (a .escape) (l .i) (a .stop) (l .inv .2) (l .inv .0) h (p .2) (c .before .before .before .before .before .push-byte-of .ensures) (c .before .m .given .1))
 
 same-length-2 : tie.Need-same-length-2 Inv-loop μ-loop
 same-length-2 c = c .before .loop .inv .2 .still .long
