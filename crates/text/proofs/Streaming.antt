@@ -1,5 +1,5 @@
 -- How a flow is appended: its bytes one by one, and plain bytes at once. Assumes nothing.
-use Prim.Native.Nat.{ℕ, suc, _+_, _-_, _≤_, _<_}
+use Prim.Native.Nat.{ℕ, _+_, _-_, _≤_, _<_}
 use mathlib.Core.Path.{_≡_, refl, sym, ap, _∙_}
 use mathlib.Core.Bool.{Bool, true, false, cond, not, _&&_, and-false, and-true}
 use mathlib.Core.List.{List, [], _∷_, _++_}
@@ -9,7 +9,7 @@ use lib.ListN.{length, take, drop, getD, take-append-drop}
 use lib.Seq.{slice, slice-cons, length-slice, drop-drop}
 use lib.Dec.{eqb}
 use Rattle.spec.specs.Bytes.{ascii, isin, white, words, startsWith}
-use Rattle.spec.specs.Out.{Out, andThen, push}
+use Rattle.spec.specs.Out.{Out, Step, andThen, push}
 use Rattle.spec.specs.Md.Constants.{«ALWAYS_ESCAPED»}
 use Rattle.spec.specs.Md.TextUtils.{isEscaped, moreWords}
 use Rattle.text.specs.Class.{ordinary}
@@ -43,24 +43,24 @@ module _ (escape : Bool) (b : ℕ) (rest : List ℕ) where
       let r = ordinary-parts (white b) (isin b «ALWAYS_ESCAPED») (eqb b 33) h in
       rw (r .0, not-escaped false b rest (r .1) (r .2), and-false escape) refl
 
-  pub added-white : white b ≡ true → added escape b rest ≡ cond (startsBlack rest) (ascii " ") []
+  pub added-white : {t : Bool} → white b ≡ true → t ≡ startsBlack rest → added escape b rest ≡ cond t (ascii " ") []
   unfolding added
-  added-white h = rw h refl
+  added-white h e = rw (h, e) refl
 
-  added-black : white b ≡ false → {t : Bool} → escape && isEscaped false false false b rest ≡ t → added escape b rest ≡ cond t (ascii "\\") [] ++ (b ∷ [])
+  added-black : {t : Bool} → white b ≡ false → t ≡ isEscaped false false false b rest → added escape b rest ≡ cond (escape && t) (ascii "\\") [] ++ (b ∷ [])
   unfolding added
   added-black h e = rw (h, e) refl
 
   -- `!`
-  pub added-bang : b ≡ 33 → added escape b rest ≡ cond (escape && startsWith (ascii "[") rest) (ascii "\\") [] ++ (b ∷ [])
+  pub added-bang : {t : Bool} → b ≡ 33 → t ≡ startsWith (ascii "[") rest → added escape b rest ≡ cond (escape && t) (ascii "\\") [] ++ (b ∷ [])
   unfolding white isin
-  added-bang h = added-black (ap white h) (ap (λ (t : Bool). escape && t) (sym (bang-inside false b rest h)))
+  added-bang h e = added-black (ap white h) (e ∙ bang-inside false b rest h)
 
   -- a byte that is escaped wherever it stands
   pub added-other : b < 256 → (b ≡ 33 → ⊥) → ordinary b ≡ false → white b ≡ false → added escape b rest ≡ cond escape (ascii "\\") [] ++ (b ∷ [])
   added-other h k o w =
-      let e : isEscaped false false false b rest ≡ true = sym (escaped-inside false b rest h k) ∙ rw (o, w) refl in
-      added-black w (ap (λ (t : Bool). escape && t) e ∙ and-true escape)
+      let e : true ≡ isEscaped false false false b rest = rw (o, w) refl ∙ escaped-inside false b rest h k in
+      added-black w e ∙ ap (λ (t : Bool). cond t (ascii "\\") [] ++ (b ∷ [])) (and-true escape)
 
 -- ---- byte by byte
 
@@ -85,57 +85,62 @@ flow-ended s i to escape t h = ap (λ (x : List ℕ). push (flow escape x) t) (p
 -- ---- a part of what is read: what is left behind a step
 
 module _ {own : Bool} {text src : List ℕ} {room from to : ℕ} (p : Apart own text src room from to) where
-  module _ {now : List ℕ} (q : Still room text now) (i k : ℕ) (l : i ≤ to) (w : Flows (slice i to (store own now src)) k) where
-    pub plain-reach : i + k ≤ to
-    plain-reach = omega (arith, l, w .within, length-slice i to (store own now src) (omega (arith, p .within, store-long p q)))
+  pub plain-reach : {now : List ℕ} → Still room text now → (i k : ℕ) → i ≤ to → Flows (slice i to (store own now src)) k → i + k ≤ to
+  plain-reach {now} q i k l f = omega (arith, l, f .within, length-slice i to (store own now src) (omega (arith, p .within, store-long p q)))
 
   -- one byte
   module _ {now : List ℕ} {n : ℕ} {whole : Out} (escape : Bool) (i stop : ℕ) (o : OwesIn room text now n (push (flowBefore escape (slice i stop (store own text src)) (slice stop to (store own text src)))) whole) (h : from ≤ i) (l : i < stop) (m : stop ≤ to) where
-    byte-turn : (t : List ℕ)
-        → push (flowBefore escape (slice i stop (store own text src)) (slice stop to (store own text src))) t
-        ≡ andThen (push (added escape (getD (store own now src) i 0) (slice (i + 1) to (store own now src))) t) (push (flowBefore escape (slice (i + 1) stop (store own text src)) (slice stop to (store own text src))))
+    abbrev byte-step : Step
+    byte-step = push (added escape (getD (store own now src) i 0) (slice (i + 1) to (store own now src)))
+
+    abbrev byte-left : Step
+    byte-left = push (flowBefore escape (slice (i + 1) stop (store own text src)) (slice stop to (store own text src)))
+
+    byte-turn : (t : List ℕ) → push (flowBefore escape (slice i stop (store own text src)) (slice stop to (store own text src))) t ≡ andThen (byte-step t) byte-left
     unfolding flowBefore
     byte-turn t =
         let s = store own text src in
-        let q = o .still in
         let g = flowBefore escape (slice (i + 1) stop s) (slice stop to s) in
         ap (λ (x : List ℕ). push (flowBefore escape x (slice stop to s)) t) (slice-on s i stop l (omega (arith, p .within)))
-        ∙ ap (λ (x : List ℕ). push (added escape (getD s i 0) x ++ g) t) (slice-join s (i + 1) stop to (omega arith) m ∙ sym (slice-kept p q (i + 1) to (omega (arith, h))))
-        ∙ ap (λ (x : ℕ). push (added escape x (slice (i + 1) to (store own now src)) ++ g) t) (sym (getD-kept p q i h))
+        ∙ ap (λ (x : List ℕ). push (added escape (getD s i 0) x ++ g) t) (slice-join s (i + 1) stop to (omega arith) m ∙ sym (slice-kept p (o .still) (i + 1) to (omega (arith, h))))
+        ∙ ap (λ (x : ℕ). push (added escape x (slice (i + 1) to (store own now src)) ++ g) t) (sym (getD-kept p (o .still) i h))
         ∙ push-both (added escape (getD (store own now src) i 0) (slice (i + 1) to (store own now src))) g t
 
-    module _ {after : List ℕ} {r : Wrote} (w : WritesIn room now after r (push (added escape (getD (store own now src) i 0) (slice (i + 1) to (store own now src))) (take n now))) where
-      pub byte-go : {j : ℕ} → r ≡ Done j → OwesIn room text after j (push (flowBefore escape (slice (i + 1) stop (store own text src)) (slice stop to (store own text src)))) whole
-      byte-go e =
-          owed-step o (push (added escape (getD (store own now src) i 0) (slice (i + 1) to (store own now src)))) (push (flowBefore escape (slice (i + 1) stop (store own text src)) (slice stop to (store own text src)))) (byte-turn (take n now)) e w
+    module _ {after : List ℕ} {r : Wrote} (w : WritesIn room now after r (byte-step (take n now))) where
+      pub byte-go : {j : ℕ} → r ≡ Done j → OwesIn room text after j byte-left whole
+      byte-go e = owed-step o byte-step byte-left (byte-turn (take n now)) e w
 
       pub byte-stop : r ≡ Full → WritesIn room text after Full whole
-      byte-stop e =
-          owed-stop o (push (added escape (getD (store own now src) i 0) (slice (i + 1) to (store own now src)))) (push (flowBefore escape (slice (i + 1) stop (store own text src)) (slice stop to (store own text src)))) (byte-turn (take n now)) e w
+      byte-stop e = owed-stop o byte-step byte-left (byte-turn (take n now)) e w
 
   module _ {now : List ℕ} {n : ℕ} {whole : Out} (escape : Bool) (i : ℕ) (o : OwesIn room text now n (push (flow escape (slice i to (store own text src)))) whole) (h : from ≤ i) where
+    abbrev flow-left : ℕ → Step
+    flow-left j = push (flow escape (slice j to (store own text src)))
+
     -- k plain bytes at once
     module _ (k : ℕ) (l : i ≤ to) (f : Flows (slice i to (store own now src)) k) {after : List ℕ} {r : Wrote} (w : WritesIn room now after r (push (slice i (i + k) (store own now src)) (take n now))) where
-      plain-turn : (t : List ℕ) → push (flow escape (slice i to (store own text src))) t ≡ andThen (push (slice i (i + k) (store own now src)) t) (push (flow escape (slice (i + k) to (store own text src))))
+      plain-turn : (t : List ℕ) → flow-left i t ≡ andThen (push (slice i (i + k) (store own now src)) t) (flow-left (i + k))
       plain-turn t =
+          let s = store own now src in
           let q = o .still in
           ap (λ (x : List ℕ). push (flow escape x) t) (sym (slice-kept p q i to h))
           ∙ ap (λ (x : List ℕ). push x t)
-          (flows-flow f escape ∙ ap (λ (x : List ℕ). x ++ flow escape (drop k (slice i to (store own now src)))) (slice-front (store own now src) i to k (plain-reach q i k l f))
-          ∙ ap (λ (x : List ℕ). slice i (i + k) (store own now src) ++ flow escape x) (drop-drop k i (take to (store own now src)) ∙ slice-kept p q (i + k) to (omega (arith, h))))
-          ∙ push-both (slice i (i + k) (store own now src)) (flow escape (slice (i + k) to (store own text src))) t
+          (flows-flow f escape ∙ ap (λ (x : List ℕ). x ++ flow escape (drop k (slice i to s))) (slice-front s i to k (plain-reach q i k l f))
+          ∙ ap (λ (x : List ℕ). slice i (i + k) s ++ flow escape x) (drop-drop k i (take to s) ∙ slice-kept p q (i + k) to (omega (arith, h))))
+          ∙ push-both (slice i (i + k) s) (flow escape (slice (i + k) to (store own text src))) t
 
-      pub plain-go : {j : ℕ} → r ≡ Done j → OwesIn room text after j (push (flow escape (slice (i + k) to (store own text src)))) whole
-      plain-go e = owed-step o (push (slice i (i + k) (store own now src))) (push (flow escape (slice (i + k) to (store own text src)))) (plain-turn (take n now)) e w
+      pub plain-go : {j : ℕ} → r ≡ Done j → OwesIn room text after j (flow-left (i + k)) whole
+      plain-go e = owed-step o (push (slice i (i + k) (store own now src))) (flow-left (i + k)) (plain-turn (take n now)) e w
 
       pub plain-stop : r ≡ Full → WritesIn room text after Full whole
-      plain-stop e = owed-stop o (push (slice i (i + k) (store own now src))) (push (flow escape (slice (i + k) to (store own text src)))) (plain-turn (take n now)) e w
+      plain-stop e = owed-stop o (push (slice i (i + k) (store own now src))) (flow-left (i + k)) (plain-turn (take n now)) e w
 
     -- the bytes up to `stop`
-    module _ (stop : ℕ) (l : i ≤ stop) (m : stop ≤ to) {after : List ℕ} {r : Wrote} (w : WritesIn room now after r (push (flowBefore escape (slice i stop (store own now src)) (slice stop to (store own now src))) (take n now))) where
-      stretch-turn : (t : List ℕ)
-          → push (flow escape (slice i to (store own text src))) t
-          ≡ andThen (push (flowBefore escape (slice i stop (store own now src)) (slice stop to (store own now src))) t) (push (flow escape (slice stop to (store own text src))))
+    module _ (stop : ℕ) (l : i ≤ stop) (m : stop ≤ to) where
+      abbrev stretch-step : Step
+      stretch-step = push (flowBefore escape (slice i stop (store own now src)) (slice stop to (store own now src)))
+
+      stretch-turn : (t : List ℕ) → flow-left i t ≡ andThen (stretch-step t) (flow-left stop)
       stretch-turn t =
           let s = store own now src in
           let q = o .still in
@@ -144,28 +149,31 @@ module _ {own : Bool} {text src : List ℕ} {room from to : ℕ} (p : Apart own 
           (flow-split escape (slice i stop s) (slice stop to s) ∙ ap (λ (x : List ℕ). flowBefore escape (slice i stop s) (slice stop to s) ++ flow escape x) (slice-kept p q stop to (omega (arith, h))))
           ∙ push-both (flowBefore escape (slice i stop s) (slice stop to s)) (flow escape (slice stop to (store own text src))) t
 
-      pub stretch-go : {j : ℕ} → r ≡ Done j → OwesIn room text after j (push (flow escape (slice stop to (store own text src)))) whole
-      stretch-go e = owed-step o (push (flowBefore escape (slice i stop (store own now src)) (slice stop to (store own now src)))) (push (flow escape (slice stop to (store own text src)))) (stretch-turn (take n now)) e w
+      module _ {after : List ℕ} {r : Wrote} (w : WritesIn room now after r (stretch-step (take n now))) where
+        pub stretch-go : {j : ℕ} → r ≡ Done j → OwesIn room text after j (flow-left stop) whole
+        stretch-go e = owed-step o stretch-step (flow-left stop) (stretch-turn (take n now)) e w
 
-      pub stretch-stop : r ≡ Full → WritesIn room text after Full whole
-      stretch-stop e = owed-stop o (push (flowBefore escape (slice i stop (store own now src)) (slice stop to (store own now src)))) (push (flow escape (slice stop to (store own text src)))) (stretch-turn (take n now)) e w
+        pub stretch-stop : r ≡ Full → WritesIn room text after Full whole
+        stretch-stop e = owed-stop o stretch-step (flow-left stop) (stretch-turn (take n now)) e w
 
   -- the blank before the first word, which stands at i
-  module _ (escape : Bool) {len : ℕ} (h : len ≤ room) (i : ℕ) (at : WordAt (store own text src) from to i) (k : i ≡ to → ⊥) {after : List ℕ} {r : Wrote} (w : WritesIn room text after r (push (ascii " ") (take len text))) where
-    some : i < to
-    some = omega (arith, at .within, k)
+  module _ (escape : Bool) {len : ℕ} (h : len ≤ room) (i : ℕ) (a : WordAt (store own text src) from to i) (k : i ≡ to → ⊥) {after : List ℕ} {r : Wrote} (w : WritesIn room text after r (push (ascii " ") (take len text))) where
+    abbrev words-step : Step
+    words-step = push (moreWords escape (words (slice from to (store own text src))))
 
-    words-turn : (t : List ℕ) → push (moreWords escape (words (slice from to (store own text src)))) t ≡ andThen (push (ascii " ") t) (push (flow escape (slice i to (store own text src))))
+    abbrev words-left : Step
+    words-left = push (flow escape (slice i to (store own text src)))
+
+    words-turn : (t : List ℕ) → words-step t ≡ andThen (push (ascii " ") t) words-left
     words-turn t =
         let s = store own text src in
-        let b : startsBlack (slice i to s) ≡ true = sym (begins-some i to s some (p .within)) ∙ ap not (at .black some) in
-        ap (λ (x : List (List ℕ)). push (moreWords escape x) t) (at .same-words) ∙ ap (λ (x : List ℕ). push x t) (words-flow (slice i to s) b escape)
+        let z : i < to = omega (arith, a .within, k) in
+        let b : startsBlack (slice i to s) ≡ true = sym (begins-some i to s z (p .within)) ∙ ap not (a .black z) in
+        ap (λ (x : List (List ℕ)). push (moreWords escape x) t) (a .same-words) ∙ ap (λ (x : List ℕ). push x t) (words-flow (slice i to s) b escape)
         ∙ push-both (ascii " ") (flow escape (slice i to s)) t
 
-    pub words-go : {j : ℕ} → r ≡ Done j → OwesIn room text after j (push (flow escape (slice i to (store own text src)))) (push (moreWords escape (words (slice from to (store own text src)))) (take len text))
-    words-go e =
-        owed-step (owed-all room text len (push (moreWords escape (words (slice from to (store own text src))))) h (p .inside) refl) (push (ascii " ")) (push (flow escape (slice i to (store own text src)))) (words-turn (take len text)) e w
+    pub words-go : {j : ℕ} → r ≡ Done j → OwesIn room text after j words-left (words-step (take len text))
+    words-go e = owed-step (owed-all room text len words-step h (p .inside) refl) (push (ascii " ")) words-left (words-turn (take len text)) e w
 
-    pub words-stop : r ≡ Full → WritesIn room text after Full (push (moreWords escape (words (slice from to (store own text src)))) (take len text))
-    words-stop e =
-        owed-stop (owed-all room text len (push (moreWords escape (words (slice from to (store own text src))))) h (p .inside) refl) (push (ascii " ")) (push (flow escape (slice i to (store own text src)))) (words-turn (take len text)) e w
+    pub words-stop : r ≡ Full → WritesIn room text after Full (words-step (take len text))
+    words-stop e = owed-stop (owed-all room text len words-step h (p .inside) refl) (push (ascii " ")) words-left (words-turn (take len text)) e w
