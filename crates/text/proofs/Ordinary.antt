@@ -6,24 +6,20 @@ use mathlib.Core.List.{List, [], _∷_, _++_, append-assoc, append-nil}
 use native.Mathlib.Omega.{arith}
 use native.Mathlib.Numerals.{add-one}
 use lib.ListN.{length, take, drop, getD, length-drop, take-append-drop}
-use lib.Seq.{slice, length-slice, drop-drop, take-add, take-length, drop-length, getD-drop, getD-take}
+use lib.Seq.{drop-drop, take-add, take-length, drop-length, getD-drop, getD-take}
 use lib.Dec.{eqb}
 use borrow.Author.Tests.{eqb-true, ne-eqb, le-leb, lt-leb}
 use Rattle.spec.specs.Bytes.{ascii, null, same, isin, white, digit, every, isBlank, words, split, parts, filled, startsWith, endsWith, «trim_start_matches»}
-use Rattle.spec.specs.Out.{andThen, push}
 use Rattle.spec.specs.Md.Constants.{«ALWAYS_ESCAPED»}
 use Rattle.spec.specs.Md.TextUtils.{isEscaped, escapedFrom, escapedChunk, moreWords, normalized, normalizedWords, startsWithWhite, endsWithWhite, «ends_with_marker_digits», «is_ordered_list_marker»}
 use Rattle.spec.specs.declared.ctx.FormatOpts.{FormatOpts}
 use Rattle.text.specs.Class.{ordinary}
 use Rattle.text.specs.Marks.{marks}
-use Rattle.text.specs.Source.{store, Apart}
 use Rattle.text.specs.Trimmed.{Skipped}
 use Rattle.text.specs.Words.{OrdinaryWords}
 use Rattle.tree.proofs.Sequences.{below, below-at}
 use Rattle.text.proofs.Reading.{starts-byte, starts-short}
-use Rattle.text.proofs.Writing.{push-both}
-use Rattle.text.proofs.Sourcing.{Still, slice-kept, store-long}
-use Rattle.text.proofs.Wording.{black, shorter, words-white, words-first, slice-front}
+use Rattle.text.proofs.Wording.{black, shorter, words-white, words-first}
 
 -- ---- ordinary bytes
 
@@ -266,18 +262,3 @@ module _ (s : List ℕ) (n : ℕ) (p : Skipped s n («trim_start_matches» ordin
       ∙ normal-words opts text s (take n s) (drop n s) (words (drop n s)) (starts-black s letter) (no-dot s n letter some long)
       (λ escape start. bare-chunk (take n s) escape start (ordinary-front s n p) (λ h. front-letter)) more-is black-end
       ∙ take-append-drop n s
-
--- ---- a part of what is read, and the words behind it
-
-module _ {own : Bool} {text src : List ℕ} {room from to : ℕ} (p : Apart own text src room from to) {now : List ℕ} (q : Still room text now) (i k : ℕ) (h : from ≤ i) (l : i ≤ to) (w : OrdinaryWords (slice i to (store own now src)) k) where
-  pub ordinary-reach : i + k ≤ to
-  ordinary-reach = omega (arith, l, w .within, length-slice i to (store own now src) (omega (arith, p .within, store-long p q)))
-
-  pub ordinary-turn : (escape : Bool) (t : List ℕ)
-      → push (moreWords escape (words (slice i to (store own text src)))) t ≡ andThen (push (slice i (i + k) (store own now src)) t) (push (moreWords escape (words (slice (i + k) to (store own text src)))))
-  ordinary-turn escape t =
-      ap (λ (x : List ℕ). push (moreWords escape (words x)) t) (sym (slice-kept p q i to h))
-      ∙ ap (λ (x : List ℕ). push x t)
-      (w .more escape ∙ ap (λ (x : List ℕ). x ++ moreWords escape (words (drop k (slice i to (store own now src))))) (slice-front (store own now src) i to k ordinary-reach)
-      ∙ ap (λ (x : List ℕ). slice i (i + k) (store own now src) ++ moreWords escape (words x)) (drop-drop k i (take to (store own now src)) ∙ slice-kept p q (i + k) to (omega (arith, h))))
-      ∙ push-both (slice i (i + k) (store own now src)) (moreWords escape (words (slice (i + k) to (store own text src)))) t

@@ -4,7 +4,6 @@ use mathlib.Core.Path.{_≡_, refl, sym, ap, _∙_}
 use mathlib.Core.Bool.{Bool, true, false, cond, not, _&&_, and-false, and-true}
 use mathlib.Core.List.{List, [], _∷_, _++_}
 use native.Mathlib.Omega.{arith}
-use native.Mathlib.Numerals.{add-one}
 use lib.ListN.{length, take, drop, getD, take-append-drop}
 use lib.Seq.{slice, slice-cons, length-slice, drop-drop}
 use lib.Dec.{eqb}
@@ -19,8 +18,8 @@ use Rattle.text.specs.Words.{WordAt}
 use Rattle.text.specs.declared.buffer.Wrote.{Wrote}
 use Rattle.text.specs.declared.buffer.Wrote.the-variants.{Done, Full}
 use Rattle.text.proofs.Writing.{push-both}
-use Rattle.text.proofs.Sourcing.{Still, OwesIn, owed-all, owed-step, owed-stop, slice-kept, getD-kept, store-long, part-none}
-use Rattle.text.proofs.Wording.{slice-front}
+use Rattle.text.proofs.Sourcing.{Still, OwesIn, owed-all, owed-step, owed-stop, owed-nothing, slice-kept, getD-kept, store-long, part-none, slice-on}
+use Rattle.text.proofs.Wording.{slice-front, more-none}
 use Rattle.text.proofs.Ordinary.{ordinary-parts, not-escaped, escaped-inside, bang-inside}
 use Rattle.text.proofs.Flowing.{flows-flow, flow-split, words-flow}
 
@@ -63,9 +62,6 @@ module _ (escape : Bool) (b : ℕ) (rest : List ℕ) where
       added-black w e ∙ ap (λ (t : Bool). cond t (ascii "\\") [] ++ (b ∷ [])) (and-true escape)
 
 -- ---- byte by byte
-
-slice-on : (s : List ℕ) (i to : ℕ) → i < to → to ≤ length s → slice i to s ≡ getD s i 0 ∷ slice (i + 1) to s
-slice-on s i to h k = slice-cons i to s 0 h k ∙ ap (λ (j : ℕ). getD s i 0 ∷ slice j to s) (sym (add-one i))
 
 slice-join : (s : List ℕ) (i m to : ℕ) → i ≤ m → m ≤ to → slice i m s ++ slice m to s ≡ slice i to s
 slice-join s i m to h k =
@@ -156,24 +152,31 @@ module _ {own : Bool} {text src : List ℕ} {room from to : ℕ} (p : Apart own 
         pub stretch-stop : r ≡ Full → WritesIn room text after Full whole
         stretch-stop e = owed-stop o stretch-step (flow-left stop) (stretch-turn (take n now)) e w
 
-  -- the blank before the first word, which stands at i
-  module _ (escape : Bool) {len : ℕ} (h : len ≤ room) (i : ℕ) (a : WordAt (store own text src) from to i) (k : i ≡ to → ⊥) {after : List ℕ} {r : Wrote} (w : WritesIn room text after r (push (ascii " ") (take len text))) where
+  module _ (escape : Bool) {len : ℕ} (h : len ≤ room) (i : ℕ) (a : WordAt (store own text src) from to i) where
     abbrev words-step : Step
     words-step = push (moreWords escape (words (slice from to (store own text src))))
 
-    abbrev words-left : Step
-    words-left = push (flow escape (slice i to (store own text src)))
+    from-word : (t : List ℕ) → words-step t ≡ push (moreWords escape (words (slice i to (store own text src)))) t
+    from-word t = ap (λ (x : List (List ℕ)). push (moreWords escape x) t) (a .same-words)
 
-    words-turn : (t : List ℕ) → words-step t ≡ andThen (push (ascii " ") t) words-left
-    words-turn t =
-        let s = store own text src in
-        let z : i < to = omega (arith, a .within, k) in
-        let b : startsBlack (slice i to s) ≡ true = sym (begins-some i to s z (p .within)) ∙ ap not (a .black z) in
-        ap (λ (x : List (List ℕ)). push (moreWords escape x) t) (a .same-words) ∙ ap (λ (x : List ℕ). push x t) (words-flow (slice i to s) b escape)
-        ∙ push-both (ascii " ") (flow escape (slice i to s)) t
+    pub words-none : i ≡ to → WritesIn room text text (Done len) (words-step (take len text))
+    words-none e =
+        owed-nothing (owed-all room text len words-step h (p .inside) refl) (from-word (take len text) ∙ more-none (store own text src) i to escape (take len text) (omega arith))
 
-    pub words-go : {j : ℕ} → r ≡ Done j → OwesIn room text after j words-left (words-step (take len text))
-    words-go e = owed-step (owed-all room text len words-step h (p .inside) refl) (push (ascii " ")) words-left (words-turn (take len text)) e w
+    -- the blank before the first word
+    module _ (k : i ≡ to → ⊥) {after : List ℕ} {r : Wrote} (w : WritesIn room text after r (push (ascii " ") (take len text))) where
+      abbrev words-left : Step
+      words-left = push (flow escape (slice i to (store own text src)))
 
-    pub words-stop : r ≡ Full → WritesIn room text after Full (words-step (take len text))
-    words-stop e = owed-stop (owed-all room text len words-step h (p .inside) refl) (push (ascii " ")) words-left (words-turn (take len text)) e w
+      words-turn : (t : List ℕ) → words-step t ≡ andThen (push (ascii " ") t) words-left
+      words-turn t =
+          let s = store own text src in
+          let z : i < to = omega (arith, a .within, k) in
+          let b : startsBlack (slice i to s) ≡ true = sym (begins-some i to s z (p .within)) ∙ ap not (a .black z) in
+          from-word t ∙ ap (λ (x : List ℕ). push x t) (words-flow (slice i to s) b escape) ∙ push-both (ascii " ") (flow escape (slice i to s)) t
+
+      pub words-go : {j : ℕ} → r ≡ Done j → OwesIn room text after j words-left (words-step (take len text))
+      words-go e = owed-step (owed-all room text len words-step h (p .inside) refl) (push (ascii " ")) words-left (words-turn (take len text)) e w
+
+      pub words-stop : r ≡ Full → WritesIn room text after Full (words-step (take len text))
+      words-stop e = owed-stop (owed-all room text len words-step h (p .inside) refl) (push (ascii " ")) words-left (words-turn (take len text)) e w

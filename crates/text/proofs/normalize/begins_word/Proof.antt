@@ -1,12 +1,10 @@
 -- `text::normalize::begins_word` meets its contract. Assumes nothing.
-use Prim.Native.Nat.{ℕ}
 use mathlib.Core.Path.{ap, _∙_}
-use mathlib.Core.Bool.{Bool, not}
+use mathlib.Core.Bool.{not}
 use Rattle.spec.specs.Bytes.{white}
 use Rattle.text.specs.Source.{store}
 use Rattle.text.proofs.Streaming.{begins-some, begins-none}
 use borrow.Author.Needs.{needs}
-use native.Mathlib.Omega.{arith}
 use Rattle.text.proofs.normalize.begins_word.Statement.{statement}
 use Rattle.text.proofs.normalize.begins_word.Tie as tie
 

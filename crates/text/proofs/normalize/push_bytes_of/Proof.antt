@@ -1,5 +1,5 @@
 -- `text::normalize::push_bytes_of` meets its contract. Assumes nothing.
-use Prim.Native.Nat.{_≤_, _+_, _-_}
+use Prim.Native.Nat.{_≤_, _-_}
 use mathlib.Core.Path.{refl, _∙_}
 use lib.ListN.{take}
 use lib.Seq.{slice}

@@ -1,17 +1,8 @@
 -- `text::normalize::push_words` meets its contract. Assumes nothing.
-use Prim.Native.Nat.{ℕ}
-use mathlib.Core.Path.{refl, sym, ap, _∙_}
-use mathlib.Core.List.{List}
-use lib.ListN.{take}
-use lib.Seq.{slice}
-use Rattle.spec.specs.Bytes.{words}
-use Rattle.spec.specs.Out.{push}
-use Rattle.spec.specs.Md.TextUtils.{moreWords}
+use mathlib.Core.Path.{sym, ap, _∙_}
 use Rattle.text.specs.Flow.{flow}
-use Rattle.text.specs.Source.{store}
-use Rattle.text.proofs.Sourcing.{owed-all, owed-nothing, owed-last, owed-as, owed-reach, slice-kept, apart-kept}
-use Rattle.text.proofs.Wording.{more-none}
-use Rattle.text.proofs.Streaming.{words-go, words-stop}
+use Rattle.text.proofs.Sourcing.{owed-last, owed-as, owed-reach, slice-kept, apart-kept}
+use Rattle.text.proofs.Streaming.{words-none, words-go, words-stop}
 use borrow.Author.Needs.{needs}
 use native.Mathlib.Omega.{arith}
 use Rattle.text.proofs.normalize.push_words.Statement.{statement}
@@ -27,11 +18,7 @@ returns : tie.Need-returns
 returns c =
     let a = c .before .before .before .before .before .args in
     let p = c .before .before .before .before .before .pre in
-    let w = c .before .next-word .ensures in
-    let s = store (a .own) (a .text .now) (a .src .now) in
-    let t = take (a .len) (a .text .now) in
-    owed-nothing (owed-all (a .room) (a .text .now) (a .len) (push (moreWords (a .escape) (words (slice (a .from) (a .to) s)))) (p .1) (p .0 .inside) refl)
-    (ap (λ (x : List (List ℕ)). push (moreWords (a .escape) x) t) (w .same-words) ∙ more-none s (c .before .next-word .result) (a .to) (a .escape) t (omega (arith, c .if1 .taken)))
+    words-none (p .0) (a .escape) (p .1) (c .before .next-word .result) (c .before .next-word .ensures) (c .if1 .taken)
 
 put-requires : tie.Need-put-requires
 put-requires c κs = search needs
