@@ -28,6 +28,9 @@ part-is from to s = sym (drop-take from to s)
 pub part-none : (i to : ℕ) (s : List ℕ) → to ≤ i → slice i to s ≡ []
 part-none i to s h = let q : length (take to s) ≤ i = omega (arith, length-take to s) in drop-of-length-le (take to s) q
 
+pub slice-on : (s : List ℕ) (i to : ℕ) → i < to → to ≤ length s → slice i to s ≡ getD s i 0 ∷ slice (i + 1) to s
+slice-on s i to h k = slice-cons i to s 0 h k ∙ ap (λ (j : ℕ). getD s i 0 ∷ slice j to s) (sym (add-one i))
+
 -- the memory behind the room is as it was
 pub record Still (room : ℕ) (text now : List ℕ) : Type 0 where
   pub long : length now ≡ length text
@@ -163,7 +166,7 @@ marks-none false start m u = refl
 pub marks-turn : (s : List ℕ) (i to : ℕ) (escape start m u esc : Bool) (b : ℕ) (t : List ℕ) → i < to → to ≤ length s → b ≡ getD s i 0 → esc ≡ isEscaped start m u b (slice (i + 1) to s)
     → push (marks escape start m u (slice i to s)) t ≡ andThen (push (cond (escape && esc) (ascii "\\") [] ++ (b ∷ [])) t) (push (marks escape false m u (slice (i + 1) to s)))
 marks-turn s i to escape start m u esc b t h k e f =
-    let c : slice i to s ≡ b ∷ slice (i + 1) to s = slice-cons i to s 0 h k ∙ ap (λ (j : ℕ). getD s i 0 ∷ slice j to s) (sym (add-one i)) ∙ ap (λ (x : ℕ). x ∷ slice (i + 1) to s) (sym e) in
+    let c : slice i to s ≡ b ∷ slice (i + 1) to s = slice-on s i to h k ∙ ap (λ (x : ℕ). x ∷ slice (i + 1) to s) (sym e) in
     ap (λ (x : List ℕ). push x t)
     (ap (marks escape start m u) c ∙ marks-on escape start m u b (slice (i + 1) to s)
     ∙ ap (λ (x : Bool). (cond (escape && x) (ascii "\\") [] ++ (b ∷ [])) ++ marks escape false m u (slice (i + 1) to s)) (sym f))

@@ -437,6 +437,18 @@ fn word_end(src: &[u8], text: &[u8], own: bool, i: usize, to: usize) -> usize
     i + skip_in(src, text, own, i, to, Class::Black)
 }
 
+// Whether a byte that is not white stands at i, before `to`.
+fn begins_word(src: &[u8], text: &[u8], own: bool, i: usize, to: usize) -> bool
+    requires { ⌜ to ≤ length (store own (now text) (now src)) ⌝ }
+    ensures { λ r. ⌜ r ≡ startsBlack (slice i to (store own (now (text .entry)) (now (src .entry)))) ⌝ }
+{
+    if i < to {
+        !is_in(Class::White, byte_at(src, text, own, i))
+    } else {
+        false
+    }
+}
+
 // Appends what the byte at i adds to a text of words: for a white byte a blank, if a word begins behind it.
 fn push_byte_of(
     src: &[u8],
@@ -466,18 +478,6 @@ fn push_byte_of(
         return put_escaped(text, room, len, escaped, b);
     }
     put_escaped(text, room, len, escape, b)
-}
-
-// Whether a byte that is not white stands at i, before `to`.
-fn begins_word(src: &[u8], text: &[u8], own: bool, i: usize, to: usize) -> bool
-    requires { ⌜ to ≤ length (store own (now text) (now src)) ⌝ }
-    ensures { λ r. ⌜ r ≡ startsBlack (slice i to (store own (now (text .entry)) (now (src .entry)))) ⌝ }
-{
-    if i < to {
-        !is_in(Class::White, byte_at(src, text, own, i))
-    } else {
-        false
-    }
 }
 
 // Appends what the bytes from `from` up to `stop` add.
