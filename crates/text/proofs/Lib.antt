@@ -9,6 +9,8 @@ pub mod Spaces
 pub mod Sourcing
 pub mod Wording
 pub mod Ordinary
+pub mod Flowing
+pub mod Streaming
 pub mod Normal
 pub mod Leaves
 pub mod Linking

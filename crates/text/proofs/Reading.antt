@@ -121,10 +121,6 @@ ends-some (x ∷ s) b e = omega arith
 
 -- ---- one of the bytes
 
-pub starts-some : (s : List ℕ) (b : ℕ) → startsWith (b ∷ []) s ≡ true → 1 ≤ length s
-starts-some [] b e = absurd (false≢true (sym (starts-short [] (b ∷ []) (omega arith)) ∙ e))
-starts-some (x ∷ s) b e = omega arith
-
 pub isin-here : (s : List ℕ) (i b : ℕ) → i < length s → getD s i 0 ≡ b → isin b (drop i s) ≡ true
 unfolding isin
 isin-here s i b h e = rw (drop-cons s i 0 h, eq-eqb b (getD s i 0) (sym e))

@@ -6,7 +6,7 @@ use mathlib.Core.List.{List, [], _∷_, _++_, append-assoc}
 use native.Mathlib.Omega.{arith}
 use native.Mathlib.Numerals.{add-one}
 use lib.ListN.{length, take, drop, getD, length-append, length-take, length-drop, drop-of-length-le}
-use lib.Seq.{length-take-le, take-take, getD-drop, drop-drop, slice, slice-cons, take-at, drop-at, take-all, take-length}
+use lib.Seq.{length-take-le, take-take, getD-drop, drop-drop, slice, slice-cons, take-at, drop-at, take-all, take-length, paste, length-paste, take-paste, drop-paste}
 use lib.Dec.{eqb}
 use Rattle.spec.specs.Bytes.{ascii, startsWith, every}
 use Rattle.spec.specs.Out.{Out, Step, andThen, push}
@@ -27,6 +27,9 @@ part-is from to s = sym (drop-take from to s)
 
 pub part-none : (i to : ℕ) (s : List ℕ) → to ≤ i → slice i to s ≡ []
 part-none i to s h = let q : length (take to s) ≤ i = omega (arith, length-take to s) in drop-of-length-le (take to s) q
+
+pub slice-on : (s : List ℕ) (i to : ℕ) → i < to → to ≤ length s → slice i to s ≡ getD s i 0 ∷ slice (i + 1) to s
+slice-on s i to h k = slice-cons i to s 0 h k ∙ ap (λ (j : ℕ). getD s i 0 ∷ slice j to s) (sym (add-one i))
 
 -- the memory behind the room is as it was
 pub record Still (room : ℕ) (text now : List ℕ) : Type 0 where
@@ -163,7 +166,7 @@ marks-none false start m u = refl
 pub marks-turn : (s : List ℕ) (i to : ℕ) (escape start m u esc : Bool) (b : ℕ) (t : List ℕ) → i < to → to ≤ length s → b ≡ getD s i 0 → esc ≡ isEscaped start m u b (slice (i + 1) to s)
     → push (marks escape start m u (slice i to s)) t ≡ andThen (push (cond (escape && esc) (ascii "\\") [] ++ (b ∷ [])) t) (push (marks escape false m u (slice (i + 1) to s)))
 marks-turn s i to escape start m u esc b t h k e f =
-    let c : slice i to s ≡ b ∷ slice (i + 1) to s = slice-cons i to s 0 h k ∙ ap (λ (j : ℕ). getD s i 0 ∷ slice j to s) (sym (add-one i)) ∙ ap (λ (x : ℕ). x ∷ slice (i + 1) to s) (sym e) in
+    let c : slice i to s ≡ b ∷ slice (i + 1) to s = slice-on s i to h k ∙ ap (λ (x : ℕ). x ∷ slice (i + 1) to s) (sym e) in
     ap (λ (x : List ℕ). push x t)
     (ap (marks escape start m u) c ∙ marks-on escape start m u b (slice (i + 1) to s)
     ∙ ap (λ (x : Bool). (cond (escape && x) (ascii "\\") [] ++ (b ∷ [])) ++ marks escape false m u (slice (i + 1) to s)) (sym f))
@@ -184,3 +187,48 @@ whole-apart text src = record { inside = omega arith; ordered = omega arith; wit
 pub whole-writes : (src : List ℕ) (f : List ℕ → Out) {text after : List ℕ} {r : Wrote} → WritesIn (length text) text after r (f (slice 0 (length src) src)) → Writes (length text) after r (f src)
 whole-writes src f {text} {after} {r} w =
     subst₂ (λ (x y : List ℕ). Writes (length text) x r (f y)) (take-all (length text) after (omega (arith, w .long))) (take-length src) (w .writes)
+
+-- ---- bytes behind the room, copied before it: i of them so far
+
+module _ (d : List ℕ) (room len from : ℕ) (h : len ≤ room) (k : room ≤ from) where
+  pub own-byte : (i : ℕ) → len + i < room → from + i < length d → getD (paste d len (drop from d) i) (from + i) 0 ≡ getD (drop from d) i 0
+  own-byte i l m =
+      let a : len + i + (from - len) ≡ from + i = omega arith in
+      ap (λ (j : ℕ). getD (paste d len (drop from d) i) j 0) (sym a)
+      ∙ sym (getD-drop (len + i) (paste d len (drop from d) i) (from - len) 0)
+      ∙ ap (λ (x : List ℕ). getD x (from - len) 0) (drop-paste d len (drop from d) i (omega arith) (omega (arith, length-drop from d)))
+      ∙ getD-drop (len + i) d (from - len) 0 ∙ ap (λ (j : ℕ). getD d j 0) a ∙ sym (getD-drop from d i 0)
+
+  module _ (n : ℕ) (m : from + n ≤ length d) where
+    part : slice from (from + n) d ≡ take n (drop from d)
+    part = let a : from + n - from ≡ n = omega arith in sym (part-is from (from + n) d) ∙ ap (λ (j : ℕ). take j (drop from d)) a
+
+    pub own-full : room - len < n → WritesIn room d d Full (push (slice from (from + n) d) (take len d))
+    unfolding push
+    own-full q =
+        record {
+          long = refl;
+          writes = record { says = record { over = omega (arith, q, length-append (take len d) (slice from (from + n) d), length-take-le len d (omega arith), ap length part, length-take-le n (drop from d) (omega (arith, length-drop from d))) } };
+          behind = refl;
+        }
+
+    pub own-done : (after : List ℕ) → n ≤ room - len → after ≡ paste d len (drop from d) n → WritesIn room d after (Done (len + n)) (push (slice from (from + n) d) (take len d))
+    unfolding push
+    own-done after q e =
+        let s = drop from d in
+        let ls : n ≤ length s = omega (arith, length-drop from d) in
+        let long : length after ≡ length d = ap length e ∙ length-paste d len s n (omega arith) ls in
+        let z : len + n + (room - (len + n)) ≡ room = omega arith in
+        record {
+          long = long;
+          writes = record {
+            says = record {
+              long = length-take-le room after (omega arith);
+              fits = omega (arith, length-append (take len d) (slice from (from + n) d), length-take-le len d (omega arith), ap length part, length-take-le n s ls);
+              count = omega (arith, length-append (take len d) (slice from (from + n) d), length-take-le len d (omega arith), ap length part, length-take-le n s ls);
+              text-is = take-take (len + n) room after (omega arith) ∙ ap (take (len + n)) e ∙ take-paste d len s n (omega arith) ls ∙ ap (λ (x : List ℕ). take len d ++ x) (sym part);
+            };
+          };
+          behind = ap (λ (j : ℕ). drop j after) (sym z) ∙ sym (drop-drop (room - (len + n)) (len + n) after) ∙ ap (drop (room - (len + n))) (ap (drop (len + n)) e ∙ drop-paste d len s n (omega arith) ls)
+              ∙ drop-drop (room - (len + n)) (len + n) d ∙ ap (λ (j : ℕ). drop j d) z;
+        }

@@ -9,14 +9,13 @@ use lib.Seq.{slice, length-slice, drop-drop, getD-drop, getD-take, length-take-l
 use lib.Dec.{eqb}
 use borrow.Author.Tests.{eq-eqb, ne-eqb, eqb-true, eqb-false}
 use Rattle.spec.specs.Bytes.{white, null, every, isBlank, words, split, parts, cutAt, filled, «trim_start_matches»}
-use Rattle.spec.specs.Bytes.{ascii, firstWord}
-use Rattle.spec.specs.Out.{andThen, push}
+use Rattle.spec.specs.Bytes.{firstWord}
+use Rattle.spec.specs.Out.{push}
 use Rattle.spec.specs.Md.TextUtils.{startsWithWhite, moreWords, escapedChunk}
 use Rattle.text.specs.Marks.{leadOf, firstAndMore}
 use Rattle.text.specs.Source.{store, Apart}
 use Rattle.tree.proofs.Rules.{null-length}
-use Rattle.text.proofs.Writing.{push-both}
-use Rattle.text.proofs.Sourcing.{Still, slice-kept, getD-kept, part-none}
+use Rattle.text.proofs.Sourcing.{Still, slice-kept, part-none}
 use Rattle.text.specs.Trimmed.{Skipped}
 use Rattle.text.specs.Words.{WordAt, WordEnd}
 use Rattle.text.proofs.Reading.{drop-take, null-some}
@@ -24,7 +23,7 @@ use Rattle.text.proofs.Reading.{drop-take, null-some}
 abbrev pub black : ℕ → Bool
 black b = not (white b)
 
-pub shorter : (p : ℕ → Bool) (s : List ℕ) → length («trim_start_matches» p s) ≤ length s
+shorter : (p : ℕ → Bool) (s : List ℕ) → length («trim_start_matches» p s) ≤ length s
 unfolding «trim_start_matches»
 shorter p [] = omega arith
 shorter p (b ∷ s) = go (shorter p s) (p b)
@@ -35,7 +34,7 @@ shorter p (b ∷ s) = go (shorter p s) (p b)
 
 -- ---- white bytes in front
 
-pub words-white : (s : List ℕ) → words s ≡ words («trim_start_matches» white s)
+words-white : (s : List ℕ) → words s ≡ words («trim_start_matches» white s)
 unfolding words split parts cutAt filled null «trim_start_matches»
 words-white [] = refl
 words-white (b ∷ s) = go (words-white s) (white b) refl
@@ -132,7 +131,7 @@ black-some (b ∷ s) zero h e p =
     absurd (omega (arith, ap length q, shorter black s))
 black-some (b ∷ s) (suc k) h e p = omega arith
 
-pub words-first : (s : List ℕ) (k : ℕ) → 0 < k → Skipped s k («trim_start_matches» black s) → words s ≡ take k s ∷ words (drop k s)
+words-first : (s : List ℕ) (k : ℕ) → 0 < k → Skipped s k («trim_start_matches» black s) → words s ≡ take k s ∷ words (drop k s)
 unfolding words split filled
 words-first s k h p =
     let r = first-parts s k p in
@@ -163,40 +162,10 @@ word-end s i to k h l b p =
 -- ---- the words of a text that is read
 
 module _ {own : Bool} {text src : List ℕ} {room from to : ℕ} (p : Apart own text src room from to) {now : List ℕ} (q : Still room text now) where
-  pub word-at-kept : (i r : ℕ) → from ≤ i → WordAt (store own now src) i to r → WordAt (store own text src) i to r
-  word-at-kept i r h w =
-      let a : slice i to (store own now src) ≡ slice i to (store own text src) = slice-kept p q i to h in
-      record {
-        from = w .from;
-        within = w .within;
-        black = λ z. ap white (sym (getD-kept p q r (omega (arith, w .from)))) ∙ w .black z;
-        same-words = ap words (sym a) ∙ w .same-words ∙ ap words (slice-kept p q r to (omega (arith, w .from)));
-        begins-white = ap startsWithWhite (sym a) ∙ w .begins-white;
-        all-white = ap isBlank (sym a) ∙ w .all-white;
-      }
-
-  pub word-end-kept : (i e : ℕ) → from ≤ i → WordEnd (store own now src) i to e → WordEnd (store own text src) i to e
-  word-end-kept i e h w =
-      record {
-        some = w .some;
-        within = w .within;
-        first = ap words (sym (slice-kept p q i to h)) ∙ w .first ∙ ap (λ (x : List ℕ). x ∷ words (slice e to (store own now src))) (slice-kept p q i e h)
-            ∙ ap (λ (x : List ℕ). slice i e (store own text src) ∷ words x) (slice-kept p q e to (omega (arith, w .some)));
-      }
-
   pub first-kept : (i e : ℕ) (escape start : Bool) (last : ℕ) → from ≤ i → i ≤ e → firstAndMore (store own text src) i e to escape start last ≡ firstAndMore (store own now src) i e to escape start last
   first-kept i e escape start last h k =
       ap (λ (z : List ℕ). escapedChunk z escape start ++ (moreWords escape (words (slice e to (store own text src))) ++ leadOf last)) (sym (slice-kept p q i e h))
       ∙ ap (λ (z : List ℕ). escapedChunk (slice i e (store own now src)) escape start ++ (moreWords escape (words z) ++ leadOf last)) (sym (slice-kept p q e to (omega arith)))
-
--- one word more
-pub more-turn : (s : List ℕ) (i to e : ℕ) (escape : Bool) (w t : List ℕ) → WordEnd s i to e → w ≡ slice i e s
-    → push (moreWords escape (words (slice i to s))) t ≡ andThen (push (ascii " " ++ escapedChunk w escape false) t) (push (moreWords escape (words (slice e to s))))
-unfolding moreWords
-more-turn s i to e escape w t p q =
-    ap (λ (x : List ℕ). push x t)
-    (ap (moreWords escape) (p .first) ∙ ap (λ (x : List ℕ). ascii " " ++ (escapedChunk x escape false ++ moreWords escape (words (slice e to s)))) (sym q))
-    ∙ push-both (ascii " " ++ escapedChunk w escape false) (moreWords escape (words (slice e to s))) t
 
 pub more-none : (s : List ℕ) (i to : ℕ) (escape : Bool) (t : List ℕ) → to ≤ i → push (moreWords escape (words (slice i to s))) t ≡ push [] t
 unfolding moreWords words split parts filled null

@@ -6,6 +6,7 @@ pub mod Lifted
 pub mod Source
 pub mod Marks
 pub mod Words
+pub mod Flow
 pub mod Url
 pub mod Kept
 pub mod Parsed

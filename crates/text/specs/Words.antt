@@ -1,13 +1,13 @@
 -- Where words begin and end in a part of a text. Assumes nothing.
 use Prim.Native.Nat.{ℕ, _≤_, _<_}
 use mathlib.Core.Path.{_≡_}
-use mathlib.Core.Bool.{Bool, false, not}
-use mathlib.Core.List.{List, _∷_, _++_}
-use lib.ListN.{length, take, drop, getD}
+use mathlib.Core.Bool.{false, not}
+use mathlib.Core.List.{List, _∷_}
+use lib.ListN.{getD}
 use lib.Dec.{eqb}
 use lib.Seq.{slice}
 use Rattle.spec.specs.Bytes.{white, words, isBlank}
-use Rattle.spec.specs.Md.TextUtils.{startsWithWhite, moreWords}
+use Rattle.spec.specs.Md.TextUtils.{startsWithWhite}
 
 -- the first word of s from i on begins at r, or there is none and r is `to`
 pub record WordAt (s : List ℕ) (i to r : ℕ) : Type 0 where
@@ -23,8 +23,3 @@ pub record WordEnd (s : List ℕ) (i to e : ℕ) : Type 0 where
   pub some : i < e
   pub within : e ≤ to
   pub first : words (slice i to s) ≡ slice i e s ∷ words (slice e to s)
-
--- the first n bytes of s are words that are appended as they are, each behind one blank
-pub record OrdinaryWords (s : List ℕ) (n : ℕ) : Type 0 where
-  pub within : n ≤ length s
-  pub more : (escape : Bool) → moreWords escape (words s) ≡ take n s ++ moreWords escape (words (drop n s))

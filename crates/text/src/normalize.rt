@@ -1,10 +1,10 @@
 // push_normalized_text of text_utils.rs with push_escaped_chunk, for a text from another slice or from the own memory.
 // What is read is src or, where `own` says so, text; what is written stays before `room`.
 ghost use mathlib.Core.Path.{_≡_};
-ghost use mathlib.Core.Bool.{Bool, cond, true, false, _||_, _&&_};
+ghost use mathlib.Core.Bool.{Bool, cond, true, false, _||_};
 ghost use mathlib.Core.List.{List, [], _∷_, _++_};
 ghost use Prim.Native.Nat.{ℕ, _+_, _≤_, _<_};
-ghost use lib.ListN.{length, take, drop, getD};
+ghost use lib.ListN.{length, take, getD};
 ghost use lib.Seq.{slice};
 ghost use Rattle.spec.specs.Bytes.{ascii, startsWith, isin, every, white, words, same, «trim_start_matches»};
 ghost use Rattle.spec.specs.Out.{push};
@@ -14,7 +14,8 @@ ghost use Rattle.spec.specs.declared.ctx.FormatOpts as Opts;
 ghost use Rattle.text.specs.Class.{inClass};
 ghost use Rattle.text.specs.Marks.{marks, leadOf, firstAndMore, dotWord, leadText, blankText, lineStart};
 ghost use Rattle.text.specs.Trimmed.{Skipped};
-ghost use Rattle.text.specs.Words.{WordAt, WordEnd, OrdinaryWords};
+ghost use Rattle.text.specs.Words.{WordAt, WordEnd};
+ghost use Rattle.text.specs.Flow.{startsBlack, added, flow, flowBefore, plain, Plain, Flows};
 ghost use Rattle.text.specs.Source.{store, Apart, WritesIn};
 use crate::buffer::Class;
 use crate::buffer::Wrote;
@@ -25,7 +26,6 @@ use crate::buffer::ends_with_white;
 use crate::buffer::is_in;
 use crate::buffer::push_all;
 use crate::buffer::push_byte;
-use crate::buffer::starts_with_byte;
 use crate::buffer::trim_start_matches;
 use crate::text_utils::ends_with_marker_digits;
 use crate::text_utils::is_ordered_list_marker;
@@ -193,43 +193,81 @@ fn push_marked(
     Wrote::Done(n)
 }
 
-// Whether a word ends at n in s.
-fn is_word_end(s: &[u8], n: usize) -> bool
-    ensures { λ r. ⌜ (n < length (now (s .entry)) → r ≡ white (getD (now (s .entry)) n 0)) ⌝ }
+// Whether b stands in a text as it is, `next` behind it: an ordinary byte, or a blank before no white byte. Some that would
+// are left out, so that few ranges of bytes are left.
+fn is_plain(b: u8, next: u8) -> bool
+    ensures { λ r. ⌜ (r ≡ true → plain b next ≡ true) ⌝ }
 {
-    if n < s.len() {
-        return is_in(Class::White, s[n]);
-    }
-    true
+    !((b < 14)
+        | ((b == 33)
+            | ((b == 42)
+                | ((b == 60)
+                    | (((91 <= b) & (b < 97))
+                        | (((124 <= b) & (b < 127)) | ((b == 32) & (next < 33))))))))
 }
 
-// The length of a blank and the ordinary word behind it that s begins with; 0 where it begins with something else.
-fn ordinary_word(s: &[u8]) -> usize
-    ensures { λ r. ⌜ OrdinaryWords (now (s .entry)) r ⌝ }
+// The same for the 16 bytes at `at`, without an early exit, so that they can be tested at once.
+fn is_plain_block(s: &[u8], at: usize) -> bool
+    requires { ⌜ at + 17 ≤ length (now s) ⌝ }
+    ensures { λ r. ⌜ (r ≡ true → (i : ℕ) → at ≤ i → i < at + 16 → Plain (now (s .entry)) i) ⌝ }
 {
-    if !starts_with_byte(s, 32) {
-        return 0;
+    let mut all = true;
+    let mut i = 0;
+    while i < 16 {
+        all = all & is_plain(s[at + i], s[at + i + 1]);
+        i += 1;
     }
-    let k = trim_start_matches(&s[1..], Class::Ordinary);
-    if k == 0 {
-        return 0;
-    }
-    if is_word_end(s, k + 1) { k + 1 } else { 0 }
+    all
 }
 
-// How many bytes s begins with that are such words.
-fn ordinary_words(s: &[u8]) -> usize
-    ensures { λ r. ⌜ OrdinaryWords (now (s .entry)) r ⌝ }
+// How many bytes s begins with that stand in a text as they are, in blocks of 16 with a byte behind them.
+fn plain_blocks(s: &[u8]) -> usize
+    ensures { λ r. ⌜ Flows (now (s .entry)) r ⌝ }
 {
     let mut at = 0;
-    while at < s.len() {
-        let k = ordinary_word(&s[at..]);
-        if k == 0 {
+    while 16 < s.len() - at {
+        if !is_plain_block(s, at) {
             return at;
         }
-        at += k;
+        at += 16;
     }
     at
+}
+
+// Whether a byte of a short text is plain; i is not the last.
+fn is_plain_at(s: &[u8], i: usize) -> bool
+    requires { ⌜ i + 1 < length (now s) ⌝ }
+    ensures { λ r. ⌜ (r ≡ true → Plain (now (s .entry)) i) ⌝ }
+{
+    if is_in(Class::Ordinary, s[i]) {
+        return true;
+    }
+    if s[i] != 32 {
+        return false;
+    }
+    32 < s[i + 1]
+}
+
+// Whether the bytes before the last are plain.
+fn is_plain_text(s: &[u8]) -> bool
+    requires { ⌜ 0 < length (now s) ⌝ }
+    ensures { λ r. ⌜ (r ≡ true → (n : ℕ) → length (now (s .entry)) ≡ n + 1 → Flows (now (s .entry)) n) ⌝ }
+{
+    let last = s.len() - 1;
+    if 16 <= last {
+        if 16 <= last - plain_blocks(s) {
+            return false;
+        }
+        return is_plain_block(s, last - 16);
+    }
+    let mut i = 0;
+    while i < last {
+        if !is_plain_at(s, i) {
+            return false;
+        }
+        i += 1;
+    }
+    true
 }
 
 // Whether a text is known to be appended as it is, whatever stands before it: ordinary words with one blank between them, the
@@ -240,26 +278,38 @@ pub fn is_bare_text(s: &[u8]) -> bool
     if (s.len() == 0) | (128 < s.len()) {
         return false;
     }
-    if starts_low(s) | ends_with_white(s) {
+    if starts_low(s) {
         return false;
     }
-    let n = trim_start_matches(s, Class::Ordinary);
-    if n == 0 {
-        return false;
-    }
-    n + ordinary_words(&s[n..]) == s.len()
+    is_plain_text(s) & is_in(Class::Ordinary, s[s.len() - 1])
 }
 
-// The bytes of such words that a part of what is read begins with. It is not asked of the own memory, from which no text is
-// copied at once.
-fn ordinary_in(src: &[u8], text: &[u8], own: bool, from: usize, to: usize) -> usize
+// The plain bytes that a part of what is read begins with.
+fn plain_in(src: &[u8], text: &[u8], own: bool, from: usize, to: usize) -> usize
     requires { ⌜ (from ≤ to) × (to ≤ length (store own (now text) (now src))) ⌝ }
-    ensures { λ r. ⌜ OrdinaryWords (slice from to (store own (now (text .entry)) (now (src .entry)))) r × (own ≡ true → r ≡ 0) ⌝ }
+    ensures { λ r. ⌜ Flows (slice from to (store own (now (text .entry)) (now (src .entry)))) r ⌝ }
 {
     if own {
-        return 0;
+        plain_blocks(&text[from..to])
+    } else {
+        plain_blocks(&src[from..to])
     }
-    ordinary_words(&src[from..to])
+}
+
+// Appends the n bytes at `from`, which stand behind the room.
+fn put_own(text: &mut [u8], room: usize, len: usize, from: usize, n: usize) -> Wrote
+    requires { ⌜ (len ≤ room) × (room ≤ from) × (from + n ≤ length (now text)) ⌝ }
+    ensures { λ r. ⌜ WritesIn room (now (text .entry)) (now (text .exit)) r (push (slice from (from + n) (now (text .entry))) (take len (now (text .entry)))) ⌝ }
+{
+    if room - len < n {
+        return Wrote::Full;
+    }
+    let mut i = 0;
+    while i < n {
+        text[len + i] = text[from + i];
+        i += 1;
+    }
+    Wrote::Done(len + n)
 }
 
 // Appends n bytes of what is read as they are.
@@ -272,11 +322,11 @@ fn push_ordinary(
     room: usize,
     len: usize,
 ) -> Wrote
-    requires { ⌜ (own ≡ true → n ≡ 0) × (from + n ≤ length (store own (now text) (now src))) × (len ≤ room) × (room ≤ length (now text)) ⌝ }
+    requires { ⌜ (own ≡ true → room ≤ from) × (from + n ≤ length (store own (now text) (now src))) × (len ≤ room) × (room ≤ length (now text)) ⌝ }
     ensures { λ r. ⌜ WritesIn room (now (text .entry)) (now (text .exit)) r (push (slice from (from + n) (store own (now (text .entry)) (now (src .entry)))) (take len (now (text .entry)))) ⌝ }
 {
-    if n == 0 {
-        return Wrote::Done(len);
+    if own {
+        return put_own(text, room, len, from, n);
     }
     let to = from + n;
     push_all(&mut text[..room], len, &src[from..to])
@@ -292,18 +342,25 @@ fn starts_low(s: &[u8]) -> bool
     s[0] < 65
 }
 
-// Whether a chunk of another slice is known to need no escape.
+// Whether a chunk is known to need no escape.
+fn is_bare_chunk(chunk: &[u8], line_start: bool) -> bool
+    ensures { λ r. ⌜ (r ≡ true → (escape : Bool) → def.escapedChunk (now (chunk .entry)) escape «line_start» ≡ now (chunk .entry)) ⌝ }
+{
+    if line_start & starts_low(chunk) {
+        return false;
+    }
+    all_in(chunk, Class::Ordinary)
+}
+
 fn is_bare(src: &[u8], text: &[u8], own: bool, from: usize, to: usize, line_start: bool) -> bool
     requires { ⌜ (from ≤ to) × (to ≤ length (store own (now text) (now src))) ⌝ }
-    ensures { λ r. ⌜ (r ≡ true → (own ≡ false) × ((escape : Bool) → def.escapedChunk (slice from to (store own (now (text .entry)) (now (src .entry)))) escape «line_start» ≡ slice from to (store own (now (text .entry)) (now (src .entry))))) ⌝ }
+    ensures { λ r. ⌜ (r ≡ true → (escape : Bool) → def.escapedChunk (slice from to (store own (now (text .entry)) (now (src .entry)))) escape «line_start» ≡ slice from to (store own (now (text .entry)) (now (src .entry)))) ⌝ }
 {
     if own {
-        return false;
+        is_bare_chunk(&text[from..to], line_start)
+    } else {
+        is_bare_chunk(&src[from..to], line_start)
     }
-    if line_start & starts_low(&src[from..to]) {
-        return false;
-    }
-    all_in(&src[from..to], Class::Ordinary)
 }
 
 // push_escaped_chunk for the chunk between `from` and `to`.
@@ -321,7 +378,7 @@ fn push_escaped_chunk(
     requires { ⌜ Apart own (now text) (now src) room from to × (len ≤ room) ⌝ }
     ensures { λ r. ⌜ WritesIn room (now (text .entry)) (now (text .exit)) r (def.«push_escaped_chunk» (slice from to (store own (now (text .entry)) (now (src .entry)))) escape «line_start» (take len (now (text .entry)))) ⌝ }
 {
-    if is_bare(src, text, own, from, to, line_start) {
+    if !escape | is_bare(src, text, own, from, to, line_start) {
         return push_ordinary(src, text, own, from, to - from, room, len);
     }
     let marker = line_start & is_marker_in(src, text, own, from, to);
@@ -380,8 +437,90 @@ fn word_end(src: &[u8], text: &[u8], own: bool, i: usize, to: usize) -> usize
     i + skip_in(src, text, own, i, to, Class::Black)
 }
 
-// Appends a blank and a word.
-fn push_word(
+// Whether a byte that is not white stands at i, before `to`.
+fn begins_word(src: &[u8], text: &[u8], own: bool, i: usize, to: usize) -> bool
+    requires { ⌜ to ≤ length (store own (now text) (now src)) ⌝ }
+    ensures { λ r. ⌜ r ≡ startsBlack (slice i to (store own (now (text .entry)) (now (src .entry)))) ⌝ }
+{
+    if i < to {
+        !is_in(Class::White, byte_at(src, text, own, i))
+    } else {
+        false
+    }
+}
+
+// Appends what the byte at i adds to a text of words: for a white byte a blank, if a word begins behind it.
+fn push_byte_of(
+    src: &[u8],
+    text: &mut [u8],
+    own: bool,
+    i: usize,
+    to: usize,
+    room: usize,
+    len: usize,
+    escape: bool,
+) -> Wrote
+    requires { ⌜ Apart own (now text) (now src) room i to × (i < to) × (len ≤ room) ⌝ }
+    ensures { λ r. ⌜ WritesIn room (now (text .entry)) (now (text .exit)) r (push (added escape (getD (store own (now (text .entry)) (now (src .entry))) i 0) (slice (i + 1) to (store own (now (text .entry)) (now (src .entry))))) (take len (now (text .entry)))) ⌝ }
+{
+    let b = byte_at(src, text, own, i);
+    if is_in(Class::Ordinary, b) {
+        return put(text, room, len, b);
+    }
+    if is_in(Class::White, b) {
+        if begins_word(src, text, own, i + 1, to) {
+            return put(text, room, len, 32);
+        }
+        return Wrote::Done(len);
+    }
+    if b == 33 {
+        let escaped = escape & follows(src, text, own, i + 1, to, 91);
+        return put_escaped(text, room, len, escaped, b);
+    }
+    put_escaped(text, room, len, escape, b)
+}
+
+// Appends what the bytes from `from` up to `stop` add.
+fn push_bytes_of(
+    src: &[u8],
+    text: &mut [u8],
+    own: bool,
+    from: usize,
+    stop: usize,
+    to: usize,
+    room: usize,
+    len: usize,
+    escape: bool,
+) -> Wrote
+    requires { ⌜ Apart own (now text) (now src) room from to × (from ≤ stop) × (stop ≤ to) × (len ≤ room) ⌝ }
+    ensures { λ r. ⌜ WritesIn room (now (text .entry)) (now (text .exit)) r (push (flowBefore escape (slice from stop (store own (now (text .entry)) (now (src .entry)))) (slice stop to (store own (now (text .entry)) (now (src .entry))))) (take len (now (text .entry)))) ⌝ }
+{
+    let mut n = len;
+    let mut i = from;
+    while i < stop {
+        match push_byte_of(src, text, own, i, to, room, n, escape) {
+            Wrote::Done(m) => {
+                n = m;
+            }
+            Wrote::Full => {
+                return Wrote::Full;
+            }
+        }
+        i += 1;
+    }
+    Wrote::Done(n)
+}
+
+// Where the next 16 bytes end, or `to`.
+fn stretch_end(at: usize, to: usize) -> usize
+    requires { ⌜ at ≤ to ⌝ }
+    ensures { λ r. ⌜ (at ≤ r) × (r ≤ to) × (at < to → at < r) ⌝ }
+{
+    if 16 < to - at { at + 16 } else { to }
+}
+
+// Appends the words from `from` on, one blank between them: plain bytes at once, the others one by one.
+fn push_flow(
     src: &[u8],
     text: &mut [u8],
     own: bool,
@@ -392,24 +531,33 @@ fn push_word(
     escape: bool,
 ) -> Wrote
     requires { ⌜ Apart own (now text) (now src) room from to × (len ≤ room) ⌝ }
-    ensures { λ r. ⌜ WritesIn room (now (text .entry)) (now (text .exit)) r (push (ascii " " ++ def.escapedChunk (slice from to (store own (now (text .entry)) (now (src .entry)))) escape false) (take len (now (text .entry)))) ⌝ }
+    ensures { λ r. ⌜ WritesIn room (now (text .entry)) (now (text .exit)) r (push (flow escape (slice from to (store own (now (text .entry)) (now (src .entry))))) (take len (now (text .entry)))) ⌝ }
 {
-    match put(text, room, len, 32) {
-        Wrote::Done(n) => push_marked(
-            src,
-            text,
-            own,
-            from,
-            to,
-            room,
-            n,
-            escape,
-            false,
-            false,
-            false,
-        ),
-        Wrote::Full => Wrote::Full,
+    let mut n = len;
+    let mut at = from;
+    while at < to {
+        let k = plain_in(src, text, own, at, to);
+        match push_ordinary(src, text, own, at, k, room, n) {
+            Wrote::Done(m) => {
+                n = m;
+            }
+            Wrote::Full => {
+                return Wrote::Full;
+            }
+        }
+        at += k;
+        let stop = stretch_end(at, to);
+        match push_bytes_of(src, text, own, at, stop, to, room, n, escape) {
+            Wrote::Done(m) => {
+                n = m;
+            }
+            Wrote::Full => {
+                return Wrote::Full;
+            }
+        }
+        at = stop;
     }
+    Wrote::Done(n)
 }
 
 // Appends the words from `from` on, each behind a blank.
@@ -426,33 +574,14 @@ fn push_words(
     requires { ⌜ Apart own (now text) (now src) room from to × (len ≤ room) ⌝ }
     ensures { λ r. ⌜ WritesIn room (now (text .entry)) (now (text .exit)) r (push (def.moreWords escape (words (slice from to (store own (now (text .entry)) (now (src .entry)))))) (take len (now (text .entry)))) ⌝ }
 {
-    let mut n = len;
-    let mut at = from;
-    while at < to {
-        let k = ordinary_in(src, text, own, at, to);
-        match push_ordinary(src, text, own, at, k, room, n) {
-            Wrote::Done(m) => {
-                n = m;
-            }
-            Wrote::Full => {
-                return Wrote::Full;
-            }
-        }
-        at = next_word(src, text, own, at + k, to);
-        if at < to {
-            let end = word_end(src, text, own, at, to);
-            match push_word(src, text, own, at, end, room, n, escape) {
-                Wrote::Done(m) => {
-                    n = m;
-                }
-                Wrote::Full => {
-                    return Wrote::Full;
-                }
-            }
-            at = end;
-        }
+    let at = next_word(src, text, own, from, to);
+    if at == to {
+        return Wrote::Done(len);
     }
-    Wrote::Done(n)
+    match put(text, room, len, 32) {
+        Wrote::Done(n) => push_flow(src, text, own, at, to, room, n, escape),
+        Wrote::Full => Wrote::Full,
+    }
 }
 
 // Appends `lead`, unless it is 0.

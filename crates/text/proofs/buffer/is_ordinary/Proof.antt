@@ -1,12 +1,13 @@
 -- `text::buffer::is_ordinary` meets its contract: the decisions and the definition agree on every byte, which is computed. Assumes nothing.
 use Prim.Native.Nat.{ℕ, _<_}
 use mathlib.Core.Path.{_≡_, refl, sym, _∙_}
-use mathlib.Core.Bool.{Bool, true, false, cond, not, _&&_, _||_}
+use mathlib.Core.Bool.{Bool, true, cond, not, _&&_, _||_}
 use lib.Dec.{eqb, leb, ltb}
 use borrow.Author.Tests.{le-leb, lt-leb}
 use Rattle.spec.specs.Bytes.{isin, white}
 use Rattle.text.specs.Class.{ordinary}
 use Rattle.text.proofs.Writing.{yes, no}
+use Rattle.text.proofs.Ordinary.{agree}
 use Rattle.tree.proofs.Sequences.{below, below-at}
 use Rattle.text.proofs.buffer.is_ordinary.Statement.{statement}
 use Rattle.text.proofs.buffer.is_ordinary.Tie as tie
@@ -23,12 +24,6 @@ right b = cond (decided b) (ordinary b) (not (ordinary b))
 all-right : below right 256 ≡ true
 unfolding below white isin
 all-right = refl
-
-agree : (x y : Bool) → cond x y (not y) ≡ true → x ≡ y
-agree true true e = refl
-agree true false e = sym e
-agree false true e = e
-agree false false e = refl
 
 law : (b : ℕ) → b < 256 → decided b ≡ ordinary b
 law b h = agree (decided b) (ordinary b) (below-at right 256 b all-right h)

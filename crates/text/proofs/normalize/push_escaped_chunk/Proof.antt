@@ -1,12 +1,12 @@
 -- `text::normalize::push_escaped_chunk` meets its contract. Assumes nothing.
 use Prim.Native.Nat.{ℕ, _+_, _-_}
-use mathlib.Core.Path.{_≡_, sym, ap, _∙_}
-use mathlib.Core.Bool.{false≢true}
+use mathlib.Core.Path.{_≡_, refl, sym, ap, _∙_}
+use mathlib.Core.Bool.{Bool, true, false, not, _||_}
 use mathlib.Core.List.{List}
 use lib.ListN.{take}
 use lib.Seq.{slice}
 use Rattle.spec.specs.Out.{push}
-use Rattle.spec.specs.Md.TextUtils.{«push_escaped_chunk»}
+use Rattle.spec.specs.Md.TextUtils.{escapedChunk, «push_escaped_chunk»}
 use Rattle.text.specs.Source.{store}
 use Rattle.text.proofs.Sourcing.{chunk-is, alike-in}
 use native.Mathlib.Omega.{arith}
@@ -23,24 +23,28 @@ sub-push-ordinary c =
 
 push-ordinary-requires : tie.Need-push-ordinary-requires
 push-ordinary-requires c κs =
-    let a = c .before .before .before .before .before .before .args in
     let p = c .before .before .before .before .before .before .pre in
-    let b = c .before .before .is-bare .ensures (c .before .if1 .taken) in
-    (λ e. absurd (false≢true (sym (b .0) ∙ e)), omega (arith, p .0 .ordered, p .0 .within), p .1, p .0 .inside)
+    (p .0 .behind, omega (arith, p .0 .ordered, p .0 .within), p .1, p .0 .inside)
 
 same-length : tie.Need-same-length
 same-length c =
     c .before .before .push-ordinary .ensures .long
+
+-- no escape is wanted, or none is needed
+as-it-is : (x : List ℕ) (escape start bare : Bool) → (bare ≡ true → (escape : Bool) → escapedChunk x escape start ≡ x) → not escape || bare ≡ true → escapedChunk x escape start ≡ x
+unfolding escapedChunk
+as-it-is x false start bare h e = refl
+as-it-is x true start bare h e = h e true
 
 returns : tie.Need-returns
 unfolding «push_escaped_chunk»
 returns c =
     let a = c .before .before .before .before .before .before .before .before .before .args in
     let p = c .before .before .before .before .before .before .before .before .before .pre in
-    let b = c .before .before .before .before .before .is-bare .ensures (c .before .before .before .before .if1 .taken) in
+    let b = c .before .before .before .before .before .is-bare in
     let x = store (a .own) (a .text .now) (a .src .now) in
     let n : a .from + (a .to - a .from) ≡ a .to = omega (arith, p .0 .ordered) in
-    alike-in (ap (λ (y : List ℕ). push y (take (a .len) (a .text .now))) (b .1 (a .escape) ∙ ap (λ (e : ℕ). slice (a .from) e x) (sym n))) (c .before .before .push-ordinary .ensures)
+    alike-in (ap (λ (y : List ℕ). push y (take (a .len) (a .text .now))) (as-it-is (slice (a .from) (a .to) x) (a .escape) (a .line-start) (b .result) (b .ensures) (c .before .before .before .before .if1 .taken) ∙ ap (λ (e : ℕ). slice (a .from) e x) (sym n))) (c .before .before .push-ordinary .ensures)
 
 is-marker-in-requires : tie.Need-is-marker-in-requires
 is-marker-in-requires c κs =

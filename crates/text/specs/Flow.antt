@@ -1,0 +1,45 @@
+-- A text that is appended byte by byte: what a byte adds depends on itself and on what stands behind it. Assumes nothing.
+use Prim.Native.Nat.{ℕ, _+_, _≤_, _<_}
+use mathlib.Core.Path.{_≡_}
+use mathlib.Core.Bool.{Bool, true, false, cond, not, _&&_, _||_}
+use mathlib.Core.List.{List, [], _∷_, _++_}
+use lib.ListN.{length, getD}
+use lib.Dec.{eqb}
+use Rattle.spec.specs.Bytes.{Bytes, ascii, white}
+use Rattle.spec.specs.Md.TextUtils.{isEscaped}
+use Rattle.text.specs.Class.{ordinary}
+
+-- a word begins with s
+unfoldable pub startsBlack : Bytes → Bool
+startsBlack [] = false
+startsBlack (b ∷ rest) = not (white b)
+
+-- what b adds before `rest`: a white byte a blank, where a word begins behind it
+unfoldable pub added : Bool → ℕ → Bytes → Bytes
+added escape b rest =
+    cond (white b) (cond (startsBlack rest) (ascii " ") [])
+    (cond (escape && isEscaped false false false b rest) (ascii "\\") [] ++ (b ∷ []))
+
+-- what all bytes add
+unfoldable pub flow : Bool → Bytes → Bytes
+flow escape [] = []
+flow escape (b ∷ rest) = added escape b rest ++ flow escape rest
+
+-- what the bytes of `part` add before `rest`
+unfoldable pub flowBefore : Bool → Bytes → Bytes → Bytes
+flowBefore escape [] rest = []
+flowBefore escape (b ∷ part) rest = added escape b (part ++ rest) ++ flowBefore escape part rest
+
+-- b adds itself before `next`: an ordinary byte, or a blank before a word
+abbrev pub plain : ℕ → ℕ → Bool
+plain b next = ordinary b || (eqb b 32 && not (white next))
+
+-- the byte at i has a byte behind it, and adds itself
+pub record Plain (s : Bytes) (i : ℕ) : Type 0 where
+  pub followed : i + 1 < length s
+  pub adds-itself : plain (getD s i 0) (getD s (i + 1) 0) ≡ true
+
+-- the first n bytes of s are appended as they are
+pub record Flows (s : Bytes) (n : ℕ) : Type 0 where
+  pub within : n ≤ length s
+  pub each : (i : ℕ) → i < n → Plain s i
