@@ -1,7 +1,7 @@
 -- Ends of texts: backslashes, markers of emphasis, line breaks in cells, runs of backticks. Assumes nothing.
 use Prim.Native.Nat.{ℕ, zero, suc, _+_, _-_, _%_, _≤_, _<_, max}
 use mathlib.Core.Path.{_≡_, refl, sym, ap, _∙_}
-use mathlib.Core.Bool.{Bool, true, false, cond, not, _&&_, _||_, false≢true}
+use mathlib.Core.Bool.{Bool, true, false, cond, not, _&&_, _||_, false≢true, true≢false}
 use mathlib.Core.List.{List, [], _∷_, _++_}
 use native.Mathlib.Omega.{arith}
 use native.Mathlib.Numerals.{add-one}
@@ -9,7 +9,7 @@ use lib.ListN.{length, take, drop, getD, length-drop, drop-of-length-le}
 use lib.Seq.{length-take-le, take-take, drop-cons}
 use lib.Dec.{eqb, ltb}
 use borrow.Author.Tests.{eq-eqb, ne-eqb, eqb-true, eqb-false, ltb-false, ltb-true}
-use Rattle.spec.specs.Bytes.{ascii, same, null, endsWith, one, white, «trim_end_matches», «trim_ascii_end»}
+use Rattle.spec.specs.Bytes.{ascii, isin, same, null, endsWith, one, white, «trim_end_matches», «trim_ascii_end»}
 use Rattle.spec.specs.Out.{keep, push, cut, andThen}
 use Rattle.spec.specs.Md.TextUtils.{trimBlanks}
 use Rattle.spec.specs.Md.Elements.Emphasis.{backslashes, «is_exact_marker_end», endsWithEmphasis, dropEnd, «try_trim_prev_emphasis_marker»}
@@ -133,6 +133,17 @@ run-all best run i s h = ap (λ (l : List ℕ). max best (longestRun run l)) (no
     none [] (suc j) k = refl
     none (x ∷ l) zero k = absurd (omega arith)
     none (x ∷ l) (suc j) k = none l j (omega arith)
+
+pub run-none : (s : List ℕ) → isin 96 s ≡ false → longestRun 0 s ≡ 0
+unfolding longestRun isin
+run-none [] e = refl
+run-none (b ∷ s) e =
+    let q : (eqb 96 b ≡ false) × (isin 96 s ≡ false) = or-parts (eqb 96 b) (isin 96 s) e in
+    rw (ne-eqb b 96 (λ z. eqb-false 96 b (q .0) (sym z))) (omega (arith, run-none s (q .1)))
+  where
+    or-parts : (x y : Bool) → (x || y) ≡ false → (x ≡ false) × (y ≡ false)
+    or-parts true y e = absurd (true≢false e)
+    or-parts false y e = (refl, e)
 
 -- ---- the marker taken away
 

@@ -1,7 +1,7 @@
 -- Tests on texts, byte by byte. Assumes nothing.
 use Prim.Native.Nat.{ℕ, zero, suc, _+_, _-_, _≤_, _<_}
 use mathlib.Core.Path.{_≡_, refl, sym, ap, _∙_}
-use mathlib.Core.Bool.{Bool, true, false, not, _&&_, false≢true}
+use mathlib.Core.Bool.{Bool, true, false, not, _&&_, _||_, false≢true}
 use mathlib.Core.List.{List, [], _∷_}
 use native.Mathlib.Omega.{arith}
 use native.Mathlib.Numerals.{add-one}
@@ -121,13 +121,9 @@ ends-some (x ∷ s) b e = omega arith
 
 -- ---- one of the bytes
 
-pub isin-here : (s : List ℕ) (i b : ℕ) → i < length s → getD s i 0 ≡ b → isin b (drop i s) ≡ true
+pub isin-step : (s : List ℕ) (i b : ℕ) → i < length s → isin b (drop i s) ≡ (eqb b (getD s i 0) || isin b (drop (i + 1) s))
 unfolding isin
-isin-here s i b h e = rw (drop-cons s i 0 h, eq-eqb b (getD s i 0) (sym e))
-
-pub isin-on : (s : List ℕ) (i b : ℕ) → i < length s → (getD s i 0 ≡ b → ⊥) → isin b (drop i s) ≡ isin b (drop (i + 1) s)
-unfolding isin
-isin-on s i b h e = rw (drop-cons s i 0 h, add-one i, ne-eqb b (getD s i 0) (λ q. e (sym q)))
+isin-step s i b h = rw (drop-cons s i 0 h, add-one i)
 
 pub isin-none : (s : List ℕ) (i b : ℕ) → length s ≤ i → isin b (drop i s) ≡ false
 unfolding isin

@@ -203,6 +203,19 @@ pub fn all_in(s: &[u8], class: Class) -> bool
     true
 }
 
+// Whether b stands in s: without an early exit, so that many bytes can be tested at once.
+pub fn contains_byte(s: &[u8], b: u8) -> bool
+    ensures { λ r. ⌜ r ≡ isin b (now (s .entry)) ⌝ }
+{
+    let mut found = false;
+    let mut i = 0;
+    while i < s.len() {
+        found = found | (b == s[i]);
+        i += 1;
+    }
+    found
+}
+
 // Appends a byte.
 pub fn push_byte(text: &mut [u8], len: usize, b: u8) -> Wrote
     requires { ⌜ len ≤ length (now text) ⌝ }
@@ -334,6 +347,9 @@ pub fn is_white_space_2(a: u8, b: u8) -> bool
 pub fn is_white_space_3(a: u8, b: u8, c: u8) -> bool
     ensures { λ r. ⌜ r ≡ isWhiteSpace (a ∷ b ∷ c ∷ []) ⌝ }
 {
+    if a < 225 {
+        return false;
+    }
     ((a == 225) & ((b == 154) & (c == 128)))
         | (((a == 226) & ((b == 128) & (c == 128)))
             | (((a == 226) & ((b == 128) & (c == 129)))

@@ -13,6 +13,7 @@ ghost use Rattle.spec.specs.Md.Elements.Code as def;
 use crate::buffer::Class;
 use crate::buffer::Wrote;
 use crate::buffer::all_in;
+use crate::buffer::contains_byte;
 use crate::buffer::ends_with;
 use crate::buffer::ends_with_byte;
 use crate::buffer::is_in;
@@ -46,6 +47,9 @@ fn best_run(best: usize, run: usize, b: u8) -> usize
 pub fn max_backtick_run(s: &[u8]) -> usize
     ensures { λ r. ⌜ r ≡ def.«max_backtick_run» (now (s .entry)) ⌝ }
 {
+    if !contains_byte(s, 96) {
+        return 0;
+    }
     let mut best = 0;
     let mut run = 0;
     let mut i = 0;

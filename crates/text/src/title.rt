@@ -12,25 +12,13 @@ ghost use Rattle.spec.specs.Md.TextUtils as def;
 ghost use Rattle.text.specs.Source.{WritesIn};
 ghost use Rattle.text.specs.Writes.{Writes};
 use crate::buffer::Wrote;
+use crate::buffer::contains_byte;
 use crate::buffer::lift;
 use crate::buffer::push_all;
 use crate::buffer::push_byte;
 use crate::normalize::put_escaped;
 use crate::text_utils::push_normalized_text;
 use spec::ctx::FormatOpts;
-
-pub fn contains_byte(s: &[u8], b: u8) -> bool
-    ensures { λ r. ⌜ r ≡ isin b (now (s .entry)) ⌝ }
-{
-    let mut i = 0;
-    while i < s.len() {
-        if s[i] == b {
-            return true;
-        }
-        i += 1;
-    }
-    false
-}
 
 // Appends the n bytes at base, with their quote marks escaped, before base.
 fn push_quoted(text: &mut [u8], base: usize, n: usize, len: usize) -> Wrote
