@@ -252,16 +252,15 @@ module _ (sh ns : Bytes) (c : ℕ) {place : ℕ} (at : place ≡ placeAt ns c) w
         let d = subst (λ (k : ℕ). (not (eqb k 4) && not (eqb k 1)) ≡ true) e b in
         record { for = λ parent f anc h a. goes-alike (one-is parent f anc h ∙ of-comment sh ns parent c (serializer skips levels) anc item start f h d) (stays l) }
 
-    pub child-skipped : {b : Bool} → len ≤ length xs → b ≡ skippedAt skips sh place → b ≡ true → GoesForest sh ns c (endAt ns c) children (length xs) xs (On len isFirst due)
+    pub child-skipped : {b : Bool} → len ≤ length xs → b ≡ skippedAt skips sh (placeAt ns c) → b ≡ true → GoesForest sh ns c (endAt ns c) children (length xs) xs (On len isFirst due)
     unfolding serializer
     child-skipped l k b =
-        let d : skippedAt skips sh (placeAt ns c) ≡ true = sym (k ∙ ap (skippedAt skips sh) at) ∙ b in
-        record { for = λ parent f anc h a. goes-alike (one-is parent f anc h ∙ of-skipped sh ns parent c (serializer skips levels) anc item start f h d) (stays l) }
+        record { for = λ parent f anc h a. goes-alike (one-is parent f anc h ∙ of-skipped sh ns parent c (serializer skips levels) anc item start f h (sym k ∙ b)) (stays l) }
 
-    module _ {b : Bool} (k : b ≡ skippedAt skips sh place) (b-no : b ≡ false) (p : c < endAt ns c) {w : Bool}
+    module _ {b : Bool} (k : b ≡ skippedAt skips sh (placeAt ns c)) (b-no : b ≡ false) (p : c < endAt ns c) {w : Bool}
         (wraps : (parent e : ℕ) (f : Forest) → Rep sh ns parent c e f → c < e → w ≡ «node_is_block_wrapper» (nameOf f) (kidsOf f)) where
       left-in : skippedAt skips sh (placeAt ns c) ≡ false
-      left-in = sym (k ∙ ap (skippedAt skips sh) at) ∙ b-no
+      left-in = sym k ∙ b-no
 
       pub child-wrapper : {end : ℕ} {final : Bytes} {r : Going} → end ≡ endAt ns c → w ≡ true → 0 < c → GoesForest sh ns (c + 1) end children (length xs) final r → GoesForest sh ns c (endAt ns c) children (length xs) final r
       unfolding serializer
