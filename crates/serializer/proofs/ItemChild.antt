@@ -309,7 +309,7 @@ module _ {t : ℕ} (n c to : ℕ) (q : n * 147573952589676412928 + 10 + (to - c)
   pub kids-fall : {end e : ℕ} → end ≡ e → e ≤ to → c < e → n * 147573952589676412928 + 11 + (end - (c + 1)) * 2 < t
   kids-fall d l p = omega (arith, q, d, l, p)
 
-  pub alone-falls : n * 147573952589676412928 + 5 < t
+  pub alone-falls : n * 147573952589676412928 + 6 < t
   alone-falls = omega (arith, q)
 
 -- that of the children, at one of them

@@ -1,7 +1,7 @@
 -- What `write` does at one node, and in an element. Assumes nothing.
 use Prim.Native.Nat.{ℕ, _+_, _<_}
 use native.Mathlib.Omega.{arith}
-use mathlib.Core.Path.{_≡_, refl, ap, _∙_}
+use mathlib.Core.Path.{_≡_, refl, ap, subst, _∙_}
 use mathlib.Core.Bool.{true, false, not, _&&_}
 use mathlib.Core.List.{List, _∷_}
 use lib.ListN.{getD}
@@ -45,6 +45,15 @@ module _ (sh ns : Bytes) (parent i : ℕ) (l : i < endAt ns i) where
       rw (ne-eqb (getD sh (placeAt ns i) 0) 4 (λ x. omega (arith, its-tag (h .1))))
       (ap (λ (g : Forest). writeNodes self anc opts g t) (ended sh ns parent (i + 1) (endAt ns i) r (h .4) (omega (arith, h .2))))
   node-text self anc opts t (element name attrs k r) h u = absurd (u (its-tag (h .1)))
+
+-- one text is all from i up to e
+pub one-is : (sh ns : Bytes) (parent i e : ℕ) → i + 1 ≡ e → getD sh (placeAt ns i) 0 ≡ 4
+    → (self : MDSerializer) (anc : Ancestors) (opts : FormatOpts) (t : Bytes) (f : Forest) → Rep sh ns parent i e f
+    → writeNodes self anc opts f t ≡ textStep opts sh (placeAt ns i) t
+one-is sh ns parent i e n g self anc opts t f h =
+    let k = first sh ns parent i e f h (omega arith) in
+    let q : e ≡ endAt ns i = omega (arith, k .later, k .within) in
+    node-text sh ns parent i (k .later) self anc opts t f (subst (λ (j : ℕ). Rep sh ns parent i j f) q h) (λ x. omega arith)
 
 -- an element alone
 module _ (self : MDSerializer) (anc : Ancestors) (opts : FormatOpts) (name : Bytes) (attrs : List Attr) (kids : Forest) (t : Bytes) where

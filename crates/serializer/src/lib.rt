@@ -65,7 +65,6 @@ use list_items::start_item;
 use list_items::start_item_blocks;
 use progress::Going;
 use progress::going_on;
-use progress::is_blank_text;
 use progress::rule_block;
 use spec::ctx::FormatOpts;
 use spec::ctx::ListContext;
@@ -81,6 +80,8 @@ use text::table::escape_table_cell_inplace;
 use text::table::trim_trailing_cell_break;
 use text::text_utils::push_linebreak;
 use text::text_utils::trim_space;
+use texts::is_blank_text;
+use texts::is_one_text;
 use tree::attributes::Value;
 use tree::attributes::attribute;
 use tree::nodes::node_end;
@@ -88,6 +89,7 @@ use tree::nodes::node_place;
 use tree::nodes::tag_at;
 
 pub mod progress;
+pub mod texts;
 
 // serializer.rs: the nodes from number `from` up to `to`, siblings of one another, each with itself; `levels` falls.
 pub fn write(
@@ -123,6 +125,29 @@ pub fn write(
         at = node_end(nodes, at);
     }
     Wrote::Done(end)
+}
+
+// The same. One text that stands alone is written at once.
+fn siblings(
+    sheet: &[u8],
+    own: bool,
+    run: &[u8],
+    nodes: &mut [u8],
+    text: &mut [u8],
+    len: usize,
+    from: usize,
+    to: usize,
+    opts: FormatOpts,
+    levels: usize,
+) -> Wrote
+    requires { ⌜ Placeds (now sheet) (now nodes) from to × Ready (now sheet) (now text) len × Fits opts levels ⌝ }
+    ensures kept { λ r. ⌜ Kept from to (now (nodes .entry)) (now (nodes .exit)) ⌝ }
+    ensures { λ r. ⌜ WritesForest (now (sheet .entry)) (now (nodes .entry)) from to (λ anc f. writeAt (skipTags (skipList own (now (run .entry)))) levels anc opts f) (take len (now (text .entry))) (length (now (text .entry))) (now (text .exit)) r ⌝ }
+{
+    if (levels != 0) & is_one_text(sheet, nodes, from, to) {
+        return write_text_node(sheet, nodes, text, len, from, opts);
+    }
+    write(sheet, own, run, nodes, text, len, from, to, opts, levels)
 }
 
 // One node, with itself.
@@ -175,7 +200,7 @@ fn inside(
         return write_element(sheet, own, run, nodes, text, len, at, name, opts, levels);
     }
     let to = node_end(nodes, at);
-    match write(sheet, own, run, nodes, text, len, at + 1, to, opts, levels) {
+    match siblings(sheet, own, run, nodes, text, len, at + 1, to, opts, levels) {
         Wrote::Done(n) => closed(text, n, name, opts),
         Wrote::Full => Wrote::Full,
     }
@@ -237,7 +262,7 @@ fn kids(
     ensures { λ r. ⌜ WritesElement (now (sheet .entry)) (now (nodes .entry)) at (λ anc name attrs kids. writeKids (selfAt own (now (run .entry)) levels) anc opts (element name attrs kids nothing)) (take len (now (text .entry))) (length (now (text .entry))) (now (text .exit)) r ⌝ }
 {
     let to = node_end(nodes, at);
-    match write(sheet, own, run, nodes, text, len, at + 1, to, opts, levels) {
+    match siblings(sheet, own, run, nodes, text, len, at + 1, to, opts, levels) {
         Wrote::Done(n) => Wrote::Done(trim_space(text, n)),
         Wrote::Full => Wrote::Full,
     }
@@ -262,7 +287,7 @@ fn write_emphasis(
 {
     let to = node_end(nodes, at);
     let inner = emphasis_opts(name, opts);
-    match write(
+    match siblings(
         sheet,
         own,
         run,

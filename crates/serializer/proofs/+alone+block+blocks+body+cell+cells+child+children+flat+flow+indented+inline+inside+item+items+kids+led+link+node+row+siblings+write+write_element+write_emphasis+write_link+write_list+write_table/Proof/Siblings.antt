@@ -1,0 +1,85 @@
+-- `serializer::siblings`, of the cycle. Assumes nothing.
+use Prim.Native.Nat.{ℕ, _+_, _-_, _<_}
+use mathlib.Core.Path.{_≡_, _∙_}
+use mathlib.Core.Bool.{not, and-eq-true-iff}
+use lib.Dec.{lit<, eqb}
+use lib.ListN.{take, getD}
+use borrow.Author.Tests.{eqb-false, not-true}
+use Rattle.spec.specs.Call.{skipTags}
+use Rattle.tree.specs.Memory.{placeAt}
+use Rattle.tree.specs.Scans.{skipList}
+use Rattle.tree.proofs.Firsts.{rep-le}
+use Rattle.tree.proofs.Frames.{kept-none}
+use Rattle.text.proofs.Writing.{alike}
+use Rattle.serializer.specs.Writers.{selfAt}
+use Rattle.serializer.proofs.Falls.{falls-in}
+use Rattle.serializer.proofs.Levels.{write-some}
+use Rattle.serializer.proofs.NodeSteps.{one-is}
+use Rattle.serializer.proofs.Placing.{placeds-at}
+use borrow.Author.Needs.{needs}
+use native.Mathlib.Omega.{arith}
+use Rattle.serializer.proofs.+alone+block+blocks+body+cell+cells+child+children+flat+flow+indented+inline+inside+item+items+kids+led+link+node+row+siblings+write+write_element+write_emphasis+write_link+write_list+write_table.Lts-siblings as lts
+use Rattle.serializer.proofs.siblings.Reads as siblings
+use Rattle.serializer.proofs.texts.is_one_text.Reads as is-one-text-reads
+use Rattle.elements.proofs.nodes.write_text_node.Reads as write-text-node-reads
+use Rattle.serializer.proofs.write.Reads as write
+use Rattle.serializer.proofs.+alone+block+blocks+body+cell+cells+child+children+flat+flow+indented+inline+inside+item+items+kids+led+link+node+row+siblings+write+write_element+write_emphasis+write_link+write_list+write_table.Proof.Measures.{siblings-at, write-below}
+
+abbrev claims : ℕ → lts.Claims
+claims t = (is-one-text-reads.Asked, is-one-text-reads.Learnt, write-text-node-reads.Asked, write-text-node-reads.Learnt, write-below t, write.Post)
+
+is-one-text-requires : (t : ℕ) → lts.Need-is-one-text-requires (claims t) (siblings-at t) siblings.Post
+is-one-text-requires t c κs =
+    let s = c .before .before .before .before .before in
+    let p = s .pre .1 .0 in
+    (rep-le (s .args .sheet .now) (s .args .nodes .now) (p .parent) (s .args .from) (s .args .to) (p .forest) (p .rep), λ l. placeds-at p l)
+
+-- the one text
+one : (t : ℕ) (c : lts.Then1 (claims t) (siblings-at t) siblings.Post) → (c .before .before .before .before .before .before .before .args .from + 1 ≡ c .before .before .before .before .before .before .before .args .to) × (getD (c .before .before .before .before .before .before .before .args .sheet .now) (placeAt (c .before .before .before .before .before .before .before .args .nodes .now) (c .before .before .before .before .before .before .before .args .from)) 0 ≡ 4)
+one t c = c .before .is-one-text .ensures (and-eq-true-iff (not (eqb (c .before .before .before .before .before .before .before .args .levels) 0)) (c .before .is-one-text .result) .0 (c .if1 .taken) .1)
+
+write-text-node-requires : (t : ℕ) → lts.Need-write-text-node-requires (claims t) (siblings-at t) siblings.Post
+write-text-node-requires t c κs =
+    let s = c .before .before .before .before .before .before .before .before .before in
+    (placeds-at (s .pre .1 .0) (omega (arith, one t (c .before .before) .0)), s .pre .1 .1 .0)
+
+returns : (t : ℕ) → lts.Need-returns (claims t) (siblings-at t) siblings.Post
+returns t c =
+    let s = c .before .before .before .before .before .before .before .before .before .before .before .before in
+    let a = s .args in
+    let o = one t (c .before .before .before .before .before) in
+    let p : 0 < a .levels = omega (arith, eqb-false (a .levels) 0 (not-true (eqb (a .levels) 0) (and-eq-true-iff (not (eqb (a .levels) 0)) (c .before .before .before .before .before .before .is-one-text .result) .0 (c .before .before .before .before .before .if1 .taken) .0))) in (
+      kept-none (a .nodes .now),
+      record {
+        for = λ parent f anc h q.
+            alike (write-some (skipTags (skipList (a .own) (a .run .now))) (a .levels) anc (a .opts) f (take (a .len) (a .text .now)) p
+            ∙ one-is (a .sheet .now) (a .nodes .now) parent (a .from) (a .to) (o .0) (o .1) (selfAt (a .own) (a .run .now) (a .levels - 1)) anc (a .opts) (take (a .len) (a .text .now)) f h)
+            (c .before .before .write-text-node .ensures);
+      },
+    )
+
+write-requires : (t : ℕ) → lts.Need-write-requires (claims t) (siblings-at t) siblings.Post
+write-requires t c κs =
+    let s = c .before .before .before .before .before .before .before .before .before in
+    (falls-in (s .args .levels) (s .pre .0) (lit< tt), s .pre .1)
+
+returns-2 : (t : ℕ) → lts.Need-returns-2 (claims t) (siblings-at t) siblings.Post
+returns-2 t c = c .before .before .before .before .write .ensures
+
+same-length : (t : ℕ) → lts.Need-same-length (claims t) (siblings-at t) siblings.Post
+same-length t c = search needs
+
+same-length-2 : (t : ℕ) → lts.Need-same-length-2 (claims t) (siblings-at t) siblings.Post
+same-length-2 t c = search needs
+
+same-length-3 : (t : ℕ) → lts.Need-same-length-3 (claims t) (siblings-at t) siblings.Post
+same-length-3 t c = search needs
+
+same-length-4 : (t : ℕ) → lts.Need-same-length-4 (claims t) (siblings-at t) siblings.Post
+same-length-4 t c = search needs
+
+pub spec : (M : Type 1) (t : ℕ) → lts.Closed (claims t) (siblings-at t) siblings.Post M
+spec M t =
+    lts.spec (claims t) (siblings-at t) siblings.Post
+    (is-one-text-requires t) (write-text-node-requires t) (same-length t) (same-length-2 t) (returns t) (write-requires t)
+    (same-length-3 t) (same-length-4 t) (returns-2 t)
