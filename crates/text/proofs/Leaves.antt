@@ -1,12 +1,12 @@
 -- Ends of texts: backslashes, markers of emphasis, line breaks in cells, runs of backticks. Assumes nothing.
 use Prim.Native.Nat.{ℕ, zero, suc, _+_, _-_, _%_, _≤_, _<_, max}
-use mathlib.Core.Path.{_≡_, refl, sym, ap, _∙_}
+use mathlib.Core.Path.{_≡_, refl, sym, ap, _∙_, subst}
 use mathlib.Core.Bool.{Bool, true, false, cond, not, _&&_, _||_, false≢true, true≢false}
-use mathlib.Core.List.{List, [], _∷_, _++_}
+use mathlib.Core.List.{List, [], _∷_, _++_, append-assoc, append-nil}
 use native.Mathlib.Omega.{arith}
 use native.Mathlib.Numerals.{add-one}
-use lib.ListN.{length, take, drop, getD, length-drop, drop-of-length-le}
-use lib.Seq.{length-take-le, take-take, drop-cons}
+use lib.ListN.{length, take, drop, getD, length-drop, length-append, drop-of-length-le}
+use lib.Seq.{length-take-le, take-take, take-suc, take-add, take-length, drop-cons}
 use lib.Dec.{eqb, ltb}
 use borrow.Author.Tests.{eq-eqb, ne-eqb, eqb-true, eqb-false, ltb-false, ltb-true}
 use Rattle.spec.specs.Bytes.{ascii, isin, same, null, endsWith, one, white, «trim_end_matches», «trim_ascii_end»}
@@ -17,6 +17,8 @@ use Rattle.spec.specs.Md.Elements.Table.{«ends_with_cell_break», withoutBreak
 use Rattle.spec.specs.Md.Elements.Code.{longestRun, filter}
 use Rattle.text.proofs.Writing.{push-both}
 use Rattle.text.specs.Trimmed.{Trimmed}
+use Rattle.text.specs.Runs.{longestWith, RunsBehind}
+use Rattle.text.specs.declared.code.Runs.{Runs}
 use Rattle.text.specs.Writes.{Written}
 use Rattle.text.proofs.Spaces.{cut-done}
 use Rattle.text.proofs.Reading.{ends-short}
@@ -112,38 +114,72 @@ breaks-on s n m (suc left) h k e t =
 
 -- ---- runs of backticks
 
-pub run-turn : (best run b : ℕ) (s : List ℕ) → max best (longestRun run (b ∷ s)) ≡ max (cond (eqb b 96) best (max best run)) (longestRun (cond (eqb b 96) (run + 1) 0) s)
+-- none is read
+pub runs-start : (r : Runs) → RunsBehind r [] r
+runs-start r = record { goes = λ rest. refl; small = omega arith }
+
+runs-join : {a b c : Runs} {s t : List ℕ} → RunsBehind a s b → RunsBehind b t c → RunsBehind a (s ++ t) c
+runs-join {a} {b} {c} {s} {t} p q =
+    record {
+      goes = λ rest. ap (longestWith a) (append-assoc s t rest) ∙ p .goes (t ++ rest) ∙ q .goes rest;
+      small = omega (arith, p .small, q .small, length-append s t);
+    }
+
+-- one byte more
+pub runs-on : {a b c : Runs} (s : List ℕ) (i : ℕ) → i < length s → RunsBehind a (take i s) b → RunsBehind b (getD s i 0 ∷ []) c → RunsBehind a (take (i + 1) s) c
+runs-on {a} {b} {c} s i h p q = subst (λ (l : List ℕ). RunsBehind a l c) (sym (ap (λ (j : ℕ). take j s) (add-one i) ∙ take-suc s i 0 h)) (runs-join p q)
+
+-- the bytes up to `to` more
+pub runs-to : {a b c : Runs} (s : List ℕ) (i to : ℕ) → i ≤ to → RunsBehind a (take i s) b → RunsBehind b (take (to - i) (drop i s)) c → RunsBehind a (take to s) c
+runs-to {a} {b} {c} s i to h p q =
+    let e : to ≡ i + (to - i) = omega arith in subst (λ (l : List ℕ). RunsBehind a l c) (sym (ap (λ (j : ℕ). take j s) e ∙ take-add i (to - i) s)) (runs-join p q)
+
+pub run-fits : {a b : Runs} (s : List ℕ) (i to : ℕ) → i ≤ to → to ≤ length s → RunsBehind a (take i s) b → b .run + length (take (to - i) (drop i s)) ≤ a .run + to
+run-fits s i to h k p =
+    omega (arith, p .small, length-take-le i s (omega arith), length-take-le (to - i) (drop i s) (omega (arith, length-drop i s)))
+
+-- a backtick
+pub runs-tick : (best run b : ℕ) → b ≡ 96 → RunsBehind (record { best = best; run = run }) (b ∷ []) (record { best = best; run = run + 1 })
 unfolding longestRun
-run-turn best run b s = go (eqb b 96)
+runs-tick best run b e =
+    record {
+      goes = λ rest. rw (eq-eqb b 96 e) (ap (λ (k : ℕ). max best (longestRun k rest)) (sym (add-one run)));
+      small = omega arith;
+    }
+
+no-tick : (b : ℕ) (s : List ℕ) → isin 96 (b ∷ s) ≡ false → (eqb b 96 ≡ false) × (isin 96 s ≡ false)
+unfolding isin
+no-tick b s e = go (eqb 96 b) refl e
   where
-    go : (t : Bool) → max best (cond t (longestRun (suc run) s) (max run (longestRun 0 s))) ≡ max (cond t best (max best run)) (longestRun (cond t (run + 1) 0) s)
-    go true = ap (λ (k : ℕ). max best (longestRun k s)) (sym (add-one run))
-    go false = omega arith
+    go : (x : Bool) → eqb 96 b ≡ x → (x || isin 96 s) ≡ false → (eqb b 96 ≡ false) × (isin 96 s ≡ false)
+    go true q f = absurd (true≢false f)
+    go false q f = (ne-eqb b 96 (λ z. eqb-false 96 b q (sym z)), f)
 
-pub run-on : (best run i : ℕ) (s : List ℕ) → i < length s → max best (longestRun run (drop i s)) ≡ max (cond (eqb (getD s i 0) 96) best (max best run)) (longestRun (cond (eqb (getD s i 0) 96) (run + 1) 0) (drop (i + 1) s))
-run-on best run i s h =
-    ap (λ (l : List ℕ). max best (longestRun run l)) (drop-cons s i 0 h ∙ ap (λ (j : ℕ). getD s i 0 ∷ drop j s) (sym (add-one i))) ∙ run-turn best run (getD s i 0) (drop (i + 1) s)
-
-pub run-all : (best run i : ℕ) (s : List ℕ) → length s ≤ i → max best (longestRun run (drop i s)) ≡ max best run
+-- bytes other than backticks change nothing where no run stands before them
+runs-clean : (s rest : List ℕ) → isin 96 s ≡ false → longestRun 0 (s ++ rest) ≡ longestRun 0 rest
 unfolding longestRun
-run-all best run i s h = ap (λ (l : List ℕ). max best (longestRun run l)) (none s i h)
-  where
-    none : (l : List ℕ) (j : ℕ) → length l ≤ j → drop j l ≡ []
-    none [] zero k = refl
-    none [] (suc j) k = refl
-    none (x ∷ l) zero k = absurd (omega arith)
-    none (x ∷ l) (suc j) k = none l j (omega arith)
+runs-clean [] rest e = refl
+runs-clean (b ∷ s) rest e = rw (no-tick b s e .0) (omega (arith, runs-clean s rest (no-tick b s e .1)))
 
-pub run-none : (s : List ℕ) → isin 96 s ≡ false → longestRun 0 s ≡ 0
-unfolding longestRun isin
-run-none [] e = refl
-run-none (b ∷ s) e =
-    let q : (eqb 96 b ≡ false) × (isin 96 s ≡ false) = or-parts (eqb 96 b) (isin 96 s) e in
-    rw (ne-eqb b 96 (λ z. eqb-false 96 b (q .0) (sym z))) (omega (arith, run-none s (q .1)))
-  where
-    or-parts : (x y : Bool) → (x || y) ≡ false → (x ≡ false) × (y ≡ false)
-    or-parts true y e = absurd (true≢false e)
-    or-parts false y e = (refl, e)
+-- another byte, and any number of them behind it
+pub runs-other : (best run ended b : ℕ) (s : List ℕ) → ended ≡ max best run → eqb b 96 ≡ false → isin 96 s ≡ false
+    → RunsBehind (record { best = best; run = run }) (b ∷ s) (record { best = ended; run = 0 })
+unfolding longestRun
+runs-other best run ended b s q e f =
+    record { goes = λ rest. rw e (omega (arith, q, runs-clean s rest f)); small = omega arith }
+
+-- bytes without a backtick, one at least
+pub runs-away : (best run ended : ℕ) (s : List ℕ) → ended ≡ max best run → 0 < length s → isin 96 s ≡ false
+    → RunsBehind (record { best = best; run = run }) s (record { best = ended; run = 0 })
+runs-away best run ended [] q h e = absurd (omega arith)
+runs-away best run ended (b ∷ s) q h e = runs-other best run ended b s q (no-tick b s e .0) (no-tick b s e .1)
+
+-- all bytes are read
+pub runs-all : {r : Runs} (s : List ℕ) → RunsBehind (record { best = 0; run = 0 }) (take (length s) s) r → longestRun 0 s ≡ max (r .best) (r .run)
+unfolding longestRun
+runs-all {r} s p =
+    let q : max 0 (longestRun 0 s) ≡ max (r .best) (r .run) = ap (λ (l : List ℕ). max 0 (longestRun 0 l)) (sym (append-nil (take (length s) s) ∙ take-length s)) ∙ p .goes [] in
+    omega (arith, q)
 
 -- ---- the marker taken away
 

@@ -9,6 +9,7 @@ pub mod Words
 pub mod Flow
 pub mod Url
 pub mod Kept
+pub mod Runs
 pub mod Parsed
 pub mod Items
 pub mod Pipes

@@ -8,6 +8,7 @@ ghost use lib.Dec.{eqb};
 ghost use Rattle.spec.specs.Bytes.{ascii, endsWith};
 ghost use Rattle.spec.specs.Out.{push};
 ghost use Rattle.text.specs.Kept.{keptByte};
+ghost use Rattle.text.specs.Runs.{RunsBehind};
 ghost use Rattle.text.specs.Writes.{Writes};
 ghost use Rattle.spec.specs.Md.Elements.Code as def;
 use crate::buffer::Class;
@@ -25,40 +26,79 @@ use crate::buffer::starts_with_byte;
 use crate::buffer::trim_start_matches;
 use crate::lifted::push_lifted;
 
-// The run of backticks with b behind a run.
-fn next_run(run: usize, b: u8) -> usize
-    requires { ⌜ run + 1 < 2 ^ 64 ⌝ }
-    ensures { λ r. ⌜ r ≡ cond (eqb b 96) (run + 1) 0 ⌝ }
-{
-    if b == 96 { run + 1 } else { 0 }
+// The longest run of backticks that has ended, and the run before what follows.
+pub struct Runs {
+    pub best: usize,
+    pub run: usize,
 }
 
-// The longest run where b follows: `run` ends before any other byte.
-fn best_run(best: usize, run: usize, b: u8) -> usize
-    ensures { λ r. ⌜ r ≡ cond (eqb b 96) best (max best run) ⌝ }
+// The longest run where `run` ends.
+fn ended_run(best: usize, run: usize) -> usize
+    ensures { λ r. ⌜ r ≡ max best run ⌝ }
 {
-    if b == 96 {
-        return best;
-    }
     if best < run { run } else { best }
+}
+
+// The runs behind b.
+fn next_runs(runs: Runs, b: u8) -> Runs
+    requires { ⌜ runs .run + 1 < 2 ^ 64 ⌝ }
+    ensures { λ r. ⌜ RunsBehind runs (b ∷ []) r ⌝ }
+{
+    let best = runs.best;
+    let run = runs.run;
+    if b == 96 {
+        return Runs {
+            best: best,
+            run: run + 1,
+        };
+    }
+    Runs {
+        best: ended_run(best, run),
+        run: 0,
+    }
+}
+
+// The runs behind s.
+fn runs_behind(before: Runs, s: &[u8]) -> Runs
+    requires { ⌜ before .run + length (now s) < 2 ^ 64 ⌝ }
+    ensures { λ r. ⌜ RunsBehind before (now (s .entry)) r ⌝ }
+{
+    let mut runs = before;
+    let mut i = 0;
+    while i < s.len() {
+        runs = next_runs(runs, s[i]);
+        i += 1;
+    }
+    runs
+}
+
+// The same for one byte or more, most often without a backtick.
+fn runs_behind_part(before: Runs, s: &[u8]) -> Runs
+    requires { ⌜ (0 < length (now s)) × (before .run + length (now s) < 2 ^ 64) ⌝ }
+    ensures { λ r. ⌜ RunsBehind before (now (s .entry)) r ⌝ }
+{
+    if !contains_byte(s, 96) {
+        return Runs {
+            best: ended_run(before.best, before.run),
+            run: 0,
+        };
+    }
+    runs_behind(before, s)
 }
 
 // The longest run of backticks.
 pub fn max_backtick_run(s: &[u8]) -> usize
     ensures { λ r. ⌜ r ≡ def.«max_backtick_run» (now (s .entry)) ⌝ }
 {
-    if !contains_byte(s, 96) {
-        return 0;
-    }
-    let mut best = 0;
-    let mut run = 0;
+    let mut runs = Runs { best: 0, run: 0 };
     let mut i = 0;
-    while i < s.len() {
-        best = best_run(best, run, s[i]);
-        run = next_run(run, s[i]);
-        i += 1;
+    while 16 <= s.len() - i {
+        let end = i + 16;
+        runs = runs_behind_part(runs, &s[i..end]);
+        i = end;
     }
-    if best < run { run } else { best }
+    runs = runs_behind(runs, &s[i..]);
+    ended_run(runs.best, runs.run)
 }
 
 // Whether a blank stands between the content and its fences.
