@@ -36,14 +36,17 @@ pub fn node_name(sheet: &[u8], nodes: &[u8], i: usize) -> usize
     node_number(nodes, i)
 }
 
-// Whether node i is an element that the skip list leaves out.
+// Whether node i is an element that the skip list leaves out. The default list has no name that has a number.
 pub fn node_is_skipped(sheet: &[u8], own: bool, run: &[u8], nodes: &[u8], i: usize) -> bool
     requires { ⌜ NodeAt (now sheet) (now nodes) i ⌝ }
     ensures { λ r. ⌜ r ≡ skippedAt (skipTags (skipList own (now (run .entry)))) (now (sheet .entry)) (placeAt (now (nodes .entry)) i) ⌝ }
 {
-    let place = node_place(nodes, i);
     let number = node_number(nodes, i);
-    is_skipped(sheet, place, number, own, run)
+    if !own & (number != 0) {
+        return false;
+    }
+    let place = node_place(nodes, i);
+    is_skipped(sheet, place, own, run)
 }
 
 // Whether one of the nodes from number `from` up to `to` is an element of this name.

@@ -14,7 +14,6 @@ ghost use Rattle.tree.specs.Scans.{skipList};
 ghost use Rattle.text.specs.Writes.{Writes};
 ghost use Rattle.elements.specs.Spots.{belowSpot, nextSpot, spotStep};
 ghost use Rattle.elements.specs.Stands.{NodeAt, ElementAt, SomeElement};
-use crate::nodes::node_is_skipped;
 use crate::nodes::node_name;
 use crate::nodes::write_text_node;
 use spec::ctx::FormatOpts;
@@ -22,6 +21,7 @@ use text::buffer::Wrote;
 use text::buffer::ends_with;
 use text::buffer::ends_with_byte;
 use text::buffer::push_byte;
+use tree::names::is_skipped;
 use tree::nodes::node_end;
 use tree::nodes::node_parent;
 use tree::nodes::node_place;
@@ -82,13 +82,13 @@ fn below_spot(sheet: &[u8], own: bool, run: &[u8], nodes: &[u8], open: usize, at
     requires { ⌜ NodeAt (now sheet) (now nodes) at ⌝ }
     ensures { λ r. ⌜ r ≡ belowSpot (skipTags (skipList own (now (run .entry)))) (now (sheet .entry)) (now (nodes .entry)) «open» at ⌝ }
 {
-    if node_is_skipped(sheet, own, run, nodes, at) {
+    let place = node_place(nodes, at);
+    if is_skipped(sheet, place, own, run) {
         return Spot {
             open: open,
             at: node_end(nodes, at),
         };
     }
-    let place = node_place(nodes, at);
     if tag_at(sheet, place) == 1 {
         return Spot {
             open: at,
@@ -173,7 +173,8 @@ pub fn write_skip_md(
     requires { ⌜ SomeElement (now sheet) (now nodes) i × (len ≤ length (now text)) ⌝ }
     ensures { λ r. ⌜ ((name : Bytes) (attrs : List Attr) (kids : Forest) → ElementAt (now (sheet .entry)) (now (nodes .entry)) i name attrs kids → Writes (length (now (text .entry))) (now (text .exit)) r (def.writeSkipMd (skipTags (skipList own (now (run .entry)))) opts (element name attrs kids nothing) (take len (now (text .entry))))) ⌝ }
 {
-    if node_is_skipped(sheet, own, run, nodes, i) {
+    let place = node_place(nodes, i);
+    if is_skipped(sheet, place, own, run) {
         return Wrote::Done(len);
     }
     write_open_skip_md(sheet, own, run, nodes, text, len, i, opts)

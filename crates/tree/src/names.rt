@@ -165,15 +165,11 @@ pub fn name_at(sheet: &[u8], place: usize) -> usize
     name_number(&sheet[start..end])
 }
 
-// Whether that node, of which `number` is the name's number, is an element that the skip list leaves out. The default list has
-// no name that has a number.
-pub fn is_skipped(sheet: &[u8], place: usize, number: usize, own: bool, run: &[u8]) -> bool
-    requires { ⌜ (place + 3 ≤ length (now sheet)) × (number ≡ nameAt (now sheet) place) ⌝ }
+// Whether that node is an element that the skip list leaves out.
+pub fn is_skipped(sheet: &[u8], place: usize, own: bool, run: &[u8]) -> bool
+    requires { ⌜ place + 3 ≤ length (now sheet) ⌝ }
     ensures { λ r. ⌜ r ≡ skippedAt (skipTags (skipList own (now (run .entry)))) (now (sheet .entry)) place ⌝ }
 {
-    if !own & (number != 0) {
-        return false;
-    }
     let f = span_at(sheet, place);
     let tag = f.tag;
     if tag != 1 {

@@ -155,7 +155,7 @@ fn read_node(
     read_record(ns, i, line);
     read_field(sheet, place, line);
     read_values(sheet, place, name, line);
-    line[12] = one_if(is_skipped(sheet, place, node_number(ns, i), own, run));
+    line[12] = one_if(is_skipped(sheet, place, own, run));
     line[13] = behind(place, before);
     place
 }
