@@ -3,6 +3,7 @@ pub mod Sequences
 pub mod Walking
 pub mod Rules
 pub mod Every
+pub mod ByTag
 pub mod Sounding
 pub mod Attrs
 pub mod Values

@@ -93,7 +93,7 @@ pub fn open_after(depth: usize, tag: u8) -> usize
 }
 
 // Whether a field of `len` bytes keeps the rules, behind one with the tag `before` and with `depth` elements open.
-pub fn field_right(before: u8, depth: usize, tag: u8, len: usize) -> bool
+fn field_right(before: u8, depth: usize, tag: u8, len: usize) -> bool
     ensures { λ r. ⌜ r ≡ fieldRight before depth tag len ⌝ }
 {
     if !may_follow(before, tag) {
@@ -226,7 +226,7 @@ pub fn is_within_limits(sheet: &[u8]) -> bool
 }
 
 // Whether a field with these bytes opens a block quote.
-pub fn opens_blockquote(tag: u8, body: &[u8]) -> bool
+fn opens_blockquote(tag: u8, body: &[u8]) -> bool
     ensures { λ r. ⌜ r ≡ opensBlockquote tag (now (body .entry)) ⌝ }
 {
     if tag != 1 {

@@ -236,8 +236,8 @@ fn is_ascii_part(s: &[u8], from: usize, to: usize) -> bool
     true
 }
 
-// The same as `is_utf8`, for the bytes from `from` to `to`.
-pub fn is_utf8_part(s: &[u8], from: usize, to: usize) -> bool
+// The same as `is_utf8`, for the bytes from `from` to `to`, however many.
+fn is_utf8_long(s: &[u8], from: usize, to: usize) -> bool
     requires { ⌜ (from ≤ to) × (to ≤ length (now s)) ⌝ }
     ensures { λ r. ⌜ r ≡ isUtf8 (take (to - from) (drop from (now (s .entry)))) ⌝ }
 {
@@ -245,4 +245,20 @@ pub fn is_utf8_part(s: &[u8], from: usize, to: usize) -> bool
         return true;
     }
     is_well_formed(&s[from..to])
+}
+
+// The same. Most fields are short, and one block of 16 bytes, which may reach behind `to`, holds all of theirs.
+pub fn is_utf8_part(s: &[u8], from: usize, to: usize) -> bool
+    requires { ⌜ (from ≤ to) × (to ≤ length (now s)) ⌝ }
+    ensures { λ r. ⌜ r ≡ isUtf8 (take (to - from) (drop from (now (s .entry)))) ⌝ }
+{
+    if to - from <= 16 {
+        if 16 <= s.len() - from {
+            let end = from + 16;
+            if is_ascii(&s[from..end]) {
+                return true;
+            }
+        }
+    }
+    is_utf8_long(s, from, to)
 }

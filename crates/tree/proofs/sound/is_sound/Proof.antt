@@ -1,92 +1,63 @@
 -- `tree::sound::is_sound` meets its contract. Assumes nothing.
-use mathlib.Core.Path.{sym, _∙_}
-use borrow.Author.Tests.{le-leb, lt-leb, not-true, not-false}
-use Rattle.tree.specs.Sound.{soundField}
+use borrow.Author.Tests.{eq-eqb, ne-eqb}
 use Rattle.tree.proofs.Rules.{part-length}
-use borrow.Author.Needs.{needs}
+use Rattle.tree.proofs.ByTag.{of-close, of-text}
 use native.Mathlib.Omega.{arith}
+use borrow.Author.Needs.{needs}
 use Rattle.tree.proofs.sound.is_sound.Statement.{statement}
 use Rattle.tree.proofs.sound.is_sound.Tie as tie
 
+sub-is-sound-close : tie.Need-sub-is-sound-close
+sub-is-sound-close c = search needs
+
+is-sound-close-requires : tie.Need-is-sound-close-requires
+is-sound-close-requires c κs = search needs
+
 returns : tie.Need-returns
-unfolding soundField
-returns c = rw (lt-leb 1 _ (c .if1 .taken))
+returns c =
+    let a = c .before .before .before .args in
+    rw (c .before .if1 .taken, of-close (a .before) (a .depth) _, part-length (a .s .now) (a .start) (a .end) (omega arith) (omega arith))
+    (c .is-sound-close .ensures)
 
 returns-2 : tie.Need-returns-2
-unfolding soundField
 returns-2 c =
-    rw (le-leb 1 _ (c .before .if1 .left), lt-leb _ 6 (c .if2 .taken))
-
-sub-field-right : tie.Need-sub-field-right
-sub-field-right c = search needs
-
-field-right-requires : tie.Need-field-right-requires
-field-right-requires c κs = search needs
-
-returns-3 : tie.Need-returns-3
-unfolding soundField
-returns-3 c =
-    let a = c .before .before .before .before .before .args in
-    rw (
-      le-leb 1 _ (c .before .before .before .if1 .left),
-      le-leb _ 6 (c .before .before .if2 .left),
-      part-length (a .s .now) (a .start) (a .end) (omega arith) (omega arith),
-      sym (c .before .field-right .ensures) ∙ not-true _ (c .if3 .taken),
-    )
-
-sub-opens-blockquote : tie.Need-sub-opens-blockquote
-sub-opens-blockquote c = search needs
-
-part-opens-blockquote-start : tie.Need-part-opens-blockquote-start
-part-opens-blockquote-start c = search needs
-
-part-opens-blockquote-end : tie.Need-part-opens-blockquote-end
-part-opens-blockquote-end c = search needs
-
-opens-blockquote-requires : tie.Need-opens-blockquote-requires
-opens-blockquote-requires c κs = search needs
-
-returns-4 : tie.Need-returns-4
-unfolding soundField
-returns-4 c =
-    let a = c .before .before .before .before .before .before .before .before .args in
-    rw (
-      le-leb 1 _ (c .before .before .before .before .before .before .if1 .left),
-      le-leb _ 6 (c .before .before .before .before .before .if2 .left),
-      part-length (a .s .now) (a .start) (a .end) (omega arith) (omega arith),
-      sym (c .before .before .before .before .field-right .ensures) ∙ not-false _ (c .before .before .before .if3 .left),
-      sym (c .before .opens-blockquote .ensures) ∙ c .if4 .taken,
-    )
+    let a = c .before .before .before .before .args in
+    rw (c .before .if2 .taken, of-text (a .before) (a .depth) _, eq-eqb (a .before) 2 (c .if3 .taken))
 
 is-utf8-part-requires : tie.Need-is-utf8-part-requires
 is-utf8-part-requires c κs = search needs
 
-returns-5 : tie.Need-returns-5
-unfolding soundField
-returns-5 c =
-    let a = c .before .before .before .before .before .before .before .before .before .args in
-    rw (
-      le-leb 1 _ (c .before .before .before .before .before .before .before .if1 .left),
-      le-leb _ 6 (c .before .before .before .before .before .before .if2 .left),
-      part-length (a .s .now) (a .start) (a .end) (omega arith) (omega arith),
-      sym (c .before .before .before .before .before .field-right .ensures) ∙ not-false _ (c .before .before .before .before .if3 .left),
-      sym (c .before .before .opens-blockquote .ensures) ∙ c .before .if4 .left,
-    )
+returns-3 : tie.Need-returns-3
+returns-3 c =
+    let a = c .before .before .before .before .before .args in
+    rw (c .before .before .if2 .taken, of-text (a .before) (a .depth) _, ne-eqb (a .before) 2 (c .before .if3 .left))
     (c .is-utf8-part .ensures)
+
+is-sound-open-requires : tie.Need-is-sound-open-requires
+is-sound-open-requires c κs = search needs
+
+returns-4 : tie.Need-returns-4
+returns-4 c =
+    let a = c .before .before .before .before .before .args in
+    rw (c .before .if4 .taken) (c .is-sound-open .ensures (a .depth))
+
+is-sound-other-requires : tie.Need-is-sound-other-requires
+is-sound-other-requires c κs = search needs
+
+returns-5 : tie.Need-returns-5
+returns-5 c = c .is-sound-other .ensures (c .before .before .before .before .before .args .depth)
 
 pub is-sound-spec : {M : Type 1} → statement M
 is-sound-spec =
     tie.close
     (tie.spec
+    sub-is-sound-close
+    is-sound-close-requires
     returns
     returns-2
-    sub-field-right
-    field-right-requires
-    returns-3
-    sub-opens-blockquote
-    part-opens-blockquote-start
-    part-opens-blockquote-end
-    opens-blockquote-requires
-    returns-4
     is-utf8-part-requires
+    returns-3
+    is-sound-open-requires
+    returns-4
+    is-sound-other-requires
     returns-5)

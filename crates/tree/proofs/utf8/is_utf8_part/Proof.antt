@@ -1,26 +1,42 @@
 -- `tree::utf8::is_utf8_part` meets its contract. Assumes nothing.
-use Rattle.tree.proofs.Sequences.{all-ascii}
+use Prim.Native.Nat.{_+_, _-_}
+use mathlib.Core.Path.{_≡_, refl, sym, _∙_}
+use Rattle.spec.specs.Bytes.{every}
+use Rattle.tree.proofs.Sequences.{ascii-block, all-ascii}
+use native.Mathlib.Omega.{arith}
 use borrow.Author.Needs.{needs}
 use Rattle.tree.proofs.utf8.is_utf8_part.Statement.{statement}
 use Rattle.tree.proofs.utf8.is_utf8_part.Tie as tie
 
-is-ascii-part-requires : tie.Need-is-ascii-part-requires
-is-ascii-part-requires c κs = search needs
+sub-if1 : tie.Need-sub-if1
+sub-if1 c = search needs
+
+sub-if2 : tie.Need-sub-if2
+sub-if2 c = search needs
+
+add-end : tie.Need-add-end
+add-end c = search needs
+
+sub-is-ascii : tie.Need-sub-is-ascii
+sub-is-ascii c = search needs
+
+part-is-ascii-start : tie.Need-part-is-ascii-start
+part-is-ascii-start c = search needs
+
+part-is-ascii-end : tie.Need-part-is-ascii-end
+part-is-ascii-end c = search needs
+
+is-ascii-requires : tie.Need-is-ascii-requires
+is-ascii-requires c κs = search needs
 
 returns : tie.Need-returns
-returns c = all-ascii _ (c .before .is-ascii-part .ensures (c .if1 .taken))
+unfolding every
+returns c =
+    let a = c .before .before .before .before .before .before .args in let none : a .to - (a .from + 16) ≡ 0 = omega arith in
+    all-ascii _ (ascii-block (a .s .now) (a .from) (a .to) (sym (c .before .is-ascii .ensures) ∙ c .if3 .taken) (rw none refl))
 
-sub-is-well-formed : tie.Need-sub-is-well-formed
-sub-is-well-formed c = search needs
-
-part-is-well-formed-start : tie.Need-part-is-well-formed-start
-part-is-well-formed-start c = search needs
-
-part-is-well-formed-end : tie.Need-part-is-well-formed-end
-part-is-well-formed-end c = search needs
-
-is-well-formed-requires : tie.Need-is-well-formed-requires
-is-well-formed-requires c κs = search needs
+is-utf8-long-requires : tie.Need-is-utf8-long-requires
+is-utf8-long-requires c κs = search needs
 
 returns-2 : tie.Need-returns-2
 returns-2 c = search needs
@@ -29,10 +45,13 @@ pub is-utf8-part-spec : {M : Type 1} → statement M
 is-utf8-part-spec =
     tie.close
     (tie.spec
-    is-ascii-part-requires
+    sub-if1
+    sub-if2
+    add-end
+    sub-is-ascii
+    part-is-ascii-start
+    part-is-ascii-end
+    is-ascii-requires
     returns
-    sub-is-well-formed
-    part-is-well-formed-start
-    part-is-well-formed-end
-    is-well-formed-requires
+    is-utf8-long-requires
     returns-2)
