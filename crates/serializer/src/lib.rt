@@ -262,7 +262,7 @@ fn kids(
     ensures { λ r. ⌜ WritesElement (now (sheet .entry)) (now (nodes .entry)) at (λ anc name attrs kids. writeKids (selfAt own (now (run .entry)) levels) anc opts (element name attrs kids nothing)) (take len (now (text .entry))) (length (now (text .entry))) (now (text .exit)) r ⌝ }
 {
     let to = node_end(nodes, at);
-    match siblings(sheet, own, run, nodes, text, len, at + 1, to, opts, levels) {
+    match write(sheet, own, run, nodes, text, len, at + 1, to, opts, levels) {
         Wrote::Done(n) => Wrote::Done(trim_space(text, n)),
         Wrote::Full => Wrote::Full,
     }
@@ -287,7 +287,7 @@ fn write_emphasis(
 {
     let to = node_end(nodes, at);
     let inner = emphasis_opts(name, opts);
-    match siblings(
+    match write(
         sheet,
         own,
         run,
