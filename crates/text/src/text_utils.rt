@@ -92,14 +92,6 @@ pub fn push_normalized_text(
     if is_bare_text(new_text) {
         return push_all(text, len, new_text);
     }
-    push_other_text(text, len, new_text, f_opts)
-}
-
-// The same, without the test for a bare text.
-pub fn push_other_text(text: &mut [u8], len: usize, new_text: &[u8], f_opts: FormatOpts) -> Wrote
-    requires { ⌜ len ≤ length (now text) ⌝ }
-    ensures { λ r. ⌜ Writes (length (now (text .entry))) (now (text .exit)) r (def.«push_normalized_text» (now («new_text» .entry)) «f_opts» (take len (now (text .entry)))) ⌝ }
-{
     let room = text.len();
     let n = new_text.len();
     push_normalized(new_text, text, false, 0, n, room, len, f_opts)

@@ -5,6 +5,7 @@ use mathlib.Core.Path.{ap}
 use lib.ListN.{take}
 use Rattle.spec.specs.Out.{push}
 use Rattle.spec.specs.Md.TextUtils.{«push_normalized_text»}
+use Rattle.text.proofs.Sourcing.{whole-apart, whole-writes}
 use Rattle.text.proofs.Writing.{alike}
 use borrow.Author.Needs.{needs}
 use Rattle.text.proofs.text_utils.push_normalized_text.Statement.{statement}
@@ -25,14 +26,17 @@ returns c =
     let a = c .before .before .before .before .before .before .before .before .args in
     alike (ap (λ (x : List ℕ). push x (take (a .len) (a .text .now))) (c .before .before .before .before .before .is-bare-text .ensures (c .before .before .before .before .if1 .taken) (a .f-opts) (take (a .len) (a .text .now)))) (c .before .before .push-all .ensures)
 
-push-other-text-requires : tie.Need-push-other-text-requires
-push-other-text-requires c κs = search needs
+push-normalized-requires : tie.Need-push-normalized-requires
+push-normalized-requires c κs =
+    (whole-apart (c .before .before .before .before .before .args .text .now) (c .before .before .before .before .before .args .new-text .now), c .before .before .before .before .before .pre)
 
 same-length-2 : tie.Need-same-length-2
 same-length-2 c = search needs
 
 returns-2 : tie.Need-returns-2
-returns-2 c = search needs
+returns-2 c =
+    let a = c .before .before .before .before .before .before .before .before .args in
+    whole-writes (a .new-text .now) (λ (x : List ℕ). «push_normalized_text» x (a .f-opts) (take (a .len) (a .text .now))) (c .before .before .push-normalized .ensures)
 
 pub push-normalized-text-spec : {M : Type 1} → statement M
-push-normalized-text-spec = tie.close (tie.spec is-bare-text-requires push-all-requires same-length returns push-other-text-requires same-length-2 returns-2)
+push-normalized-text-spec = tie.close (tie.spec is-bare-text-requires push-all-requires same-length returns push-normalized-requires same-length-2 returns-2)
