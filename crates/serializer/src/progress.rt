@@ -1,6 +1,6 @@
 // What changes from child to child of an item.
 ghost use mathlib.Core.Path.{_≡_};
-ghost use Prim.Native.Nat.{_+_, _≤_};
+ghost use Prim.Native.Nat.{_≤_};
 ghost use lib.ListN.{length, take};
 ghost use Rattle.spec.specs.Md.Elements.List as def;
 ghost use Rattle.text.specs.Items.{itemOf};

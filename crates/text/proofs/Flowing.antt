@@ -2,12 +2,13 @@
 use Prim.Native.Nat.{ℕ, zero, suc, _+_, _-_, _≤_, _<_}
 use mathlib.Core.Path.{_≡_, refl, sym, ap, ap₂, subst, _∙_}
 use mathlib.Core.Bool.{Bool, true, false, cond, not, _&&_, _||_, false≢true, and-false}
+use mathlib.Core.Logic.{⊎-elim}
 use mathlib.Core.List.{List, [], _∷_, _++_, append-assoc, append-nil}
 use native.Mathlib.Omega.{arith}
 use lib.ListN.{length, take, drop, getD, drop-of-length-le}
 use lib.Seq.{drop-cons, take-suc, take-all}
-use lib.Dec.{eqb, ltb}
-use borrow.Author.Tests.{eqb-true, eqb-false, ne-eqb, ltb-true, ltb-false, not-true}
+use lib.Dec.{eqb}
+use borrow.Author.Tests.{eqb-true, eqb-false, ne-eqb, not-true}
 use Rattle.spec.specs.Bytes.{Bytes, ascii, null, same, isin, every, startsWith, white, isBlank, words, split, parts, cutAt, filled, one, «trim_end_matches», «trim_ascii_end»}
 use Rattle.spec.specs.Md.Constants.{«ALWAYS_ESCAPED»}
 use Rattle.spec.specs.Md.TextUtils as def
@@ -15,6 +16,7 @@ use Rattle.spec.specs.declared.ctx.FormatOpts as Opts
 use Rattle.text.specs.Class.{ordinary}
 use Rattle.text.specs.Flow.{startsBlack, added, flow, flowBefore, plain, Flows}
 use Rattle.text.specs.Marks.{marks}
+use Rattle.tree.proofs.Building.{le-or-lt}
 use Rattle.text.proofs.Reading.{same-self}
 use Rattle.text.proofs.Trimming.{trim-here}
 use Rattle.text.proofs.Ordinary.{both, ordinary-parts, not-escaped, inner-chunk, bare-chunk, not-white}
@@ -66,11 +68,7 @@ flows-flow {s} {n} f escape = front-flow s n f escape
 
 -- below k, or not
 pub less-or-not : {A : Type 0} (i k : ℕ) → (i < k → A) → (k ≤ i → A) → A
-less-or-not {A} i k f g = on (ltb i k) refl
-  where
-    on : (t : Bool) → ltb i k ≡ t → A
-    on true e = f (ltb-true i k e)
-    on false e = g (ltb-false i k e)
+less-or-not i k f g = ⊎-elim g f (le-or-lt k i)
 
 -- a byte stands behind them
 pub flows-short : {s : Bytes} {n : ℕ} → Flows s n → 0 < length s → n < length s

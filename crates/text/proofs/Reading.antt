@@ -8,7 +8,7 @@ use native.Mathlib.Numerals.{add-one}
 use lib.ListN.{length, take, drop, getD, length-take, length-drop}
 use lib.Seq.{drop-cons, take-all, drop-length, take-nil, length-take-le}
 use lib.Dec.{eqb}
-use borrow.Author.Tests.{eq-eqb, ne-eqb, eqb-true, eqb-false}
+use borrow.Author.Tests.{eq-eqb, eqb-true, eqb-false}
 use Rattle.spec.specs.Bytes.{isin, same, startsWith, endsWith, every, null, «trim_ascii_end», «trim_end_matches», one, white}
 use Rattle.spec.specs.Md.TextUtils.{endsWithWhite}
 use Rattle.text.specs.Trimmed.{Trimmed}

@@ -1,15 +1,13 @@
 -- How a flow is appended: its bytes one by one, and plain bytes at once. Assumes nothing.
 use Prim.Native.Nat.{ℕ, _+_, _-_, _≤_, _<_}
 use mathlib.Core.Path.{_≡_, refl, sym, ap, _∙_}
-use mathlib.Core.Bool.{Bool, true, false, cond, not, _&&_, and-false, and-true}
+use mathlib.Core.Bool.{Bool, true, false, cond, not, _&&_, and-true}
 use mathlib.Core.List.{List, [], _∷_, _++_}
 use native.Mathlib.Omega.{arith}
 use lib.ListN.{length, take, drop, getD, take-append-drop}
 use lib.Seq.{slice, slice-cons, length-slice, drop-drop}
-use lib.Dec.{eqb}
 use Rattle.spec.specs.Bytes.{ascii, isin, white, words, startsWith}
 use Rattle.spec.specs.Out.{Out, Step, andThen, push}
-use Rattle.spec.specs.Md.Constants.{«ALWAYS_ESCAPED»}
 use Rattle.spec.specs.Md.TextUtils.{isEscaped, moreWords}
 use Rattle.text.specs.Class.{ordinary}
 use Rattle.text.specs.Flow.{startsBlack, added, flow, flowBefore, Flows}

@@ -1,11 +1,11 @@
 // A text is the first `len` bytes of a lent slice, and its room is the slice. What only reads takes the text itself.
 ghost use mathlib.Core.Path.{_≡_};
-ghost use mathlib.Core.List.{List, [], _∷_, _++_};
-ghost use Prim.Native.Nat.{ℕ, _+_, _≤_, _<_};
+ghost use mathlib.Core.List.{[], _∷_, _++_};
+ghost use Prim.Native.Nat.{_+_, _≤_, _<_};
 ghost use lib.ListN.{length, take, drop, replicate};
 ghost use mathlib.Core.Bool.{cond, not, _||_};
 ghost use Rattle.spec.specs.Md.Elements.Code.{isTabOrBlank};
-ghost use Rattle.spec.specs.Bytes.{ascii, isin, white, digit, endsWith, startsWith, same, every, null, one, isWhiteSpace, «trim_end», «trim_end_matches», «trim_start_matches»};
+ghost use Rattle.spec.specs.Bytes.{ascii, isin, white, digit, endsWith, startsWith, every, one, isWhiteSpace, «trim_end», «trim_end_matches», «trim_start_matches»};
 ghost use Rattle.spec.specs.Out.{push, replace};
 ghost use Rattle.spec.specs.Md.TextUtils.{endsWithWhite};
 ghost use Rattle.text.specs.Class.{inClass, ordinary};

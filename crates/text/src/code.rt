@@ -4,7 +4,6 @@ ghost use mathlib.Core.Bool.{cond};
 ghost use Prim.Native.Nat.{_+_, _≤_, _<_, _^_, max};
 ghost use lib.ListN.{length, take, drop};
 ghost use mathlib.Core.List.{[], _∷_, _++_};
-ghost use lib.Dec.{eqb};
 ghost use Rattle.spec.specs.Bytes.{ascii, endsWith};
 ghost use Rattle.spec.specs.Out.{push};
 ghost use Rattle.text.specs.Kept.{keptByte};

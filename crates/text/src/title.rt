@@ -1,8 +1,7 @@
 // push_title of text_utils.rs. A title that holds a quote mark is a text of its own behind the text; it is lifted to the end of
 // the room and appended from there.
-ghost use mathlib.Core.Path.{_≡_};
 ghost use mathlib.Core.Bool.{cond};
-ghost use Prim.Native.Nat.{ℕ, _+_, _≤_};
+ghost use Prim.Native.Nat.{_+_, _≤_};
 ghost use lib.ListN.{length, take};
 ghost use lib.Seq.{slice};
 ghost use Rattle.spec.specs.Bytes.{isin};

@@ -1,11 +1,11 @@
 -- The default skip list has no name that has a number. Assumes nothing.
 use Prim.Native.Nat.{ℕ}
 use mathlib.Core.Path.{_≡_, refl, ap, _∙_, sym}
-use mathlib.Core.Bool.{Bool, true, false, cond, not, _&&_, _||_, false≢true}
+use mathlib.Core.Bool.{Bool, true, false, cond, _&&_, _||_, false≢true}
 use mathlib.Core.List.{List, [], _∷_}
 use lib.ListN.{getD}
 use lib.Dec.{eqb}
-use Rattle.spec.specs.Bytes.{Bytes, ascii, same, among}
+use Rattle.spec.specs.Bytes.{Bytes, same, among}
 use Rattle.spec.specs.Names.{names, place, tagOf}
 use Rattle.spec.specs.Call.{skipTags}
 use Rattle.spec.specs.Md.Constants.{«DEFAULT_SKIP_TAGS»}
