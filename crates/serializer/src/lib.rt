@@ -82,6 +82,7 @@ use text::text_utils::push_linebreak;
 use text::text_utils::trim_space;
 use texts::is_blank_text;
 use texts::is_one_text;
+use texts::trim_behind_text;
 use tree::attributes::Value;
 use tree::attributes::attribute;
 use tree::nodes::node_end;
@@ -262,6 +263,9 @@ fn kids(
     ensures { λ r. ⌜ WritesElement (now (sheet .entry)) (now (nodes .entry)) at (λ anc name attrs kids. writeKids (selfAt own (now (run .entry)) levels) anc opts (element name attrs kids nothing)) (take len (now (text .entry))) (length (now (text .entry))) (now (text .exit)) r ⌝ }
 {
     let to = node_end(nodes, at);
+    if (levels != 0) & is_one_text(sheet, nodes, at + 1, to) {
+        return trim_behind_text(sheet, nodes, text, len, at + 1, opts);
+    }
     match write(sheet, own, run, nodes, text, len, at + 1, to, opts, levels) {
         Wrote::Done(n) => Wrote::Done(trim_space(text, n)),
         Wrote::Full => Wrote::Full,

@@ -3,13 +3,21 @@ ghost use mathlib.Core.Path.{_≡_};
 ghost use mathlib.Core.Bool.{true, _&&_};
 ghost use Prim.Native.Nat.{_+_, _≤_, _<_};
 ghost use lib.Dec.{eqb};
-ghost use lib.ListN.{length, getD};
+ghost use lib.ListN.{length, take, getD};
 ghost use Rattle.spec.specs.Bytes.{isBlank};
+ghost use Rattle.spec.specs.Out.{andThen};
+ghost use Rattle.spec.specs.Md.TextUtils.{«trim_space»};
 ghost use Rattle.tree.specs.Memory.{placeAt};
 ghost use Rattle.tree.specs.Nodes.{bodyAt};
+ghost use Rattle.text.specs.Writes.{Writes};
 ghost use Rattle.elements.specs.Stands.{NodeAt};
+ghost use Rattle.elements.specs.TextStep.{textStep};
+use elements::nodes::write_text_node;
+use spec::ctx::FormatOpts;
 use text::buffer::Class;
+use text::buffer::Wrote;
 use text::buffer::all_in;
+use text::text_utils::trim_space;
 use tree::nodes::node_place;
 use tree::nodes::tag_at;
 use tree::nodes::text_at;
@@ -24,6 +32,24 @@ pub fn is_one_text(sheet: &[u8], nodes: &[u8], from: usize, to: usize) -> bool
     }
     let place = node_place(nodes, from);
     tag_at(sheet, place) == 4
+}
+
+// Appends the text of node i, if it is one, and trims the whole text.
+pub fn trim_behind_text(
+    sheet: &[u8],
+    nodes: &[u8],
+    text: &mut [u8],
+    len: usize,
+    i: usize,
+    opts: FormatOpts,
+) -> Wrote
+    requires { ⌜ NodeAt (now sheet) (now nodes) i × (len ≤ length (now text)) ⌝ }
+    ensures { λ r. ⌜ Writes (length (now (text .entry))) (now (text .exit)) r (andThen (textStep opts (now (sheet .entry)) (placeAt (now (nodes .entry)) i) (take len (now (text .entry)))) «trim_space») ⌝ }
+{
+    match write_text_node(sheet, nodes, text, len, i, opts) {
+        Wrote::Done(n) => Wrote::Done(trim_space(text, n)),
+        Wrote::Full => Wrote::Full,
+    }
 }
 
 // Whether the node whose field stands at `place` is a text of white bytes.
