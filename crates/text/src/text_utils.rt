@@ -94,7 +94,7 @@ pub fn push_normalized_text(
     }
     let room = text.len();
     let n = new_text.len();
-    push_normalized(new_text, text, false, 0, n, room, len, f_opts)
+    push_normalized(&new_text[..n], text, false, 0, n, room, len, f_opts)
 }
 
 // Whether the text ends with one to nine digits that begin a line or an item.
