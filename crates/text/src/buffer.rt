@@ -20,6 +20,16 @@ pub enum Wrote {
     Full,
 }
 
+// The same. What a call has left in memory is read field by field; handed on as it stands, it would be copied whole.
+pub fn reread(wrote: Wrote) -> Wrote
+    ensures { λ r. ⌜ r ≡ wrote ⌝ }
+{
+    match wrote {
+        Wrote::Done(n) => Wrote::Done(n),
+        Wrote::Full => Wrote::Full,
+    }
+}
+
 // Sets of bytes, for the functions that trim, skip and test by one. Black bytes are not white; ordinary ones are neither white
 // nor ever escaped behind the beginning of a line.
 pub enum Class {

@@ -94,6 +94,7 @@ pub fn push_normalized_text(
     }
     let room = text.len();
     let n = new_text.len();
+    // a new slice: the address of `new_text` itself would keep it in memory
     push_normalized(&new_text[..n], text, false, 0, n, room, len, f_opts)
 }
 
