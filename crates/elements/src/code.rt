@@ -28,6 +28,7 @@ use text::buffer::ends_with_byte;
 use text::buffer::is_white_space_1;
 use text::buffer::is_white_space_2;
 use text::buffer::is_white_space_3;
+use text::buffer::reread;
 use text::buffer::trim_end;
 use text::buffer::trim_end_matches;
 use text::buffer::trim_start_matches;
@@ -193,7 +194,7 @@ fn push_trimmed_code(
     let last = len + k;
     let m = code_start(&text[len..last], begun);
     let size = k - m;
-    push_code_text(text, len, len + m, size, size)
+    reread(push_code_text(text, len, len + m, size, size))
 }
 
 fn code_opts(opts: FormatOpts) -> FormatOpts

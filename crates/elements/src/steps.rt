@@ -30,6 +30,7 @@ use spec::ctx::EmphasisScope;
 use spec::ctx::FormatOpts;
 use text::buffer::Wrote;
 use text::buffer::push_all;
+use text::buffer::reread;
 use text::emphasis::push_emphasis;
 use text::heading::escape_closing_hashes;
 use text::heading::is_heading;
@@ -247,13 +248,7 @@ pub fn emphasis_opts(name: usize, opts: FormatOpts) -> FormatOpts
 }
 
 // The emphasis text is the n bytes behind the text.
-pub fn push_emphasis_by(
-    text: &mut [u8],
-    len: usize,
-    n: usize,
-    name: usize,
-    opts: FormatOpts,
-) -> Wrote
+fn push_scoped(text: &mut [u8], len: usize, n: usize, name: usize, opts: FormatOpts) -> Wrote
     requires { ⌜ len + n ≤ length (now text) ⌝ }
     ensures { λ r. ⌜ Writes (length (now (text .entry))) (now (text .exit)) r (emphasisStep opts name (take n (drop len (now (text .entry)))) (take len (now (text .entry)))) ⌝ }
 {
@@ -268,4 +263,18 @@ pub fn push_emphasis_by(
         return push_emphasis(text, len, n, b"**");
     }
     push_emphasis(text, len, n, b"*")
+}
+
+// The same.
+pub fn push_emphasis_by(
+    text: &mut [u8],
+    len: usize,
+    n: usize,
+    name: usize,
+    opts: FormatOpts,
+) -> Wrote
+    requires { ⌜ len + n ≤ length (now text) ⌝ }
+    ensures { λ r. ⌜ Writes (length (now (text .entry))) (now (text .exit)) r (emphasisStep opts name (take n (drop len (now (text .entry)))) (take len (now (text .entry)))) ⌝ }
+{
+    reread(push_scoped(text, len, n, name, opts))
 }

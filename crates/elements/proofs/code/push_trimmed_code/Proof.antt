@@ -1,10 +1,12 @@
 -- `elements::code::push_trimmed_code` meets its contract. Assumes nothing.
-use Prim.Native.Nat.{ℕ}
-use mathlib.Core.Path.{sym, ap₂}
-use lib.ListN.{take}
+use Prim.Native.Nat.{ℕ, _+_, _-_}
+use mathlib.Core.Path.{sym, ap₂, subst}
+use lib.ListN.{length, take, drop}
 use Rattle.spec.specs.Bytes.{Bytes}
 use Rattle.spec.specs.Tree.{«text_of»}
 use Rattle.spec.specs.Md.Elements.Code.{«push_code_text»}
+use Rattle.text.specs.declared.buffer.Wrote.{Wrote}
+use Rattle.text.specs.Writes.{Writes}
 use Rattle.text.proofs.Writing.{alike}
 use Rattle.elements.proofs.Interrupts.{element-kids}
 use Rattle.elements.proofs.Edges.{code-is, code-size}
@@ -24,19 +26,19 @@ begins-line-requires c κs =
 
 returns : tie.Need-returns
 returns c =
-    let s = c .before .before .before .before .before .before .before .before .before .before .before .before .before .before .before .before in
+    let s = c .before .before .before .before .before .before .before .before .before .before .before .before .before .before .before .before .before in
     let d = s .args .text .now in
-    let k = c .before .before .before .before .before .before .before .code-end .result in
-    let m = c .before .before .before .before .code-start .result in
+    let k = c .before .before .before .before .before .before .before .before .code-end .result in
+    let m = c .before .before .before .before .before .code-start .result in
     λ name attrs kids x.
-    let h = element-kids x (c .before .before .before .before .before .before .before .before .before .before .before .before .node-end .ensures) in
-    let e = c .before .before .before .before .before .before .before .before .before .before .before .ends-line .ensures (s .args .i) kids h in
-    let b = c .before .before .before .before .before .before .before .before .before .before .begins-line .ensures (s .args .i) kids h in
+    let h = element-kids x (c .before .before .before .before .before .before .before .before .before .before .before .before .before .node-end .ensures) in
+    let e = c .before .before .before .before .before .before .before .before .before .before .before .before .ends-line .ensures (s .args .i) kids h in
+    let b = c .before .before .before .before .before .before .before .before .before .before .before .begins-line .ensures (s .args .i) kids h in
     alike
     (ap₂ (λ (j : ℕ) (z : Bytes). «push_code_text» j z (take (s .args .len) d))
-    (sym (code-size d («text_of» kids) (s .args .len) (s .args .n) k m (s .pre .1) e b (c .before .before .before .before .before .before .before .code-end .ensures) (c .before .before .before .before .code-start .ensures)))
-    (sym (code-is d («text_of» kids) (s .args .len) (s .args .n) k m (s .pre .1) e b (c .before .before .before .before .before .before .before .code-end .ensures) (c .before .before .before .before .code-start .ensures))))
-    (c .before .before .push-code-text .ensures)
+    (sym (code-size d («text_of» kids) (s .args .len) (s .args .n) k m (s .pre .1) e b (c .before .before .before .before .before .before .before .before .code-end .ensures) (c .before .before .before .before .before .code-start .ensures)))
+    (sym (code-is d («text_of» kids) (s .args .len) (s .args .n) k m (s .pre .1) e b (c .before .before .before .before .before .before .before .before .code-end .ensures) (c .before .before .before .before .before .code-start .ensures))))
+    (subst (λ (w : Wrote). Writes (length d) (c .before .before .before .push-code-text .last .0) w («push_code_text» (k - m) (take (k - m) (drop (s .args .len + m) d)) (take (s .args .len) d))) (sym (c .reread .ensures)) (c .before .before .before .push-code-text .ensures))
 
 node-end-requires : tie.Need-node-end-requires
 node-end-requires c κs = search needs
@@ -89,5 +91,8 @@ push-code-text-requires c κs = search needs
 same-length : tie.Need-same-length
 same-length c = search needs
 
+reread-requires : tie.Need-reread-requires
+reread-requires c κs = search needs
+
 pub push-trimmed-code-spec : {M : Type 1} → statement M
-push-trimmed-code-spec = tie.close (tie.spec node-end-requires add-ends-line ends-line-requires add-begins-line begins-line-requires add-end sub-code-end part-code-end-start part-code-end-end code-end-requires add-last sub-code-start part-code-start-start part-code-start-end code-start-requires sub-size add-push-code-text push-code-text-requires same-length returns)
+push-trimmed-code-spec = tie.close (tie.spec node-end-requires add-ends-line ends-line-requires add-begins-line begins-line-requires add-end sub-code-end part-code-end-start part-code-end-end code-end-requires add-last sub-code-start part-code-start-start part-code-start-end code-start-requires sub-size add-push-code-text push-code-text-requires reread-requires same-length returns)
