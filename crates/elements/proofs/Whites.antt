@@ -198,6 +198,12 @@ state-end x [] (suc i) h = refl
 state-end x (b ∷ s) zero h = absurd (omega arith)
 state-end x (b ∷ s) (suc i) h = state-end x s i (omega arith)
 
+-- bytes that are not White_Space stay so, whatever follows them
+pub state-other : (x : Begun) (s : Bytes) → x ≡ Other → whiteState x s ≡ x
+unfolding whiteState
+state-other x [] e = refl
+state-other x (b ∷ s) e = state-other (nextWhite x b) s (sym (next-other b e)) ∙ (sym (next-other b e) ∙ sym e)
+
 -- ---- a loop through the numbers of a range
 
 module _ (sh ns : Bytes) where

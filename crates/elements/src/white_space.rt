@@ -1,6 +1,6 @@
 // Whether a text that comes in pieces is White_Space.
 ghost use mathlib.Core.Path.{_≡_};
-ghost use mathlib.Core.Bool.{cond};
+ghost use mathlib.Core.Bool.{cond, true};
 ghost use Rattle.elements.specs.Begun.{nextWhite, whiteState, isNothing};
 ghost use Rattle.elements.specs.declared.white_space.Begun.the-variants as begun;
 use text::buffer::is_white_space_1;
@@ -37,6 +37,18 @@ fn next_white(state: Begun, c: u8) -> Begun
     }
 }
 
+// Whether bytes stand there that are not White_Space: no byte behind them changes that.
+fn is_other(state: Begun) -> bool
+    ensures { λ r. ⌜ (r ≡ true → state ≡ begun.Other) ⌝ }
+{
+    match state {
+        Begun::Nothing => false,
+        Begun::One(a) => false,
+        Begun::Two(a, b) => false,
+        Begun::Other => true,
+    }
+}
+
 // The state behind s, where it was `from` before it.
 pub fn white_state(s: &[u8], from: Begun) -> Begun
     ensures { λ r. ⌜ r ≡ whiteState from (now (s .entry)) ⌝ }
@@ -44,6 +56,9 @@ pub fn white_state(s: &[u8], from: Begun) -> Begun
     let mut state = from;
     let mut i = 0;
     while i < s.len() {
+        if is_other(state) {
+            return state;
+        }
         state = next_white(state, s[i]);
         i += 1;
     }
