@@ -2,10 +2,11 @@
 use Prim.Native.Nat.{ℕ, _+_, _<_}
 use native.Mathlib.Omega.{arith}
 use mathlib.Core.Path.{_≡_, refl, ap, subst, _∙_}
-use mathlib.Core.Bool.{true, false, not, _&&_}
+use mathlib.Core.Bool.{Bool, true, false, not, _&&_, and-eq-true-iff}
 use mathlib.Core.List.{List, _∷_}
 use lib.ListN.{getD}
-use borrow.Author.Tests.{eq-eqb, ne-eqb}
+use lib.Dec.{eqb}
+use borrow.Author.Tests.{eq-eqb, ne-eqb, eqb-false, not-true}
 use Rattle.spec.specs.Bytes.{Bytes, among}
 use Rattle.spec.specs.Names.{tagOf}
 use Rattle.spec.specs.Tree.{Attr, Forest, nothing, text, comment, element, kidsOf, attrsOf}
@@ -45,6 +46,12 @@ module _ (sh ns : Bytes) (parent i : ℕ) (l : i < endAt ns i) where
       rw (ne-eqb (getD sh (placeAt ns i) 0) 4 (λ x. omega (arith, its-tag (h .1))))
       (ap (λ (g : Forest). writeNodes self anc opts g t) (ended sh ns parent (i + 1) (endAt ns i) r (h .4) (omega (arith, h .2))))
   node-text self anc opts t (element name attrs k r) h u = absurd (u (its-tag (h .1)))
+
+-- a level is left, and the nodes are one text
+pub some-one : (levels : ℕ) (one : Bool) → (not (eqb levels 0) && one) ≡ true → (0 < levels) × (one ≡ true)
+some-one levels one e =
+    let b = and-eq-true-iff (not (eqb levels 0)) one .0 e in
+    (omega (arith, eqb-false levels 0 (not-true (eqb levels 0) (b .0))), b .1)
 
 -- one text is all from i up to e
 pub one-is : (sh ns : Bytes) (parent i e : ℕ) → i + 1 ≡ e → getD sh (placeAt ns i) 0 ≡ 4

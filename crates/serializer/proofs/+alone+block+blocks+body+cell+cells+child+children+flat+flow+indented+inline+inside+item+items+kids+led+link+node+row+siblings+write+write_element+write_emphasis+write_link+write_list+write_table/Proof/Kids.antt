@@ -22,7 +22,7 @@ use Rattle.serializer.specs.Writers.{selfAt}
 use Rattle.serializer.proofs.Answers.{forest-reaches, below-wrote, both-done, both-full}
 use Rattle.serializer.proofs.Falls.{falls-in}
 use Rattle.serializer.proofs.Levels.{write-some}
-use Rattle.serializer.proofs.NodeSteps.{kids-is, one-is}
+use Rattle.serializer.proofs.NodeSteps.{some-one, kids-is, one-is}
 use Rattle.serializer.proofs.Placing.{placed-node, placed-kids, placeds-at}
 use borrow.Author.Needs.{needs}
 use native.Mathlib.Omega.{arith}
@@ -54,10 +54,6 @@ is-one-text-requires t c κs =
     let p = placed-kids (s .args .sheet .now) (s .args .nodes .now) (s .args .at) (s .pre .1 .0) (c .before .node-end .ensures) in
     (rep-le (s .args .sheet .now) (s .args .nodes .now) (p .parent) (s .args .at + 1) (c .before .node-end .result) (p .forest) (p .rep), λ l. placeds-at p l)
 
--- the one text
-one : (t : ℕ) (c : lts.Then1 (claims t) (kids-at t) kids.Post) → (c .before .before .before .before .before .before .before .before .before .args .at + 1 + 1 ≡ c .before .before .before .node-end .result) × (getD (c .before .before .before .before .before .before .before .before .before .args .sheet .now) (placeAt (c .before .before .before .before .before .before .before .before .before .args .nodes .now) (c .before .before .before .before .before .before .before .before .before .args .at + 1)) 0 ≡ 4)
-one t c = c .before .is-one-text .ensures (and-eq-true-iff (not (eqb (c .before .before .before .before .before .before .before .before .before .args .levels) 0)) (c .before .is-one-text .result) .0 (c .if1 .taken) .1)
-
 add-trim-behind-text : (t : ℕ) → lts.Need-add-trim-behind-text (claims t) (kids-at t) kids.Post
 add-trim-behind-text t c =
     let s = c .before .before .before .before .before .before .before .before .before .before .before in
@@ -66,20 +62,20 @@ add-trim-behind-text t c =
 trim-behind-text-requires : (t : ℕ) → lts.Need-trim-behind-text-requires (claims t) (kids-at t) kids.Post
 trim-behind-text-requires t c κs =
     let s = c .before .before .before .before .before .before .before .before .before .before .before in
-    (placeds-at (placed-kids (s .args .sheet .now) (s .args .nodes .now) (s .args .at) (s .pre .1 .0) (c .before .before .before .before .before .node-end .ensures)) (omega (arith, one t (c .before .before) .0)), s .pre .1 .1 .0)
+    (placeds-at (placed-kids (s .args .sheet .now) (s .args .nodes .now) (s .args .at) (s .pre .1 .0) (c .before .before .before .before .before .node-end .ensures)) (omega (arith, c .before .before .before .is-one-text .ensures (some-one (s .args .levels) (c .before .before .before .is-one-text .result) (c .before .before .if1 .taken) .1) .0)), s .pre .1 .1 .0)
 
 returns : (t : ℕ) → lts.Need-returns (claims t) (kids-at t) kids.Post
 unfolding serializer
 returns t c =
     let s = c .before .before .before .before .before .before .before .before .before .before .before .before .before .before in
     let a = s .args in
-    let o = one t (c .before .before .before .before .before) in
-    let p : 0 < a .levels = omega (arith, eqb-false (a .levels) 0 (not-true (eqb (a .levels) 0) (and-eq-true-iff (not (eqb (a .levels) 0)) (c .before .before .before .before .before .before .is-one-text .result) .0 (c .before .before .before .before .before .if1 .taken) .0))) in (
+    let b = some-one (a .levels) (c .before .before .before .before .before .before .is-one-text .result) (c .before .before .before .before .before .if1 .taken) in
+    let o = c .before .before .before .before .before .before .is-one-text .ensures (b .1) in (
       kept-none (a .nodes .now),
       record {
         for = λ name attrs kids anc x h.
             alike (kids-is (selfAt (a .own) (a .run .now) (a .levels)) anc (a .opts) name attrs kids (take (a .len) (a .text .now))
-            ∙ ap (λ (z : Out). andThen z «trim_space») (write-some (skipTags (skipList (a .own) (a .run .now))) (a .levels) (attrs ∷ anc) (a .opts) kids (take (a .len) (a .text .now)) p
+            ∙ ap (λ (z : Out). andThen z «trim_space») (write-some (skipTags (skipList (a .own) (a .run .now))) (a .levels) (attrs ∷ anc) (a .opts) kids (take (a .len) (a .text .now)) (b .0)
             ∙ one-is (a .sheet .now) (a .nodes .now) (a .at) (a .at + 1) (c .before .before .before .before .before .before .before .before .node-end .result) (o .0) (o .1) (selfAt (a .own) (a .run .now) (a .levels - 1)) (attrs ∷ anc) (a .opts) (take (a .len) (a .text .now)) kids (element-kids x (c .before .before .before .before .before .before .before .before .node-end .ensures))))
             (c .before .before .trim-behind-text .ensures);
       },

@@ -14,7 +14,7 @@ use Rattle.text.proofs.Writing.{alike}
 use Rattle.serializer.specs.Writers.{selfAt}
 use Rattle.serializer.proofs.Falls.{falls-in}
 use Rattle.serializer.proofs.Levels.{write-some}
-use Rattle.serializer.proofs.NodeSteps.{one-is}
+use Rattle.serializer.proofs.NodeSteps.{some-one, one-is}
 use Rattle.serializer.proofs.Placing.{placeds-at}
 use borrow.Author.Needs.{needs}
 use native.Mathlib.Omega.{arith}
@@ -34,25 +34,21 @@ is-one-text-requires t c κs =
     let p = s .pre .1 .0 in
     (rep-le (s .args .sheet .now) (s .args .nodes .now) (p .parent) (s .args .from) (s .args .to) (p .forest) (p .rep), λ l. placeds-at p l)
 
--- the one text
-one : (t : ℕ) (c : lts.Then1 (claims t) (siblings-at t) siblings.Post) → (c .before .before .before .before .before .before .before .args .from + 1 ≡ c .before .before .before .before .before .before .before .args .to) × (getD (c .before .before .before .before .before .before .before .args .sheet .now) (placeAt (c .before .before .before .before .before .before .before .args .nodes .now) (c .before .before .before .before .before .before .before .args .from)) 0 ≡ 4)
-one t c = c .before .is-one-text .ensures (and-eq-true-iff (not (eqb (c .before .before .before .before .before .before .before .args .levels) 0)) (c .before .is-one-text .result) .0 (c .if1 .taken) .1)
-
 write-text-node-requires : (t : ℕ) → lts.Need-write-text-node-requires (claims t) (siblings-at t) siblings.Post
 write-text-node-requires t c κs =
     let s = c .before .before .before .before .before .before .before .before .before in
-    (placeds-at (s .pre .1 .0) (omega (arith, one t (c .before .before) .0)), s .pre .1 .1 .0)
+    (placeds-at (s .pre .1 .0) (omega (arith, c .before .before .before .is-one-text .ensures (some-one (s .args .levels) (c .before .before .before .is-one-text .result) (c .before .before .if1 .taken) .1) .0)), s .pre .1 .1 .0)
 
 returns : (t : ℕ) → lts.Need-returns (claims t) (siblings-at t) siblings.Post
 returns t c =
     let s = c .before .before .before .before .before .before .before .before .before .before .before .before in
     let a = s .args in
-    let o = one t (c .before .before .before .before .before) in
-    let p : 0 < a .levels = omega (arith, eqb-false (a .levels) 0 (not-true (eqb (a .levels) 0) (and-eq-true-iff (not (eqb (a .levels) 0)) (c .before .before .before .before .before .before .is-one-text .result) .0 (c .before .before .before .before .before .if1 .taken) .0))) in (
+    let b = some-one (a .levels) (c .before .before .before .before .before .before .is-one-text .result) (c .before .before .before .before .before .if1 .taken) in
+    let o = c .before .before .before .before .before .before .is-one-text .ensures (b .1) in (
       kept-none (a .nodes .now),
       record {
         for = λ parent f anc h q.
-            alike (write-some (skipTags (skipList (a .own) (a .run .now))) (a .levels) anc (a .opts) f (take (a .len) (a .text .now)) p
+            alike (write-some (skipTags (skipList (a .own) (a .run .now))) (a .levels) anc (a .opts) f (take (a .len) (a .text .now)) (b .0)
             ∙ one-is (a .sheet .now) (a .nodes .now) parent (a .from) (a .to) (o .0) (o .1) (selfAt (a .own) (a .run .now) (a .levels - 1)) anc (a .opts) (take (a .len) (a .text .now)) f h)
             (c .before .before .write-text-node .ensures);
       },
