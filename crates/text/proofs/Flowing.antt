@@ -14,12 +14,12 @@ use Rattle.spec.specs.Md.Constants.{«ALWAYS_ESCAPED»}
 use Rattle.spec.specs.Md.TextUtils as def
 use Rattle.spec.specs.declared.ctx.FormatOpts as Opts
 use Rattle.text.specs.Class.{ordinary}
-use Rattle.text.specs.Flow.{startsBlack, added, flow, flowBefore, plain, Flows}
+use Rattle.text.specs.Flow.{startsBlack, MayStart, added, flow, flowBefore, plain, Flows}
 use Rattle.text.specs.Marks.{marks}
 use Rattle.tree.proofs.Building.{le-or-lt}
 use Rattle.text.proofs.Reading.{same-self}
 use Rattle.text.proofs.Trimming.{trim-here}
-use Rattle.text.proofs.Ordinary.{both, ordinary-parts, not-escaped, inner-chunk, bare-chunk, not-white}
+use Rattle.text.proofs.Ordinary.{both, ordinary-parts, not-escaped, inner-chunk, bare-chunk}
 
 -- ---- plain bytes
 
@@ -97,7 +97,7 @@ bracket-first (b ∷ s) = on (white b) refl
     on true e = rw (bracket-black b e)
     on false e = refl
 
-null-first : (s : Bytes) → null (parts white s .0) ≡ not (startsBlack s)
+pub null-first : (s : Bytes) → null (parts white s .0) ≡ not (startsBlack s)
 unfolding parts cutAt null startsBlack
 null-first [] = refl
 null-first (b ∷ s) = on (white b)
@@ -178,15 +178,12 @@ normal-words : (opts : Opts.FormatOpts) (text s w : Bytes) (ws : List Bytes) →
 unfolding def.normalizedWords
 normal-words opts text s w ws a b c d = simp (a, b, c, d, and-false, append-nil)
 
-module _ (b : ℕ) (s : Bytes) (n : ℕ) (long : length (b ∷ s) ≡ n + 1) (letter : 65 ≤ b) (f : Flows (b ∷ s) n) (last : ordinary (getD (b ∷ s) n 0) ≡ true) where
+module _ (b : ℕ) (s : Bytes) (n : ℕ) (long : length (b ∷ s) ≡ n + 1) (black : white b ≡ false) (starts : MayStart (b ∷ parts white s .0)) (f : Flows (b ∷ s) n) (last : ordinary (getD (b ∷ s) n 0) ≡ true) where
   abbrev first : Bytes
   first = b ∷ parts white s .0
 
   abbrev more : List Bytes
   more = filled (parts white s .1)
-
-  black : white b ≡ false
-  black = not-white b (omega arith)
 
   -- each byte adds itself
   flow-is : (escape : Bool) → flow escape (b ∷ s) ≡ b ∷ s
@@ -218,7 +215,7 @@ module _ (b : ℕ) (s : Bytes) (n : ℕ) (long : length (b ∷ s) ≡ n + 1) (le
           plain-black (getD (b ∷ s) i 0) (getD (b ∷ s) (i + 1) 0) (f .each i (omega arith) .adds-itself) w
 
   first-bare : (escape start : Bool) → def.escapedChunk first escape start ≡ first
-  first-bare escape start = bare-chunk first escape start first-ordinary (λ e h. letter)
+  first-bare escape start = bare-chunk first escape start first-ordinary (λ e h. starts)
 
   words-back : (escape : Bool) → first ++ def.moreWords escape more ≡ b ∷ s
   words-back escape =
@@ -240,7 +237,7 @@ module _ (b : ℕ) (s : Bytes) (n : ℕ) (long : length (b ∷ s) ≡ n + 1) (le
 
   no-dot : same first (ascii ".") || same first (ascii ")") ≡ false
   unfolding same
-  no-dot = rw (ne-eqb b 46 (λ q. omega arith), ne-eqb b 41 (λ q. omega arith))
+  no-dot = rw (ne-eqb b 46 (λ q. omega (arith, starts .above-dot)), ne-eqb b 41 (λ q. omega (arith, starts .above-dot)))
 
   bare-from : (opts : Opts.FormatOpts) (text : List ℕ) → def.normalized opts text (b ∷ s) ≡ b ∷ s
   unfolding def.normalized def.startsWithWhite isBlank every null
@@ -248,11 +245,16 @@ module _ (b : ℕ) (s : Bytes) (n : ℕ) (long : length (b ∷ s) ≡ n + 1) (le
       rw (black, and-false, words-are)
       (normal-words opts text (b ∷ s) first more black no-dot first-bare black-end ∙ words-back (not (opts .«skip_escape»)))
 
--- a text of plain bytes is appended as it is
-pub bare-flow : {s : Bytes} {n : ℕ} → length s ≡ n + 1 → 65 ≤ getD s 0 0 → Flows s n → ordinary (getD s n 0) ≡ true
+-- a text of plain bytes is appended as it is where its first word may start a line
+pub bare-flow : {s : Bytes} {n : ℕ} → length s ≡ n + 1 → MayStart (parts white s .0) → Flows s n → ordinary (getD s n 0) ≡ true
     → (opts : Opts.FormatOpts) (text : List ℕ) → def.normalized opts text s ≡ s
+unfolding parts cutAt
 bare-flow {s} {n} = on s n
   where
-    on : (s : Bytes) (n : ℕ) → length s ≡ n + 1 → 65 ≤ getD s 0 0 → Flows s n → ordinary (getD s n 0) ≡ true → (opts : Opts.FormatOpts) (text : List ℕ) → def.normalized opts text s ≡ s
-    on [] n long high f last = absurd (omega arith)
-    on (b ∷ s) n long high f last = bare-from b s n long high f last
+    on : (s : Bytes) (n : ℕ) → length s ≡ n + 1 → MayStart (parts white s .0) → Flows s n → ordinary (getD s n 0) ≡ true → (opts : Opts.FormatOpts) (text : List ℕ) → def.normalized opts text s ≡ s
+    on [] n long starts f last = absurd (omega arith)
+    on (b ∷ s) n long starts f last = go (white b) refl starts
+      where
+        go : (t : Bool) → white b ≡ t → MayStart (cutAt t b (parts white s) .0) → (opts : Opts.FormatOpts) (text : List ℕ) → def.normalized opts text (b ∷ s) ≡ b ∷ s
+        go true e m = absurd (omega (arith, m .above-dot))
+        go false e m = bare-from b s n long e m f last

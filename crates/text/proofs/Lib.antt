@@ -10,6 +10,7 @@ pub mod Sourcing
 pub mod Wording
 pub mod Ordinary
 pub mod Flowing
+pub mod Starting
 pub mod Streaming
 pub mod Normal
 pub mod Leaves

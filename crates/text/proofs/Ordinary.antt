@@ -11,6 +11,7 @@ use Rattle.spec.specs.Bytes.{ascii, null, isin, white, digit, every, startsWith
 use Rattle.spec.specs.Md.Constants.{«ALWAYS_ESCAPED»}
 use Rattle.spec.specs.Md.TextUtils.{isEscaped, escapedFrom, escapedChunk, «is_ordered_list_marker»}
 use Rattle.text.specs.Class.{ordinary}
+use Rattle.text.specs.Flow.{MayStart}
 use Rattle.text.specs.Marks.{marks}
 use Rattle.tree.proofs.Sequences.{below, below-at}
 
@@ -105,22 +106,28 @@ no-marker b (y ∷ t) h =
     ∙ ap (λ (d : Bool). (endsWith (ascii ".") (b ∷ y ∷ t) || endsWith (ascii ")") (b ∷ y ∷ t)) && (d && every digit (take (length t) (y ∷ t)))) (not-digit b h)
     ∙ and-false (endsWith (ascii ".") (b ∷ y ∷ t) || endsWith (ascii ")") (b ∷ y ∷ t))
 
-not-escaped-first : (u : Bool) (b : ℕ) (s : List ℕ) → isin b «ALWAYS_ESCAPED» ≡ false → eqb b 33 ≡ false → 65 ≤ b → isEscaped true false u b s ≡ false
-unfolding isEscaped isin
-not-escaped-first u b s e f h =
-    rw (e, f, ne-eqb b 35 (λ q. omega arith), ne-eqb b 62 (λ q. omega arith), ne-eqb b 45 (λ q. omega arith), ne-eqb b 43 (λ q. omega arith), ne-eqb b 61 (λ q. omega arith)) (and-false u)
+-- a word that begins with no sign and no digit
+pub letter-starts : (w : List ℕ) → 65 ≤ getD w 0 0 → MayStart w
+letter-starts [] h = absurd (omega arith)
+letter-starts (b ∷ w) h =
+    record { above-dot = omega arith; no-underline = λ q. omega arith; no-quote = λ q. omega arith; no-marker = no-marker b w h }
 
--- a chunk of ordinary bytes stands as it is, at the beginning of a line too where its first byte is no sign and no digit
-pub bare-chunk : (s : List ℕ) (escape start : Bool) → every ordinary s ≡ true → (start ≡ true → 0 < length s → 65 ≤ getD s 0 0) → escapedChunk s escape start ≡ s
+not-escaped-first : (u : Bool) (b : ℕ) (s : List ℕ) → isin b «ALWAYS_ESCAPED» ≡ false → eqb b 33 ≡ false → 48 ≤ b → (b ≡ 61 → ⊥) → (b ≡ 62 → ⊥) → isEscaped true false u b s ≡ false
+unfolding isEscaped isin
+not-escaped-first u b s e f h k l =
+    rw (e, f, ne-eqb b 35 (λ q. omega arith), ne-eqb b 62 l, ne-eqb b 45 (λ q. omega arith), ne-eqb b 43 (λ q. omega arith), ne-eqb b 61 k) (and-false u)
+
+-- a chunk of ordinary bytes stands as it is, at the beginning of a line too where it may start one
+pub bare-chunk : (s : List ℕ) (escape start : Bool) → every ordinary s ≡ true → (start ≡ true → 0 < length s → MayStart s) → escapedChunk s escape start ≡ s
 unfolding escapedChunk escapedFrom every
 bare-chunk s escape false h k = ordinary-chunk s escape h
 bare-chunk s false true h k = refl
 bare-chunk [] true true h k = refl
 bare-chunk (b ∷ s) true true h k =
-    let low : 65 ≤ b = k refl (omega arith) in
+    let starts = k refl (omega arith) in
     let q = both (ordinary b) (every ordinary s) h in
     let r = ordinary-parts (white b) (isin b «ALWAYS_ESCAPED») (eqb b 33) (q .0) in
     let u = eqb b 61 && every (λ c. eqb c 61) s in
-    ap (λ (m : Bool). escapedFrom true m u (b ∷ s)) (no-marker b s low)
-    ∙ ap (λ (t : Bool). cond t (ascii "\\") [] ++ (b ∷ escapedFrom false false u s)) (not-escaped-first u b s (r .1) (r .2) low)
+    ap (λ (m : Bool). escapedFrom true m u (b ∷ s)) (starts .no-marker)
+    ∙ ap (λ (t : Bool). cond t (ascii "\\") [] ++ (b ∷ escapedFrom false false u s)) (not-escaped-first u b s (r .1) (r .2) (starts .above-dot) (starts .no-underline) (starts .no-quote))
     ∙ ap (λ (x : List ℕ). b ∷ x) (ordinary-escaped u s (q .1))

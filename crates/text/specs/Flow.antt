@@ -6,13 +6,26 @@ use mathlib.Core.List.{[], _∷_, _++_}
 use lib.ListN.{length, getD}
 use lib.Dec.{eqb}
 use Rattle.spec.specs.Bytes.{Bytes, ascii, white}
-use Rattle.spec.specs.Md.TextUtils.{isEscaped}
+use Rattle.spec.specs.Md.TextUtils.{isEscaped, «is_ordered_list_marker»}
 use Rattle.text.specs.Class.{ordinary}
 
 -- a word begins with s
 unfoldable pub startsBlack : Bytes → Bool
 startsBlack [] = false
 startsBlack (b ∷ rest) = not (white b)
+
+-- a `.` or `)` ends the word that s begins with
+unfoldable pub lastDot : Bytes → Bool
+lastDot [] = false
+lastDot (b ∷ rest) = (eqb b 46 || eqb b 41) && not (startsBlack rest)
+
+-- a word has no escapes but those that it has elsewhere where it begins a line: it is no marker, and its first byte is none of
+-- those that are escaped there, which are `=`, `>` and some up to the dot
+pub record MayStart (word : Bytes) : Type 0 where
+  pub above-dot : 48 ≤ getD word 0 0
+  pub no-underline : getD word 0 0 ≡ 61 → ⊥
+  pub no-quote : getD word 0 0 ≡ 62 → ⊥
+  pub no-marker : «is_ordered_list_marker» word ≡ false
 
 -- what b adds before `rest`: a white byte a blank, where a word begins behind it
 unfoldable pub added : Bool → ℕ → Bytes → Bytes

@@ -4,9 +4,9 @@ ghost use mathlib.Core.Path.{_≡_};
 ghost use mathlib.Core.Bool.{Bool, cond, true, false, _||_};
 ghost use mathlib.Core.List.{List, [], _∷_, _++_};
 ghost use Prim.Native.Nat.{ℕ, _+_, _≤_, _<_};
-ghost use lib.ListN.{length, take, getD};
+ghost use lib.ListN.{length, take, drop, getD};
 ghost use lib.Seq.{slice};
-ghost use Rattle.spec.specs.Bytes.{ascii, startsWith, isin, every, white, words, same, «trim_start_matches»};
+ghost use Rattle.spec.specs.Bytes.{ascii, startsWith, isin, every, white, digit, words, parts, same, «trim_start_matches»};
 ghost use Rattle.spec.specs.Out.{push};
 ghost use Rattle.spec.specs.Md.Constants.{«ALWAYS_ESCAPED», «LINE_START_ESCAPED»};
 ghost use Rattle.spec.specs.Md.TextUtils as def;
@@ -15,7 +15,7 @@ ghost use Rattle.text.specs.Class.{inClass};
 ghost use Rattle.text.specs.Marks.{marks, leadOf, firstAndMore, dotWord, leadText, blankText, lineStart};
 ghost use Rattle.text.specs.Trimmed.{Skipped};
 ghost use Rattle.text.specs.Words.{WordAt, WordEnd};
-ghost use Rattle.text.specs.Flow.{startsBlack, added, flow, flowBefore, plain, Plain, Flows};
+ghost use Rattle.text.specs.Flow.{startsBlack, lastDot, MayStart, added, flow, flowBefore, plain, Plain, Flows};
 ghost use Rattle.text.specs.Source.{store, Apart, WritesIn};
 use crate::buffer::Class;
 use crate::buffer::Wrote;
@@ -270,15 +270,59 @@ fn is_plain_text(s: &[u8]) -> bool
     true
 }
 
+// Whether a word ends with a `.` or `)` at i: behind it stands nothing, or a white byte.
+fn is_last_dot(s: &[u8], i: usize) -> bool
+    requires { ⌜ i < length (now s) ⌝ }
+    ensures { λ r. ⌜ r ≡ lastDot (drop i (now (s .entry))) ⌝ }
+{
+    if !((s[i] == 46) | (s[i] == 41)) {
+        return false;
+    }
+    if s.len() == i + 1 {
+        return true;
+    }
+    is_in(Class::White, s[i + 1])
+}
+
+// Whether the first word of s, which begins with a digit, is the marker of an item.
+fn begins_marker(s: &[u8]) -> bool
+    requires { ⌜ digit (getD (now s) 0 0) ≡ true ⌝ }
+    ensures { λ r. ⌜ r ≡ def.«is_ordered_list_marker» (parts white (now (s .entry)) .0) ⌝ }
+{
+    let mut i = 1;
+    while i < s.len() {
+        if !is_in(Class::Digit, s[i]) {
+            return is_last_dot(s, i);
+        }
+        i += 1;
+    }
+    false
+}
+
+// Whether the first word of s is known to need no escape for beginning a line: it begins with no sign, and is no marker.
+fn begins_bare(s: &[u8]) -> bool
+    requires { ⌜ 0 < length (now s) ⌝ }
+    ensures { λ r. ⌜ (r ≡ true → MayStart (parts white (now (s .entry)) .0)) ⌝ }
+{
+    if !starts_low(s) {
+        return true;
+    }
+    if !is_in(Class::Digit, s[0]) {
+        return false;
+    }
+    !begins_marker(s)
+}
+
 // Whether a text is known to be appended as it is, whatever stands before it: ordinary words with one blank between them, the
-// first of which begins with no sign and no digit. Only short texts are looked at, for which the steps of any text cost most.
+// first of which begins with no sign and is no marker. Only short texts are looked at, for which the steps of any text cost
+// most.
 pub fn is_bare_text(s: &[u8]) -> bool
     ensures { λ r. ⌜ (r ≡ true → (opts : Opts.FormatOpts) (text : List ℕ) → def.normalized opts text (now (s .entry)) ≡ now (s .entry)) ⌝ }
 {
     if (s.len() == 0) | (128 < s.len()) {
         return false;
     }
-    if starts_low(s) {
+    if !begins_bare(s) {
         return false;
     }
     is_plain_text(s) & is_in(Class::Ordinary, s[s.len() - 1])

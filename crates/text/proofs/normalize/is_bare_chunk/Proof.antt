@@ -1,7 +1,7 @@
 -- `text::normalize::is_bare_chunk` meets its contract. Assumes nothing.
 use mathlib.Core.Path.{_≡_, sym, _∙_}
 use mathlib.Core.Bool.{Bool, true, false, _&&_, false≢true}
-use Rattle.text.proofs.Ordinary.{bare-chunk}
+use Rattle.text.proofs.Ordinary.{letter-starts, bare-chunk}
 use borrow.Author.Needs.{needs}
 use Rattle.text.proofs.normalize.is_bare_chunk.Statement.{statement}
 use Rattle.text.proofs.normalize.is_bare_chunk.Tie as tie
@@ -25,7 +25,7 @@ returns-2 : tie.Need-returns-2
 returns-2 c =
     let a = c .before .before .before .before .args in
     let low = c .before .before .starts-low in
-    λ h escape. bare-chunk (a .chunk .now) escape (a .line-start) (sym (c .all-in .ensures) ∙ h) (λ s. low .ensures (second (a .line-start) (low .result) (c .before .if1 .left) s))
+    λ h escape. bare-chunk (a .chunk .now) escape (a .line-start) (sym (c .all-in .ensures) ∙ h) (λ s k. letter-starts (a .chunk .now) (low .ensures (second (a .line-start) (low .result) (c .before .if1 .left) s) k))
 
 pub is-bare-chunk-spec : {M : Type 1} → statement M
 is-bare-chunk-spec = tie.close (tie.spec starts-low-requires returns all-in-requires returns-2)

@@ -4,6 +4,7 @@ use mathlib.Core.Path.{_≡_, sym, _∙_}
 use mathlib.Core.Bool.{false, _||_, false≢true}
 use lib.ListN.{length}
 use lib.Dec.{eqb, ltb}
+use borrow.Author.Tests.{not-false}
 use Rattle.text.proofs.Ordinary.{both}
 use Rattle.text.proofs.Flowing.{bare-flow}
 use native.Mathlib.Omega.{arith}
@@ -15,16 +16,17 @@ returns : tie.Need-returns
 returns c =
     λ e. absurd (false≢true e)
 
-starts-low-requires : tie.Need-starts-low-requires
-starts-low-requires c κs = search needs
+some : (n : ℕ) → eqb n 0 || ltb 128 n ≡ false → 0 < n
+some zero e = absurd (false≢true (sym e))
+some (suc n) e = omega arith
+
+begins-bare-requires : tie.Need-begins-bare-requires
+begins-bare-requires c κs =
+    some (length (c .before .before .args .s .now)) (c .if1 .left)
 
 returns-2 : tie.Need-returns-2
 returns-2 c =
     λ e. absurd (false≢true e)
-
-some : (n : ℕ) → eqb n 0 || ltb 128 n ≡ false → 0 < n
-some zero e = absurd (false≢true (sym e))
-some (suc n) e = omega arith
 
 is-plain-text-requires : tie.Need-is-plain-text-requires
 is-plain-text-requires c κs =
@@ -44,12 +46,13 @@ is-in-requires c κs = search needs
 returns-3 : tie.Need-returns-3
 returns-3 c =
     let s = c .before .before .before .before .before .before .before .args .s .now in
+    let bare = c .before .before .before .before .begins-bare in
     let plain = c .before .before .is-plain-text in
     let h = some (length s) (c .before .before .before .before .before .if1 .left) in
     λ e.
     let q = both (plain .result) (c .is-in .result) e in
-    bare-flow {s = s} {n = length s - 1} (omega arith) (c .before .before .before .before .starts-low .ensures (c .before .before .before .if2 .left) h)
+    bare-flow {s = s} {n = length s - 1} (omega arith) (bare .ensures (not-false (bare .result) (c .before .before .before .if2 .left)))
     (plain .ensures (q .0) (length s - 1) (omega arith)) (sym (c .is-in .ensures) ∙ q .1)
 
 pub is-bare-text-spec : {M : Type 1} → statement M
-is-bare-text-spec = tie.close (tie.spec returns starts-low-requires returns-2 is-plain-text-requires sub-is-in shared-slice-read-is-in is-in-requires returns-3)
+is-bare-text-spec = tie.close (tie.spec returns begins-bare-requires returns-2 is-plain-text-requires sub-is-in shared-slice-read-is-in is-in-requires returns-3)
