@@ -4,6 +4,7 @@ use native.Mathlib.Omega.{arith}
 use mathlib.Core.Path.{_≡_, refl}
 use mathlib.Core.Bool.{Bool, true, false, not, _&&_, _||_, and-true, and-false, or-false}
 use mathlib.Core.List.{[], _∷_}
+use mathlib.Core.Logic.{_⊎_, inl, inr}
 use lib.ListN.{length}
 use lib.Dec.{eqb, leb, eqb·suc-zero}
 use borrow.Author.Tests.{leb-true}
@@ -33,13 +34,11 @@ module _ (before depth : ℕ) (body : Bytes) where
   unfolding soundField mayFollow isin noStray
   of-value = rw (and-true (eqb before 2), and-true (eqb before 2))
 
-  pub of-text : soundField before depth 4 body ≡ (not (eqb before 2) && isUtf8 body)
+  -- a text or a comment
+  pub of-leaf : {tag : ℕ} → (tag ≡ 4) ⊎ (tag ≡ 5) → soundField before depth tag body ≡ (not (eqb before 2) && isUtf8 body)
   unfolding soundField mayFollow isin noStray
-  of-text = rw (and-true (not (eqb before 2)), and-true (not (eqb before 2)))
-
-  pub of-comment : soundField before depth 5 body ≡ (not (eqb before 2) && isUtf8 body)
-  unfolding soundField mayFollow isin noStray
-  of-comment = rw (and-true (not (eqb before 2)), and-true (not (eqb before 2)))
+  of-leaf (inl e) = simp (e, and-true)
+  of-leaf (inr e) = simp (e, and-true)
 
 -- a tag that is none of 1 to 6
 no-tag : (tag : ℕ) → (tag ≡ 1 → ⊥) → (tag ≡ 2 → ⊥) → (tag ≡ 3 → ⊥) → (tag ≡ 4 → ⊥) → (tag ≡ 5 → ⊥) → (tag ≡ 6 → ⊥)

@@ -10,12 +10,11 @@ use borrow.Author.Tests.{eqb-true}
 use Rattle.spec.specs.Bytes.{Bytes, isin}
 use Rattle.spec.specs.Fields.{Field, fields, fields-short}
 use Rattle.spec.specs.Questions.{mayFollow, rightLength, noStray, openAfter, keepRules, stillOpen, nodesIn, nodeCount}
-use Rattle.tree.specs.Spans.{endOf, spanAt, fieldOf}
+use Rattle.tree.specs.Spans.{lengthAt, spanAt, fieldOf}
 use Rattle.tree.specs.Memory.{wordAt, Stored, endAt, parentAt}
 use Rattle.tree.specs.Kinds.{Kind, opens, closes, texts, comments, aside, kindBy, kindOf, Placed, FitsAs, TurnedAs, Storable}
 use Rattle.tree.specs.declared.store.Turn.{Turn}
-use Rattle.tree.specs.declared.fields.Span.{Span}
-use Rattle.tree.proofs.Walking.{span-fields}
+use Rattle.tree.proofs.Walking.{span-fields, past-end}
 use Rattle.spec.specs.Tree.{treeOf}
 use Rattle.tree.specs.Represents.{entryOf, Holds}
 use Rattle.tree.proofs.Telling.{Recorded, ToldAs, Told, RepAll, told-all}
@@ -187,47 +186,42 @@ fits-by texts n m k cur a e below few room = (omega arith, omega arith, omega ar
 fits-by comments n m k cur a e below few room = (omega arith, omega arith, omega arith)
 fits-by aside n m k cur a e below few room = tt
 
-stored-at : (sh a : Bytes) (p k cur : ℕ) → Storing sh a p k cur → p + 3 ≤ length sh → (b : Bytes) (t : Turn)
-    → FitsAs (kindOf (getD sh p 0)) k cur a
-    → TurnedAs (kindOf (getD sh p 0)) (entryOf sh p) k cur a b t
-    → Storing sh b (endOf sh p) (t .count) (t .cur)
-unfolding keepRules stillOpen nodesIn noStray openAfter Told
-stored-at sh a p k cur s h b t fits turned =
-    let g = s .1 in
-    let tag : ℕ = getD sh p 0 in
-    let f : Field = fieldOf sh (spanAt sh p) in
-    let fs : List Field = fields (drop (endOf sh p) sh) in
-    let d : ℕ = length (g .around) in
-    let e : fields (drop p sh) ≡ f ∷ fs = span-fields sh p h in
-    let rules : keepRules (s .0) d (f ∷ fs) ≡ true = subst (λ (gs : List Field). keepRules (s .0) d gs ≡ true) e (g .rules) in
-    let kept : (noStray d tag ≡ true) × (keepRules tag (openAfter d tag) fs ≡ true) =
-    and-eq-true-iff (noStray d tag) (keepRules tag (openAfter d tag) fs) .0
-    (and-eq-true-iff (mayFollow (s .0) tag && rightLength f) (noStray d tag && keepRules tag (openAfter d tag) fs) .0 rules .1) in
-    let shut : stillOpen d (f ∷ fs) ≡ 0 = subst (λ (gs : List Field). stillOpen d gs ≡ 0) e (g .shut) in
-    let counted : nodeCount sh ≡ k + cond (beginsNode (kindOf tag)) (suc (nodesIn fs)) (nodesIn fs) =
-    g .counted ∙ rw (e, node-kind tag) in (
-      tag,
-      next-stage (nodeCount sh) tag fs (λ c j i around. Told sh c (nodeCount sh) fs (endOf sh p) j i around)
-          (λ c. Told sh c (nodeCount sh) (fields sh) 0 1 0 [])
-          (eqb tag 1) (eqb tag 6) (eqb tag 4) (eqb tag 5) a b (entryOf sh p) k cur (g .around) t (g .root) (kept .0) (kept .1) shut counted (g .chain) (g .below)
-          (λ c l told. g .rest c l (subst (λ (gs : List Field). Told sh c (nodeCount sh) gs p k cur (g .around)) (sym e) told)) fits turned,
-    )
+-- the field at p, behind which storing goes on where its length says
+module _ (sh a : Bytes) (p k cur : ℕ) (s : Storing sh a p k cur) (h : p + 3 ≤ length sh) (room : Storable sh (length a)) where
+  abbrev behind : List Field
+  behind = fields (drop (p + 3 + lengthAt sh p) sh)
 
-module _ (sh a : Bytes) (p k cur : ℕ) (s : Storing sh a p k cur) (r : Span) (h : p + 3 ≤ length sh) (r-is : r ≡ spanAt sh p) where
-  counted-by : nodeCount sh ≡ k + cond (beginsNode (kindOf (r .tag))) (suc (nodesIn (fields (drop (endOf sh p) sh)))) (nodesIn (fields (drop (endOf sh p) sh)))
+  all-left : fields (drop p sh) ≡ fieldOf sh (spanAt sh p) ∷ behind
+  all-left = span-fields sh p h ∙ rw (past-end sh p)
+
+  counted-by : nodeCount sh ≡ k + cond (beginsNode (kindOf (getD sh p 0))) (suc (nodesIn behind)) (nodesIn behind)
   unfolding nodesIn
-  counted-by = s .1 .counted ∙ rw (r-is, span-fields sh p h, node-kind (getD sh p 0))
+  counted-by = s .1 .counted ∙ rw (all-left, node-kind (getD sh p 0))
 
-  pub fits-field : Storable sh (length a) → FitsAs (kindOf (r .tag)) k cur a
-  fits-field room = fits-by (kindOf (r .tag)) (nodeCount sh) _ k cur a counted-by (s .1 .below) (room .few) (room .room-for)
+  pub fits-field : FitsAs (kindOf (getD sh p 0)) k cur a
+  fits-field = fits-by (kindOf (getD sh p 0)) (nodeCount sh) _ k cur a counted-by (s .1 .below) (room .few) (room .room-for)
 
-  pub stored-on : (b : Bytes) (t : Turn) → Storable sh (length a) → (v : ℕ) → v ≡ entryOf sh p → TurnedAs (kindOf (r .tag)) v k cur a b t
-      → Storing sh b (r .end) (t .count) (t .cur)
-  stored-on b t room v v-is turned =
-      subst (λ (q : Span). Storing sh b (q .end) (t .count) (t .cur)) (sym r-is)
-      (stored-at sh a p k cur s h b t
-      (subst (λ (q : Span). FitsAs (kindOf (q .tag)) k cur a) r-is (fits-field room))
-      (subst₂ (λ (q : Span) (x : ℕ). TurnedAs (kindOf (q .tag)) x k cur a b t) r-is v-is turned))
+  pub stored-on : (n v : ℕ) → n ≡ lengthAt sh p → v ≡ entryOf sh p → (b : Bytes) (t : Turn)
+      → TurnedAs (kindOf (getD sh p 0)) v k cur a b t
+      → Storing sh b (p + 3 + n) (t .count) (t .cur)
+  unfolding keepRules stillOpen noStray openAfter Told
+  stored-on n v n-is v-is b t turned =
+      let g = s .1 in
+      let tag : ℕ = getD sh p 0 in
+      let f : Field = fieldOf sh (spanAt sh p) in
+      let d : ℕ = length (g .around) in
+      let rules : keepRules (s .0) d (f ∷ behind) ≡ true = rw all-left at (g .rules) in
+      let kept : (noStray d tag ≡ true) × (keepRules tag (openAfter d tag) behind ≡ true) =
+      and-eq-true-iff (noStray d tag) (keepRules tag (openAfter d tag) behind) .0
+      (and-eq-true-iff (mayFollow (s .0) tag && rightLength f) (noStray d tag && keepRules tag (openAfter d tag) behind) .0 rules .1) in
+      let shut : stillOpen d (f ∷ behind) ≡ 0 = rw all-left at (g .shut) in
+      rw n-is (
+        tag,
+        next-stage (nodeCount sh) tag behind (λ c j i around. Told sh c (nodeCount sh) behind (p + 3 + lengthAt sh p) j i around)
+            (λ c. Told sh c (nodeCount sh) (fields sh) 0 1 0 [])
+            (eqb tag 1) (eqb tag 6) (eqb tag 4) (eqb tag 5) a b v k cur (g .around) t (g .root) (kept .0) (kept .1) shut counted-by (g .chain) (g .below)
+            (λ c l told. g .rest c l (rw (all-left, ← v-is) told)) fits-field turned,
+      )
 
 -- ---- beginning and end
 

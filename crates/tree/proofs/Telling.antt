@@ -10,12 +10,12 @@ use borrow.Author.Tests.{eqb-true, leb-true, leb-false}
 use Rattle.spec.specs.Bytes.{Bytes}
 use Rattle.spec.specs.Fields.{Field, fields, fields-short}
 use Rattle.spec.specs.Tree.{Attr, Forest, nothing, text, comment, element, Tail, first, others, nodeThen, openThen, nameThen, valueThen, closeThen, fieldThen, tail}
-use Rattle.tree.specs.Spans.{endOf, spanAt, fieldOf}
+use Rattle.tree.specs.Spans.{lengthAt, endOf, spanAt, fieldOf}
 use Rattle.tree.specs.Memory.{entryAt, endAt, parentAt}
 use Rattle.tree.specs.Kinds.{Kind, opens, closes, texts, comments, aside, kindBy, kindOf}
 use Rattle.tree.specs.Represents.{FieldAt, entryOf, attrsBehind, Rep}
 use Rattle.tree.specs.Nodes.{nameAt}
-use Rattle.tree.proofs.Walking.{span-fields}
+use Rattle.tree.proofs.Walking.{span-fields, past-end}
 use Rattle.tree.proofs.Entries.{entry-place, entry-number}
 
 -- record k is that of a node with this entry whose parent is `parent`
@@ -36,7 +36,7 @@ ToldAs aside ns k e cur around next = next k cur around
 unfoldable pub Told : Bytes → Bytes → ℕ → List Field → ℕ → ℕ → ℕ → List ℕ → Type 0
 Told sh ns n [] p k cur around = (k ≡ n) × (around ≡ [])
 Told sh ns n (f ∷ fs) p k cur around =
-    ToldAs (kindOf (f .tag)) ns k (entryOf sh p) cur around (λ k′ cur′ around′. Told sh ns n fs (endOf sh p) k′ cur′ around′)
+    ToldAs (kindOf (f .tag)) ns k (entryOf sh p) cur around (λ k′ cur′ around′. Told sh ns n fs (p + 3 + lengthAt sh p) k′ cur′ around′)
 
 -- the siblings from number k on in `cur`, and behind each open node those that follow it
 unfoldable pub RepAll : Bytes → Bytes → ℕ → ℕ → ℕ → List ℕ → List Forest → Type 0
@@ -165,6 +165,6 @@ module _ (sh ns : Bytes) (n : ℕ) where
   told-all (f ∷ fs) p k cur around e told =
       let here : (p + 3 ≤ length sh) × (f ≡ fieldOf sh (spanAt sh p)) × (fs ≡ fields (drop (endOf sh p) sh)) = at-place f fs p e in
       step-all (eqb (f .tag) 1) (eqb (f .tag) 6) (eqb (f .tag) 4) (eqb (f .tag) 5) (eqb (f .tag) 2) f (tail fs) (entryOf sh p) k cur around
-      (λ k′ cur′ around′. Told sh ns n fs (endOf sh p) k′ cur′ around′) refl refl refl
+      (λ k′ cur′ around′. Told sh ns n fs (p + 3 + lengthAt sh p) k′ cur′ around′) refl refl refl
       (field-entry f p (here .0) (here .1)) (ap (λ (gs : List Field). tail gs .attrs) (here .2) ∙ ap (attrsBehind sh) (sym (entry-place sh p)))
-      (λ k′ cur′ around′. told-all fs (endOf sh p) k′ cur′ around′ (here .2)) told
+      (λ k′ cur′ around′. told-all fs (p + 3 + lengthAt sh p) k′ cur′ around′ (here .2 ∙ ap fields (past-end sh p))) told

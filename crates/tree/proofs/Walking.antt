@@ -49,6 +49,17 @@ span-fields s p h =
         let same : p + 3 + lengthAt s p - (p + 3) ≡ lengthAt s p = omega arith in
         both (ap (λ (n : ℕ). take n (drop (p + 3) s)) (sym same)) (drop-drop (lengthAt s p) (p + 3) s)
 
+-- behind a field that is cut off nothing is left, so that its end may be taken for where its length says
+pub past-end : (s : Bytes) (p : ℕ) → drop (endOf s p) s ≡ drop (p + 3 + lengthAt s p) s
+past-end s p = go (ltb (length s - (p + 3)) (lengthAt s p)) refl
+  where
+    go : (t : Bool) → ltb (length s - (p + 3)) (lengthAt s p) ≡ t
+        → drop (cond t (length s) (p + 3 + lengthAt s p)) s ≡ drop (p + 3 + lengthAt s p) s
+    go true e =
+        drop-of-length-le s {i = length s} (omega arith)
+        ∙ sym (drop-of-length-le s {i = p + 3 + lengthAt s p} (omega (arith, ltb-true (length s - (p + 3)) (lengthAt s p) e)))
+    go false e = refl
+
 -- the field ends behind its head and inside
 pub end-bounds : (s : Bytes) (p : ℕ) → p + 3 ≤ length s → (p + 3 ≤ endOf s p) × (endOf s p ≤ length s)
 end-bounds s p h = go (ltb (length s - (p + 3)) (lengthAt s p)) refl

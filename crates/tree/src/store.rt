@@ -6,7 +6,7 @@ ghost use Rattle.spec.specs.Questions.{nodeCount};
 ghost use Rattle.tree.specs.Memory.{parentAt};
 ghost use Rattle.tree.specs.Represents.{entryOf, Holds};
 ghost use Rattle.tree.specs.Kinds.{kindOf, Placed, FitsAs, TurnedAs, Storable};
-use crate::fields::span_at;
+use crate::fields::length_at;
 use crate::memory::read_word;
 use crate::memory::store_quad;
 use crate::memory::store_word;
@@ -84,14 +84,15 @@ fn store_rest(sheet: &[u8], nodes: &mut [u8]) -> usize
     let mut count = 1;
     let mut cur = 0;
     let mut p = 0;
-    while 3 <= sheet.len() - p {
-        let f = span_at(sheet, p);
-        let tag = f.tag;
+    // Behind a field that is cut off nothing is left, so that no test is needed where it ends.
+    while p + 3 <= sheet.len() {
+        let n = length_at(sheet, p);
+        let tag = sheet[p];
         let entry = entry_of(sheet, p);
         let t = store_field(nodes, tag, entry, count, cur);
         count = t.count;
         cur = t.cur;
-        p = f.end;
+        p = p + 3 + n;
     }
     store_word(nodes, 4, count);
     count

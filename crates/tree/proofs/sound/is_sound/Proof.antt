@@ -1,7 +1,8 @@
 -- `tree::sound::is_sound` meets its contract. Assumes nothing.
+use mathlib.Core.Logic.{inl}
 use borrow.Author.Tests.{eq-eqb, ne-eqb}
 use Rattle.tree.proofs.Rules.{part-length}
-use Rattle.tree.proofs.ByTag.{of-close, of-text}
+use Rattle.tree.proofs.ByTag.{of-close, of-leaf}
 use native.Mathlib.Omega.{arith}
 use borrow.Author.Needs.{needs}
 use Rattle.tree.proofs.sound.is_sound.Statement.{statement}
@@ -22,7 +23,7 @@ returns c =
 returns-2 : tie.Need-returns-2
 returns-2 c =
     let a = c .before .before .before .before .args in
-    rw (c .before .if2 .taken, of-text (a .before) (a .depth) _, eq-eqb (a .before) 2 (c .if3 .taken))
+    rw (of-leaf (a .before) (a .depth) _ (inl (c .before .if2 .taken)), eq-eqb (a .before) 2 (c .if3 .taken))
 
 is-utf8-part-requires : tie.Need-is-utf8-part-requires
 is-utf8-part-requires c κs = search needs
@@ -30,7 +31,7 @@ is-utf8-part-requires c κs = search needs
 returns-3 : tie.Need-returns-3
 returns-3 c =
     let a = c .before .before .before .before .before .args in
-    rw (c .before .before .if2 .taken, of-text (a .before) (a .depth) _, ne-eqb (a .before) 2 (c .before .if3 .left))
+    rw (of-leaf (a .before) (a .depth) _ (inl (c .before .before .if2 .taken)), ne-eqb (a .before) 2 (c .before .if3 .left))
     (c .is-utf8-part .ensures)
 
 is-sound-open-requires : tie.Need-is-sound-open-requires

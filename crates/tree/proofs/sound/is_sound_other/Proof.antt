@@ -1,10 +1,11 @@
 -- `tree::sound::is_sound_other` meets its contract. Assumes nothing.
 use Prim.Native.Nat.{_-_}
 use mathlib.Core.Bool.{_||_, and-false}
+use mathlib.Core.Logic.{inr}
 use lib.Dec.{eqb}
 use borrow.Author.Tests.{eq-eqb, ne-eqb}
 use Rattle.tree.proofs.Rules.{part-length}
-use Rattle.tree.proofs.ByTag.{of-name, of-value, of-comment, of-none}
+use Rattle.tree.proofs.ByTag.{of-name, of-value, of-leaf, of-none}
 use native.Mathlib.Omega.{arith}
 use borrow.Author.Needs.{needs}
 use Rattle.tree.proofs.sound.is_sound_other.Statement.{statement}
@@ -66,7 +67,7 @@ returns-6 c depth =
 returns-7 : tie.Need-returns-7
 returns-7 c depth =
     let a = c .before .before .before .before .before .args in
-    rw (c .before .if6 .left, of-comment (a .before) depth _, eq-eqb (a .before) 2 (c .if7 .taken))
+    rw (of-leaf (a .before) depth _ (inr (c .before .if6 .left)), eq-eqb (a .before) 2 (c .if7 .taken))
 
 is-utf8-part-requires-3 : tie.Need-is-utf8-part-requires-3
 is-utf8-part-requires-3 c κs = search needs
@@ -74,7 +75,7 @@ is-utf8-part-requires-3 c κs = search needs
 returns-8 : tie.Need-returns-8
 returns-8 c depth =
     let a = c .before .before .before .before .before .before .args in
-    rw (c .before .before .if6 .left, of-comment (a .before) depth _, ne-eqb (a .before) 2 (c .before .if7 .left))
+    rw (of-leaf (a .before) depth _ (inr (c .before .before .if6 .left)), ne-eqb (a .before) 2 (c .before .if7 .left))
     (c .is-utf8-part3 .ensures)
 
 pub is-sound-other-spec : {M : Type 1} → statement M
