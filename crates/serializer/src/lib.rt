@@ -198,6 +198,10 @@ fn inside(
 {
     let name = node_name(sheet, nodes, at);
     if !opts.skip_md & has_writer(name, opts) {
+        // two calls, of which the compiler takes none into `write`: a level without a writer needs no frame for them
+        if name < 21 {
+            return write_element(sheet, own, run, nodes, text, len, at, name, opts, levels);
+        }
         return write_element(sheet, own, run, nodes, text, len, at, name, opts, levels);
     }
     let to = node_end(nodes, at);

@@ -6,7 +6,7 @@ use mathlib.Core.List.{List, _∷_}
 use lib.Dec.{lit<}
 use lib.ListN.{length, take}
 use Rattle.spec.specs.Names.{tagOf}
-use Rattle.spec.specs.Md.Serializer.{inElement, hasWriter, closed}
+use Rattle.spec.specs.Md.Serializer.{inElement, hasWriter, closed, «write_element»}
 use Rattle.tree.proofs.Frames.{kept-in}
 use Rattle.text.proofs.Writing.{alike}
 use Rattle.text.specs.Writes.{Writes}
@@ -43,21 +43,30 @@ node-name-requires t c κs =
 
 write-element-requires : (t : ℕ) → lts.Need-write-element-requires (claims t) (inside-at t) inside.Post
 write-element-requires t c κs =
-    let s = c .before .before .before .before .before .before .before .before .before .before .before in
-    (falls-in (s .args .levels) (s .pre .0) (lit< tt), (s .pre .1 .0, c .before .before .before .before .before .node-name .ensures, s .pre .1 .1, s .pre .1 .2))
+    let s = c .before .before .before .before .before .before .before .before .before .before .before .before in
+    (falls-in (s .args .levels) (s .pre .0) (lit< tt), (s .pre .1 .0, c .before .before .before .before .before .before .node-name .ensures, s .pre .1 .1, s .pre .1 .2))
+
+write-element-requires-2 : (t : ℕ) → lts.Need-write-element-requires-2 (claims t) (inside-at t) inside.Post
+write-element-requires-2 t c κs =
+    let s = c .before .before .before .before .before .before .before .before .before .before .before .before in
+    (falls-in (s .args .levels) (s .pre .0) (lit< tt), (s .pre .1 .0, c .before .before .before .before .before .before .node-name .ensures, s .pre .1 .1, s .pre .1 .2))
+
+-- the element has a writer of its own
+by-writer : (t : ℕ) (c : lts.Then1 (claims t) (inside-at t) inside.Post) {name : Bytes} {attrs : List Attr} {kids : Forest} (anc : Ancestors) → ElementAt (c .before .before .before .before .before .before .before .before .before .args .sheet .now) (c .before .before .before .before .before .before .before .before .before .args .nodes .now) (c .before .before .before .before .before .before .before .before .before .args .at) name attrs kids
+    → inElement (selfAt (c .before .before .before .before .before .before .before .before .before .args .own) (c .before .before .before .before .before .before .before .before .before .args .run .now) (c .before .before .before .before .before .before .before .before .before .args .levels)) anc (c .before .before .before .before .before .before .before .before .before .args .opts) name attrs kids (take (c .before .before .before .before .before .before .before .before .before .args .len) (c .before .before .before .before .before .before .before .before .before .args .text .now))
+    ≡ «write_element» (selfAt (c .before .before .before .before .before .before .before .before .before .args .own) (c .before .before .before .before .before .before .before .before .before .args .run .now) (c .before .before .before .before .before .before .before .before .before .args .levels)) anc (c .before .before .before .before .before .before .before .before .before .args .opts) name attrs kids (take (c .before .before .before .before .before .before .before .before .before .args .len) (c .before .before .before .before .before .before .before .before .before .args .text .now))
+by-writer t c {name} {attrs} {kids} anc x =
+    let a = c .before .before .before .before .before .before .before .before .before .args in
+    inside-writer (selfAt (a .own) (a .run .now) (a .levels)) anc (a .opts) name attrs kids (take (a .len) (a .text .now))
+    (ap (λ (k : ℕ). not (a .opts .«skip_md») && hasWriter (a .opts) k) (sym (c .before .before .before .node-name .ensures ∙ element-name x)) ∙ ap (λ (b : Bool). not (a .opts .«skip_md») && b) (sym (c .before .has-writer .ensures)) ∙ c .if1 .taken)
 
 returns : (t : ℕ) → lts.Need-returns (claims t) (inside-at t) inside.Post
 returns t c =
-    let s = c .before .before .before .before .before .before .before .before .before .before .before .before .before .before .before .before in
-    let a = s .args in (
-      c .before .before .before .before .write-element .ensures .0,
-      record {
-        for = λ name attrs kids anc x h.
-            alike (inside-writer (selfAt (a .own) (a .run .now) (a .levels)) anc (a .opts) name attrs kids (take (a .len) (a .text .now))
-            (ap (λ (k : ℕ). not (a .opts .«skip_md») && hasWriter (a .opts) k) (sym (c .before .before .before .before .before .before .before .before .before .before .node-name .ensures ∙ element-name x)) ∙ ap (λ (b : Bool). not (a .opts .«skip_md») && b) (sym (c .before .before .before .before .before .before .before .before .has-writer .ensures)) ∙ c .before .before .before .before .before .before .before .if1 .taken))
-            (c .before .before .before .before .write-element .ensures .1 .for name attrs kids anc x h);
-      },
-    )
+    (c .before .before .before .before .write-element .ensures .0, record { for = λ name attrs kids anc x h. alike (by-writer t (c .before .before .before .before .before .before .before .before) anc x) (c .before .before .before .before .write-element .ensures .1 .for name attrs kids anc x h) })
+
+returns-2 : (t : ℕ) → lts.Need-returns-2 (claims t) (inside-at t) inside.Post
+returns-2 t c =
+    (c .before .before .before .before .write-element2 .ensures .0, record { for = λ name attrs kids anc x h. alike (by-writer t (c .before .before .before .before .before .before .before .before) anc x) (c .before .before .before .before .write-element2 .ensures .1 .for name attrs kids anc x h) })
 
 node-end-requires : (t : ℕ) → lts.Need-node-end-requires (claims t) (inside-at t) inside.Post
 node-end-requires t c κs =
@@ -88,16 +97,16 @@ plain t c {name} {attrs} {kids} anc x =
     inside-plain (selfAt (a .own) (a .run .now) (a .levels)) anc (a .opts) name attrs kids (take (a .len) (a .text .now))
     (ap (λ (k : ℕ). not (a .opts .«skip_md») && hasWriter (a .opts) k) (sym (c .before .before .before .node-name .ensures ∙ element-name x)) ∙ ap (λ (b : Bool). not (a .opts .«skip_md») && b) (sym (c .before .has-writer .ensures)) ∙ c .if1 .left)
 
-returns-3 : (t : ℕ) → lts.Need-returns-3 (claims t) (inside-at t) inside.Post
-returns-3 t c =
+returns-4 : (t : ℕ) → lts.Need-returns-4 (claims t) (inside-at t) inside.Post
+returns-4 t c =
     let s = c .before .before .before .before .before .before .before .before .before .before .before .before .before .before .before .before .before .before .before .before in
     let a = s .args in (
       kept-in (omega arith) (omega (arith, c .before .before .before .before .before .before .before .before .before .node-end .ensures)) (c .before .before .before .before .before .before .siblings .ensures .0),
       record { for = λ name attrs kids anc x h. both-full (a .text .now) (a .len) (s .pre .1 .1 .0) (inElement (selfAt (a .own) (a .run .now) (a .levels)) anc (a .opts) name attrs kids) (selfAt (a .own) (a .run .now) (a .levels) .below (attrs ∷ anc) (a .opts) kids) (closed (a .opts) (tagOf name)) (plain t (c .before .before .before .before .before .before .before .before .before .before .before) anc x) (below-wrote (a .own) (a .run .now) (a .levels) (a .opts) anc x h (c .before .before .before .before .before .before .before .before .before .node-end .ensures) (c .before .before .before .before .before .before .siblings .ensures .1)) (c .enum-told .given .1) },
     )
 
-returns-2 : (t : ℕ) → lts.Need-returns-2 (claims t) (inside-at t) inside.Post
-returns-2 t c =
+returns-3 : (t : ℕ) → lts.Need-returns-3 (claims t) (inside-at t) inside.Post
+returns-3 t c =
     let s = c .before .before .before .before .before .before .before .before .before .before .before .before .before .before .before .before .before .before .before .before .before .before .before .before .before in
     let a = s .args in (
       kept-in (omega arith) (omega (arith, c .before .before .before .before .before .before .before .before .before .before .before .before .before .before .node-end .ensures)) (c .before .before .before .before .before .before .before .before .before .before .before .siblings .ensures .0),
@@ -134,9 +143,16 @@ same-length-5 t c = search needs
 same-length-6 : (t : ℕ) → lts.Need-same-length-6 (claims t) (inside-at t) inside.Post
 same-length-6 t c = search needs
 
+same-length-7 : (t : ℕ) → lts.Need-same-length-7 (claims t) (inside-at t) inside.Post
+same-length-7 t c = search needs
+
+same-length-8 : (t : ℕ) → lts.Need-same-length-8 (claims t) (inside-at t) inside.Post
+same-length-8 t c = search needs
+
 pub spec : (M : Type 1) (t : ℕ) → lts.Closed (claims t) (inside-at t) inside.Post M
 spec M t =
     lts.spec (claims t) (inside-at t) inside.Post
     (node-name-requires t) (has-writer-requires t) (write-element-requires t) (same-length t) (same-length-2 t)
-    (returns t) (node-end-requires t) (add-siblings t) (siblings-requires t) (enum-known-n t) (closed-requires t) (enum-told t)
-    (same-length-3 t) (same-length-4 t) (returns-2 t) (same-length-5 t) (same-length-6 t) (returns-3 t)
+    (returns t) (write-element-requires-2 t) (same-length-3 t) (same-length-4 t) (returns-2 t)
+    (node-end-requires t) (add-siblings t) (siblings-requires t) (enum-known-n t) (closed-requires t) (enum-told t)
+    (same-length-5 t) (same-length-6 t) (returns-3 t) (same-length-7 t) (same-length-8 t) (returns-4 t)
