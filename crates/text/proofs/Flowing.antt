@@ -1,7 +1,7 @@
 -- Laws of `flow`. Assumes nothing.
 use Prim.Native.Nat.{ℕ, zero, suc, _+_, _-_, _≤_, _<_}
 use mathlib.Core.Path.{_≡_, refl, sym, ap, ap₂, subst, _∙_}
-use mathlib.Core.Bool.{Bool, true, false, cond, not, _&&_, _||_, false≢true, and-false}
+use mathlib.Core.Bool.{Bool, true, false, cond, not, _&&_, _||_, false≢true, and-false, and-eq-true-iff}
 use mathlib.Core.Logic.{⊎-elim}
 use mathlib.Core.List.{List, [], _∷_, _++_, append-assoc, append-nil}
 use native.Mathlib.Omega.{arith}
@@ -19,7 +19,7 @@ use Rattle.text.specs.Marks.{marks}
 use Rattle.tree.proofs.Building.{le-or-lt}
 use Rattle.text.proofs.Reading.{same-self}
 use Rattle.text.proofs.Trimming.{trim-here}
-use Rattle.text.proofs.Ordinary.{both, ordinary-parts, not-escaped, inner-chunk, bare-chunk}
+use Rattle.text.proofs.Ordinary.{ordinary-parts, not-escaped, inner-chunk, bare-chunk}
 
 -- ---- plain bytes
 
@@ -42,7 +42,7 @@ plain-added escape b c rest = on (ordinary b) refl
   where
     on : (t : Bool) → ordinary b ≡ t → t || (eqb b 32 && not (white c)) ≡ true → added escape b (c ∷ rest) ≡ b ∷ []
     on true e h = added-ordinary escape b (c ∷ rest) e
-    on false e h = let q = both (eqb b 32) (not (white c)) h in blank-added escape b c rest (q .0) (not-true (white c) (q .1))
+    on false e h = let q = and-eq-true-iff (eqb b 32) (not (white c)) .0 h in blank-added escape b c rest (q .0) (not-true (white c) (q .1))
 
 flows-rest : {b : ℕ} {s : Bytes} {n : ℕ} → Flows (b ∷ s) (suc n) → Flows s n
 flows-rest {b} {s} {n} f =

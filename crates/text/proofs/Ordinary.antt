@@ -1,7 +1,7 @@
 -- Words of ordinary bytes: they are appended as they are. Assumes nothing.
 use Prim.Native.Nat.{ℕ, suc, _-_, _≤_, _<_}
 use mathlib.Core.Path.{_≡_, refl, sym, ap, _∙_}
-use mathlib.Core.Bool.{Bool, true, false, cond, not, _&&_, _||_, false≢true, and-false, or-false}
+use mathlib.Core.Bool.{Bool, true, false, cond, not, _&&_, _||_, false≢true, and-false, or-false, and-eq-true-iff}
 use mathlib.Core.List.{List, [], _∷_, _++_}
 use native.Mathlib.Omega.{arith}
 use lib.ListN.{length, take, getD}
@@ -24,10 +24,6 @@ ordinary-parts false true x h = absurd (false≢true h)
 ordinary-parts false false true h = absurd (false≢true h)
 ordinary-parts false false false h = (refl, refl, refl)
 
-pub both : (a b : Bool) → a && b ≡ true → (a ≡ true) × (b ≡ true)
-both true b h = (refl, h)
-both false b h = absurd (false≢true h)
-
 pub not-white : (b : ℕ) → 33 ≤ b → white b ≡ false
 unfolding white isin
 not-white b h =
@@ -43,7 +39,7 @@ ordinary-escaped : (u : Bool) (s : List ℕ) → every ordinary s ≡ true → e
 unfolding escapedFrom every
 ordinary-escaped u [] h = refl
 ordinary-escaped u (b ∷ s) h =
-    let q = both (ordinary b) (every ordinary s) h in
+    let q = and-eq-true-iff (ordinary b) (every ordinary s) .0 h in
     let r = ordinary-parts (white b) (isin b «ALWAYS_ESCAPED») (eqb b 33) (q .0) in
     ap (λ (t : Bool). cond t (ascii "\\") [] ++ (b ∷ escapedFrom false false u s)) (not-escaped u b s (r .1) (r .2))
     ∙ ap (λ (x : List ℕ). b ∷ x) (ordinary-escaped u s (q .1))
@@ -125,7 +121,7 @@ bare-chunk s false true h k = refl
 bare-chunk [] true true h k = refl
 bare-chunk (b ∷ s) true true h k =
     let starts = k refl (omega arith) in
-    let q = both (ordinary b) (every ordinary s) h in
+    let q = and-eq-true-iff (ordinary b) (every ordinary s) .0 h in
     let r = ordinary-parts (white b) (isin b «ALWAYS_ESCAPED») (eqb b 33) (q .0) in
     let u = eqb b 61 && every (λ c. eqb c 61) s in
     ap (λ (m : Bool). escapedFrom true m u (b ∷ s)) (starts .no-marker)

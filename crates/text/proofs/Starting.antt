@@ -1,7 +1,7 @@
 -- The first word of a text, where it may start a line. Assumes nothing.
 use Prim.Native.Nat.{ℕ, suc, _+_, _-_, _≤_, _<_}
 use mathlib.Core.Path.{_≡_, refl, sym, ap, _∙_}
-use mathlib.Core.Bool.{Bool, true, false, cond, not, _&&_, _||_, false≢true, and-false, Bool·not-not}
+use mathlib.Core.Bool.{Bool, true, false, cond, not, _&&_, _||_, false≢true, and-false, Bool·not-not, and-eq-true-iff}
 use mathlib.Core.List.{[], _∷_}
 use native.Mathlib.Omega.{arith}
 use native.Mathlib.Numerals.{add-one}
@@ -13,12 +13,12 @@ use Rattle.spec.specs.Bytes.{Bytes, null, same, endsWith, every, white, digit, 
 use Rattle.spec.specs.Md.TextUtils.{«is_ordered_list_marker»}
 use Rattle.text.specs.Flow.{startsBlack, lastDot, MayStart}
 use Rattle.text.proofs.Markers.{marker-short}
-use Rattle.text.proofs.Ordinary.{both, not-white, letter-starts}
+use Rattle.text.proofs.Ordinary.{not-white, letter-starts}
 use Rattle.text.proofs.Flowing.{null-first}
 
 digit-range : (b : ℕ) → digit b ≡ true → (48 ≤ b) × (b ≤ 57)
 unfolding digit
-digit-range b h = let q = both (leb 48 b) (leb b 57) h in (leb-true 48 b (q .0), leb-true b 57 (q .1))
+digit-range b h = let q = and-eq-true-iff (leb 48 b) (leb b 57) .0 h in (leb-true 48 b (q .0), leb-true b 57 (q .1))
 
 -- a text that begins with one has a byte
 pub digit-some : (s : Bytes) → digit (getD s 0 0) ≡ true → 1 ≤ length s

@@ -1,11 +1,10 @@
 -- `text::normalize::is_bare_text` meets its contract. Assumes nothing.
 use Prim.Native.Nat.{ℕ, zero, suc, _-_, _<_}
 use mathlib.Core.Path.{_≡_, sym, _∙_}
-use mathlib.Core.Bool.{false, _||_, false≢true}
+use mathlib.Core.Bool.{false, _||_, false≢true, and-eq-true-iff}
 use lib.ListN.{length}
 use lib.Dec.{eqb, ltb}
 use borrow.Author.Tests.{not-false}
-use Rattle.text.proofs.Ordinary.{both}
 use Rattle.text.proofs.Flowing.{bare-flow}
 use native.Mathlib.Omega.{arith}
 use borrow.Author.Needs.{needs}
@@ -50,7 +49,7 @@ returns-3 c =
     let plain = c .before .before .is-plain-text in
     let h = some (length s) (c .before .before .before .before .before .if1 .left) in
     λ e.
-    let q = both (plain .result) (c .is-in .result) e in
+    let q = and-eq-true-iff (plain .result) (c .is-in .result) .0 e in
     bare-flow {s = s} {n = length s - 1} (omega arith) (bare .ensures (not-false (bare .result) (c .before .before .before .if2 .left)))
     (plain .ensures (q .0) (length s - 1) (omega arith)) (sym (c .is-in .ensures) ∙ q .1)
 

@@ -1,12 +1,12 @@
 -- `text::normalize::is_plain` meets its contract: the tests and the definition are compared on every byte, which is computed. Assumes nothing.
 use Prim.Native.Nat.{ℕ, _<_}
 use mathlib.Core.Path.{_≡_, refl, sym, _∙_}
-use mathlib.Core.Bool.{Bool, true, false, cond, not, _&&_, _||_, false≢true}
+use mathlib.Core.Bool.{Bool, true, false, cond, not, _&&_, _||_, false≢true, and-eq-true-iff}
 use lib.Dec.{eqb, leb, ltb}
 use borrow.Author.Tests.{ltb-false}
 use Rattle.spec.specs.Bytes.{isin, white}
 use Rattle.text.specs.Class.{ordinary}
-use Rattle.text.proofs.Ordinary.{both, not-white}
+use Rattle.text.proofs.Ordinary.{not-white}
 use Rattle.tree.proofs.Sequences.{below, below-at}
 use Rattle.text.proofs.normalize.is_plain.Statement.{statement}
 use Rattle.text.proofs.normalize.is_plain.Tie as tie
@@ -24,7 +24,7 @@ unfolding below white isin
 all-right = refl
 
 law : (b : ℕ) → b < 256 → (low : Bool) → tested b low ≡ true → ordinary b || (eqb b 32 && not low) ≡ true
-law b h low = on (both (right b true) (right b false) (below-at (λ x. right x true && right x false) 256 b all-right h)) low
+law b h low = on (and-eq-true-iff (right b true) (right b false) .0 (below-at (λ x. right x true && right x false) 256 b all-right h)) low
   where
     chosen : (x y : Bool) → cond x y true ≡ true → x ≡ true → y ≡ true
     chosen true y e q = e

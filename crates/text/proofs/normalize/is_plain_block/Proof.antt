@@ -1,9 +1,8 @@
 -- `text::normalize::is_plain_block` meets its contract. Assumes nothing.
 use Prim.Native.Nat.{ℕ, _+_, _-_, _≤_, _<_}
 use mathlib.Core.Path.{_≡_, subst}
-use mathlib.Core.Bool.{true}
+use mathlib.Core.Bool.{true, and-eq-true-iff}
 use Rattle.text.specs.Flow.{Plain}
-use Rattle.text.proofs.Ordinary.{both}
 use Rattle.text.proofs.Flowing.{less-or-not}
 use native.Mathlib.Omega.{arith}
 use borrow.Author.Needs.{needs}
@@ -51,7 +50,7 @@ loop-again c =
     let l = c .before .before .before .before .loop in (
       omega arith,
       λ e j h k.
-          let q = both (l .all) (c .is-plain .result) e in
+          let q = and-eq-true-iff (l .all) (c .is-plain .result) .0 e in
           less-or-not j (a .at + l .i) (l .inv .1 (q .0) j h)
           (λ m. subst (Plain s) (omega arith) (record { followed = omega arith; adds-itself = c .is-plain .ensures (q .1) })),
     )
