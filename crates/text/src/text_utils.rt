@@ -1,8 +1,7 @@
 // text_utils.rs. What each function writes is specs/Md/TextUtils.antt of the crate spec.
 ghost use mathlib.Core.Path.{_≡_};
 ghost use mathlib.Core.Bool.{_||_};
-ghost use mathlib.Core.List.{List, [], _∷_};
-ghost use Prim.Native.Nat.{ℕ, _+_, _≤_, _<_};
+ghost use Prim.Native.Nat.{_+_, _≤_, _<_};
 ghost use lib.ListN.{length, take, drop};
 ghost use Rattle.spec.specs.Bytes.{ascii, endsWith, same};
 ghost use Rattle.spec.specs.Md.LineBreak.{linebreak, «double_linebreak»};

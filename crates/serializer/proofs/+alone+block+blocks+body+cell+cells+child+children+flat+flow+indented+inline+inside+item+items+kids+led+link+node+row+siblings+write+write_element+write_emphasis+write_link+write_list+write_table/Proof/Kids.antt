@@ -1,18 +1,15 @@
 -- `serializer::kids`, of the cycle. Assumes nothing.
-use Prim.Native.Nat.{ℕ, _+_, _-_, _<_}
-use mathlib.Core.Path.{_≡_, ap, _∙_}
-use mathlib.Core.Bool.{not, and-eq-true-iff}
+use Prim.Native.Nat.{ℕ, _+_, _-_}
+use mathlib.Core.Path.{ap, _∙_}
 use mathlib.Core.List.{_∷_}
-use lib.Dec.{lit<, eqb}
-use lib.ListN.{take, getD}
-use borrow.Author.Tests.{eqb-false, not-true}
+use lib.Dec.{lit<}
+use lib.ListN.{take}
 use Rattle.spec.specs.Call.{skipTags}
 use Rattle.spec.specs.Tree.{nothing, element}
 use Rattle.spec.specs.Out.{Out, andThen}
 use Rattle.spec.specs.Md.Serializer.{serializer}
 use Rattle.spec.specs.Md.TextUtils.{«trim_space»}
 use Rattle.spec.specs.Md.MDSerializer.{writeKids}
-use Rattle.tree.specs.Memory.{placeAt}
 use Rattle.tree.specs.Scans.{skipList}
 use Rattle.tree.proofs.Firsts.{rep-le}
 use Rattle.tree.proofs.Frames.{kept-none, kept-in}

@@ -1,12 +1,9 @@
 -- `serializer::siblings`, of the cycle. Assumes nothing.
-use Prim.Native.Nat.{ℕ, _+_, _-_, _<_}
-use mathlib.Core.Path.{_≡_, _∙_}
-use mathlib.Core.Bool.{not, and-eq-true-iff}
-use lib.Dec.{lit<, eqb}
-use lib.ListN.{take, getD}
-use borrow.Author.Tests.{eqb-false, not-true}
+use Prim.Native.Nat.{ℕ, _-_}
+use mathlib.Core.Path.{_∙_}
+use lib.Dec.{lit<}
+use lib.ListN.{take}
 use Rattle.spec.specs.Call.{skipTags}
-use Rattle.tree.specs.Memory.{placeAt}
 use Rattle.tree.specs.Scans.{skipList}
 use Rattle.tree.proofs.Firsts.{rep-le}
 use Rattle.tree.proofs.Frames.{kept-none}
