@@ -1,25 +1,25 @@
 -- Laws of `flow`. Assumes nothing.
 use Prim.Native.Nat.{ℕ, zero, suc, _+_, _-_, _≤_, _<_}
 use mathlib.Core.Path.{_≡_, refl, sym, ap, ap₂, subst, _∙_}
-use mathlib.Core.Bool.{Bool, true, false, cond, not, _&&_, _||_, false≢true, and-false, and-eq-true-iff}
+use mathlib.Core.Bool.{Bool, true, false, cond, not, _&&_, _||_, false≢true, and-false, or-true, and-eq-true-iff}
 use mathlib.Core.Logic.{⊎-elim}
 use mathlib.Core.List.{List, [], _∷_, _++_, append-assoc, append-nil}
 use native.Mathlib.Omega.{arith}
 use lib.ListN.{length, take, drop, getD, drop-of-length-le}
 use lib.Seq.{drop-cons, take-suc, take-all}
 use lib.Dec.{eqb}
-use borrow.Author.Tests.{eqb-true, eqb-false, ne-eqb, not-true}
+use borrow.Author.Tests.{eqb-true, eqb-false, eq-eqb, ne-eqb, not-true}
 use Rattle.spec.specs.Bytes.{Bytes, ascii, null, same, isin, every, startsWith, white, isBlank, words, split, parts, cutAt, filled, one, «trim_end_matches», «trim_ascii_end»}
 use Rattle.spec.specs.Md.Constants.{«ALWAYS_ESCAPED»}
 use Rattle.spec.specs.Md.TextUtils as def
 use Rattle.spec.specs.declared.ctx.FormatOpts as Opts
 use Rattle.text.specs.Class.{ordinary}
-use Rattle.text.specs.Flow.{startsBlack, MayStart, added, flow, flowBefore, plain, Flows}
+use Rattle.text.specs.Flow.{startsBlack, MayStart, added, flow, flowBefore, kept, plain, Plain, Flows}
 use Rattle.text.specs.Marks.{marks}
 use Rattle.tree.proofs.Building.{le-or-lt}
 use Rattle.text.proofs.Reading.{same-self}
 use Rattle.text.proofs.Trimming.{trim-here}
-use Rattle.text.proofs.Ordinary.{ordinary-parts, not-escaped, inner-chunk, bare-chunk}
+use Rattle.text.proofs.Ordinary.{ordinary-parts, not-white, not-escaped, inner-chunk, bare-chunk}
 
 -- ---- plain bytes
 
@@ -29,6 +29,13 @@ added-ordinary escape b rest h =
     let r = ordinary-parts (white b) (isin b «ALWAYS_ESCAPED») (eqb b 33) h in
     rw (r .0, not-escaped false b rest (r .1) (r .2), and-false escape)
 
+-- nothing is escaped but where signs are
+pub added-kept : (signs escape : Bool) (b : ℕ) (rest : Bytes) → (escape ≡ true → signs ≡ true) → kept signs b ≡ true → added escape b rest ≡ b ∷ []
+unfolding added
+added-kept true escape b rest only h = added-ordinary escape b rest h
+added-kept false true b rest only h = absurd (false≢true (only refl))
+added-kept false false b rest only h = rw (not-true (white b) h)
+
 blank-white : (b : ℕ) → eqb b 32 ≡ true → white b ≡ true
 unfolding white isin
 blank-white b e = ap white (eqb-true b 32 e)
@@ -37,42 +44,64 @@ blank-added : (escape : Bool) (b c : ℕ) (rest : Bytes) → eqb b 32 ≡ true �
 unfolding added startsBlack
 blank-added escape b c rest e f = rw (blank-white b e, f, eqb-true b 32 e)
 
-plain-added : (escape : Bool) (b c : ℕ) (rest : Bytes) → plain b c ≡ true → added escape b (c ∷ rest) ≡ b ∷ []
-plain-added escape b c rest = on (ordinary b) refl
+plain-added : (signs escape : Bool) (b c : ℕ) (rest : Bytes) → (escape ≡ true → signs ≡ true) → plain signs b c ≡ true → added escape b (c ∷ rest) ≡ b ∷ []
+plain-added signs escape b c rest only = on (kept signs b) refl
   where
-    on : (t : Bool) → ordinary b ≡ t → t || (eqb b 32 && not (white c)) ≡ true → added escape b (c ∷ rest) ≡ b ∷ []
-    on true e h = added-ordinary escape b (c ∷ rest) e
+    on : (t : Bool) → kept signs b ≡ t → t || (eqb b 32 && not (white c)) ≡ true → added escape b (c ∷ rest) ≡ b ∷ []
+    on true e h = added-kept signs escape b (c ∷ rest) only e
     on false e h = let q = and-eq-true-iff (eqb b 32) (not (white c)) .0 h in blank-added escape b c rest (q .0) (not-true (white c) (q .1))
 
-flows-rest : {b : ℕ} {s : Bytes} {n : ℕ} → Flows (b ∷ s) (suc n) → Flows s n
-flows-rest {b} {s} {n} f =
+flows-rest : {signs : Bool} {b : ℕ} {s : Bytes} {n : ℕ} → Flows signs (b ∷ s) (suc n) → Flows signs s n
+flows-rest {signs} {b} {s} {n} f =
     record {
       within = omega (arith, f .within);
       each = λ i h.
           let p = f .each (suc i) (omega arith) in
           let e : suc i + 1 ≡ suc (i + 1) = omega arith in
-          record { followed = omega (arith, p .followed); adds-itself = subst (λ (k : ℕ). plain (getD s i 0) (getD (b ∷ s) k 0) ≡ true) e (p .adds-itself) };
+          record { followed = omega (arith, p .followed); adds-itself = subst (λ (k : ℕ). plain signs (getD s i 0) (getD (b ∷ s) k 0) ≡ true) e (p .adds-itself) };
     }
 
-front-flow : (s : Bytes) (n : ℕ) → Flows s n → (escape : Bool) → flow escape s ≡ take n s ++ flow escape (drop n s)
-unfolding flow
-front-flow s zero f escape = refl
-front-flow [] (suc n) f escape = absurd (omega (arith, f .within))
-front-flow (b ∷ []) (suc n) f escape = absurd (omega (arith, f .each 0 (omega arith) .followed))
-front-flow (b ∷ c ∷ s) (suc n) f escape =
-    ap (λ (x : Bytes). x ++ flow escape (c ∷ s)) (plain-added escape b c s (f .each 0 (omega arith) .adds-itself))
-    ∙ ap (λ (x : Bytes). b ∷ x) (front-flow (c ∷ s) n (flows-rest f) escape)
+module _ {signs : Bool} (escape : Bool) (only : escape ≡ true → signs ≡ true) where
+  front-flow : (s : Bytes) (n : ℕ) → Flows signs s n → flow escape s ≡ take n s ++ flow escape (drop n s)
+  unfolding flow
+  front-flow s zero f = refl
+  front-flow [] (suc n) f = absurd (omega (arith, f .within))
+  front-flow (b ∷ []) (suc n) f = absurd (omega (arith, f .each 0 (omega arith) .followed))
+  front-flow (b ∷ c ∷ s) (suc n) f =
+      ap (λ (x : Bytes). x ++ flow escape (c ∷ s)) (plain-added signs escape b c s only (f .each 0 (omega arith) .adds-itself))
+      ∙ ap (λ (x : Bytes). b ∷ x) (front-flow (c ∷ s) n (flows-rest f))
 
-pub flows-flow : {s : Bytes} {n : ℕ} → Flows s n → (escape : Bool) → flow escape s ≡ take n s ++ flow escape (drop n s)
-flows-flow {s} {n} f escape = front-flow s n f escape
+  pub flows-flow : {s : Bytes} {n : ℕ} → Flows signs s n → flow escape s ≡ take n s ++ flow escape (drop n s)
+  flows-flow {s} {n} f = front-flow s n f
+
+-- a blank before a word
+pub blank-plain : (signs : Bool) (b next : ℕ) → b ≡ 32 → 33 ≤ next → plain signs b next ≡ true
+blank-plain signs b next e h = rw (not-white next h, eq-eqb b 32 e, or-true)
 
 -- below k, or not
 pub less-or-not : {A : Type 0} (i k : ℕ) → (i < k → A) → (k ≤ i → A) → A
 less-or-not i k f g = ⊎-elim g f (le-or-lt k i)
 
 -- a byte stands behind them
-pub flows-short : {s : Bytes} {n : ℕ} → Flows s n → 0 < length s → n < length s
-flows-short {s} {n} f h = less-or-not n (length s) (λ k. k) (λ k. absurd (omega (arith, f .each (length s - 1) (omega arith) .followed)))
+pub flows-short : {signs : Bool} {s : Bytes} {n : ℕ} → Flows signs s n → 0 < length s → n < length s
+flows-short {signs} {s} {n} f h = less-or-not n (length s) (λ k. k) (λ k. absurd (omega (arith, f .each (length s - 1) (omega arith) .followed)))
+
+pub flows-none : (signs : Bool) (s : Bytes) → Flows signs s 0
+flows-none signs s = record { within = omega arith; each = λ i h. absurd (omega arith) }
+
+-- further bytes
+pub flows-on : {signs : Bool} {s : Bytes} {m n : ℕ} → Flows signs s m → n ≤ length s → ((i : ℕ) → m ≤ i → i < n → Plain signs s i) → Flows signs s n
+flows-on {signs} {s} {m} {n} f h more = record { within = h; each = λ i k. less-or-not i m (f .each i) (λ l. more i l k) }
+
+pub flows-next : {signs : Bool} {s : Bytes} {i : ℕ} → Flows signs s i → Plain signs s i → Flows signs s (i + 1)
+flows-next {signs} {s} f p = flows-on f (omega (arith, p .followed)) (λ j h k. subst (Plain signs s) (omega arith) p)
+
+-- one byte more of a block, where `all` says that those before it are plain, and `one` that it is
+pub block-next : {signs : Bool} {s : Bytes} {all one : Bool} (at i : ℕ) → at + i + 1 < length s → (all ≡ true → (j : ℕ) → at ≤ j → j < at + i → Plain signs s j)
+    → (one ≡ true → plain signs (getD s (at + i) 0) (getD s (at + i + 1) 0) ≡ true) → all && one ≡ true → (j : ℕ) → at ≤ j → j < at + (i + 1) → Plain signs s j
+block-next {signs} {s} {all} {one} at i h before here e j l m =
+    let q = and-eq-true-iff all one .0 e in
+    less-or-not j (at + i) (before (q .0) j l) (λ k. subst (Plain signs s) (omega arith) (record { followed = h; adds-itself = here (q .1) }))
 
 pub flow-split : (escape : Bool) (part rest : Bytes) → flow escape (part ++ rest) ≡ flowBefore escape part rest ++ flow escape rest
 unfolding flow flowBefore
@@ -154,46 +183,46 @@ words-flow s black escape = words-parted escape s (parted escape s) ∙ ap (λ (
 
 -- ---- a whole text of plain bytes
 
--- a plain byte that is not white is ordinary
-plain-black : (b c : ℕ) → plain b c ≡ true → white b ≡ false → ordinary b ≡ true
-plain-black b c h w = on (ordinary b) (eqb b 32) refl h
+-- a plain byte that is not white adds itself anyway
+plain-black : (signs : Bool) (b c : ℕ) → plain signs b c ≡ true → white b ≡ false → kept signs b ≡ true
+plain-black signs b c h w = on (kept signs b) (eqb b 32) refl h
   where
     on : (o e : Bool) → eqb b 32 ≡ e → o || (e && not (white c)) ≡ true → o ≡ true
     on true e q h = refl
     on false true q h = absurd (false≢true (sym w ∙ blank-white b q))
     on false false q h = h
 
--- so that the first word is
-ordinary-first : (s : Bytes) → ((i : ℕ) → i < length s → white (getD s i 0) ≡ false → ordinary (getD s i 0) ≡ true) → every ordinary (parts white s .0) ≡ true
+-- so that those of the first word do
+kept-first : (signs : Bool) (s : Bytes) → ((i : ℕ) → i < length s → white (getD s i 0) ≡ false → kept signs (getD s i 0) ≡ true) → every (kept signs) (parts white s .0) ≡ true
 unfolding parts cutAt every
-ordinary-first [] h = refl
-ordinary-first (b ∷ s) h = on (white b) refl (ordinary-first s (λ i q. h (suc i) (omega arith)))
+kept-first signs [] h = refl
+kept-first signs (b ∷ s) h = on (white b) refl (kept-first signs s (λ i q. h (suc i) (omega arith)))
   where
-    on : (t : Bool) → white b ≡ t → every ordinary (parts white s .0) ≡ true → every ordinary (cutAt t b (parts white s) .0) ≡ true
+    on : (t : Bool) → white b ≡ t → every (kept signs) (parts white s .0) ≡ true → every (kept signs) (cutAt t b (parts white s) .0) ≡ true
     on true e r = refl
     on false e r = ap₂ (λ (x y : Bool). x && y) (h 0 (omega arith) e) r
 
-normal-words : (opts : Opts.FormatOpts) (text s w : Bytes) (ws : List Bytes) → def.startsWithWhite s ≡ false → same w (ascii ".") || same w (ascii ")") ≡ false
-    → ((escape start : Bool) → def.escapedChunk w escape start ≡ w) → def.endsWithWhite s ≡ false → def.normalizedWords opts text s (w ∷ ws) ≡ w ++ def.moreWords (not (opts .«skip_escape»)) ws
-unfolding def.normalizedWords
-normal-words opts text s w ws a b c d = simp (a, b, c, d, and-false, append-nil)
+kept-black : (signs : Bool) (b : ℕ) → kept signs b ≡ true → white b ≡ false
+kept-black true b h = ordinary-parts (white b) (isin b «ALWAYS_ESCAPED») (eqb b 33) h .0
+kept-black false b h = not-true (white b) h
 
-module _ (b : ℕ) (s : Bytes) (n : ℕ) (long : length (b ∷ s) ≡ n + 1) (black : white b ≡ false) (starts : MayStart (b ∷ parts white s .0)) (f : Flows (b ∷ s) n) (last : ordinary (getD (b ∷ s) n 0) ≡ true) where
+-- no backslash stands before the first word
+no-lead : (escape dot digits : Bool) → (escape ≡ true → dot ≡ false) → escape && (dot && digits) ≡ false
+no-lead true dot digits h = rw (h refl)
+no-lead false dot digits h = refl
+
+normal-words : (opts : Opts.FormatOpts) (text s w : Bytes) (ws : List Bytes) → def.startsWithWhite s ≡ false → (not (opts .«skip_escape») ≡ true → same w (ascii ".") || same w (ascii ")") ≡ false)
+    → ((start : Bool) → def.escapedChunk w (not (opts .«skip_escape»)) start ≡ w) → def.endsWithWhite s ≡ false → def.normalizedWords opts text s (w ∷ ws) ≡ w ++ def.moreWords (not (opts .«skip_escape»)) ws
+unfolding def.normalizedWords
+normal-words opts text s w ws a b c d =
+    simp (a, no-lead (not (opts .«skip_escape»)) (same w (ascii ".") || same w (ascii ")")) (def.«ends_with_marker_digits» text) b, c, d, and-false, append-nil)
+
+module _ (signs : Bool) (b : ℕ) (s : Bytes) (n : ℕ) (long : length (b ∷ s) ≡ n + 1) (black : white b ≡ false) (starts : signs ≡ true → MayStart (b ∷ parts white s .0)) (f : Flows signs (b ∷ s) n) (last : kept signs (getD (b ∷ s) n 0) ≡ true) where
   abbrev first : Bytes
   first = b ∷ parts white s .0
 
   abbrev more : List Bytes
   more = filled (parts white s .1)
-
-  -- each byte adds itself
-  flow-is : (escape : Bool) → flow escape (b ∷ s) ≡ b ∷ s
-  unfolding flow
-  flow-is escape =
-      let x = getD (b ∷ s) n 0 in
-      let q : drop n (b ∷ s) ≡ x ∷ [] = drop-cons (b ∷ s) n 0 (omega arith) ∙ ap (λ (r : Bytes). x ∷ r) (drop-of-length-le (b ∷ s) {i = suc n} (omega arith)) in
-      flows-flow f escape ∙ ap (λ (r : Bytes). take n (b ∷ s) ++ flow escape r) q
-      ∙ ap (λ (r : Bytes). take n (b ∷ s) ++ (r ++ [])) (added-ordinary escape x [] last)
-      ∙ sym (take-suc (b ∷ s) n 0 (omega arith)) ∙ take-all (suc n) (b ∷ s) (omega arith)
 
   parts-are : parts white (b ∷ s) ≡ (first, parts white s .1)
   unfolding parts cutAt
@@ -203,58 +232,76 @@ module _ (b : ℕ) (s : Bytes) (n : ℕ) (long : length (b ∷ s) ≡ n + 1) (bl
   unfolding words split filled null
   words-are = rw parts-are
 
-  first-ordinary : every ordinary first ≡ true
-  first-ordinary =
-      ap (λ (r : Bytes × List Bytes). every ordinary (r .0)) (sym parts-are)
-      ∙ ordinary-first (b ∷ s) (λ i h w. on i h w (eqb i n) refl)
+  first-kept : every (kept signs) first ≡ true
+  first-kept =
+      ap (λ (r : Bytes × List Bytes). every (kept signs) (r .0)) (sym parts-are)
+      ∙ kept-first signs (b ∷ s) (λ i h w. on i h w (eqb i n) refl)
     where
-      on : (i : ℕ) → i < length (b ∷ s) → white (getD (b ∷ s) i 0) ≡ false → (t : Bool) → eqb i n ≡ t → ordinary (getD (b ∷ s) i 0) ≡ true
-      on i h w true e = ap (λ (j : ℕ). ordinary (getD (b ∷ s) j 0)) (eqb-true i n e) ∙ last
+      on : (i : ℕ) → i < length (b ∷ s) → white (getD (b ∷ s) i 0) ≡ false → (t : Bool) → eqb i n ≡ t → kept signs (getD (b ∷ s) i 0) ≡ true
+      on i h w true e = ap (λ (j : ℕ). kept signs (getD (b ∷ s) j 0)) (eqb-true i n e) ∙ last
       on i h w false e =
           let ne = eqb-false i n e in
-          plain-black (getD (b ∷ s) i 0) (getD (b ∷ s) (i + 1) 0) (f .each i (omega arith) .adds-itself) w
-
-  first-bare : (escape start : Bool) → def.escapedChunk first escape start ≡ first
-  first-bare escape start = bare-chunk first escape start first-ordinary (λ e h. starts)
-
-  words-back : (escape : Bool) → first ++ def.moreWords escape more ≡ b ∷ s
-  words-back escape =
-      ap (λ (x : Bytes). x ++ def.moreWords escape more) (sym (first-bare escape false) ∙ inner-chunk first escape)
-      ∙ ap (λ (r : Bytes × List Bytes). marks escape false false false (r .0) ++ def.moreWords escape (filled (r .1))) (sym parts-are)
-      ∙ sym (parted escape (b ∷ s)) ∙ flow-is escape
-
-  black-last : white (getD (b ∷ s) n 0) ≡ false
-  black-last = let x = getD (b ∷ s) n 0 in ordinary-parts (white x) (isin x «ALWAYS_ESCAPED») (eqb x 33) last .0
+          plain-black signs (getD (b ∷ s) i 0) (getD (b ∷ s) (i + 1) 0) (f .each i (omega arith) .adds-itself) w
 
   black-end : def.endsWithWhite (b ∷ s) ≡ false
   unfolding def.endsWithWhite «trim_ascii_end»
   black-end =
       let e : n ≡ suc n - 1 = omega arith in
-      let w = subst (λ (k : ℕ). white (getD (b ∷ s) k 0) ≡ false) e black-last in
+      let w = subst (λ (k : ℕ). white (getD (b ∷ s) k 0) ≡ false) e (kept-black signs (getD (b ∷ s) n 0) last) in
       let q = take-all (suc n) (b ∷ s) (omega arith) in
       ap (λ (x : Bytes). not (same x (b ∷ s))) (ap («trim_end_matches» (one white)) (sym q) ∙ trim-here white (b ∷ s) (suc n) (omega arith) (omega arith) w ∙ q)
       ∙ ap not (same-self (b ∷ s))
 
-  no-dot : same first (ascii ".") || same first (ascii ")") ≡ false
+  no-dot : MayStart first → same first (ascii ".") || same first (ascii ")") ≡ false
   unfolding same
-  no-dot = rw (ne-eqb b 46 (λ q. omega (arith, starts .above-dot)), ne-eqb b 41 (λ q. omega (arith, starts .above-dot)))
+  no-dot m = rw (ne-eqb b 46 (λ q. omega (arith, m .above-dot)), ne-eqb b 41 (λ q. omega (arith, m .above-dot)))
 
-  bare-from : (opts : Opts.FormatOpts) (text : List ℕ) → def.normalized opts text (b ∷ s) ≡ b ∷ s
+  module _ (escape : Bool) (only : escape ≡ true → signs ≡ true) where
+    -- each byte adds itself
+    flow-is : flow escape (b ∷ s) ≡ b ∷ s
+    unfolding flow
+    flow-is =
+        let x = getD (b ∷ s) n 0 in
+        let q : drop n (b ∷ s) ≡ x ∷ [] = drop-cons (b ∷ s) n 0 (omega arith) ∙ ap (λ (r : Bytes). x ∷ r) (drop-of-length-le (b ∷ s) {i = suc n} (omega arith)) in
+        flows-flow escape only f ∙ ap (λ (r : Bytes). take n (b ∷ s) ++ flow escape r) q
+        ∙ ap (λ (r : Bytes). take n (b ∷ s) ++ (r ++ [])) (added-kept signs escape x [] only last)
+        ∙ sym (take-suc (b ∷ s) n 0 (omega arith)) ∙ take-all (suc n) (b ∷ s) (omega arith)
+
+    first-bare : (start : Bool) → def.escapedChunk first escape start ≡ first
+    first-bare start =
+        bare-chunk first escape start (λ e. subst (λ (t : Bool). every (kept t) first ≡ true) (only e) first-kept) (λ e h k. starts (only e))
+
+    words-back : first ++ def.moreWords escape more ≡ b ∷ s
+    words-back =
+        ap (λ (x : Bytes). x ++ def.moreWords escape more) (sym (first-bare false) ∙ inner-chunk first escape)
+        ∙ ap (λ (r : Bytes × List Bytes). marks escape false false false (r .0) ++ def.moreWords escape (filled (r .1))) (sym parts-are)
+        ∙ sym (parted escape (b ∷ s)) ∙ flow-is
+
+  bare-from : (opts : Opts.FormatOpts) (text : List ℕ) → (not (opts .«skip_escape») ≡ true → signs ≡ true) → def.normalized opts text (b ∷ s) ≡ b ∷ s
   unfolding def.normalized def.startsWithWhite isBlank every null
-  bare-from opts text =
+  bare-from opts text only =
+      let escape = not (opts .«skip_escape») in
       rw (black, and-false, words-are)
-      (normal-words opts text (b ∷ s) first more black no-dot first-bare black-end ∙ words-back (not (opts .«skip_escape»)))
+      (normal-words opts text (b ∷ s) first more black (λ e. no-dot (starts (only e))) (first-bare escape only) black-end ∙ words-back escape only)
 
--- a text of plain bytes is appended as it is where its first word may start a line
-pub bare-flow : {s : Bytes} {n : ℕ} → length s ≡ n + 1 → MayStart (parts white s .0) → Flows s n → ordinary (getD s n 0) ≡ true
-    → (opts : Opts.FormatOpts) (text : List ℕ) → def.normalized opts text s ≡ s
+-- a text of plain bytes is appended as it is: where signs are escaped, if its first word may start a line
+pub bare-flow : {signs : Bool} {s : Bytes} {n : ℕ} → length s ≡ n + 1 → white (getD s 0 0) ≡ false → (signs ≡ true → MayStart (parts white s .0)) → Flows signs s n → kept signs (getD s n 0) ≡ true
+    → (opts : Opts.FormatOpts) (text : List ℕ) → (not (opts .«skip_escape») ≡ true → signs ≡ true) → def.normalized opts text s ≡ s
 unfolding parts cutAt
-bare-flow {s} {n} = on s n
+bare-flow {signs} {s} {n} = on s n
   where
-    on : (s : Bytes) (n : ℕ) → length s ≡ n + 1 → MayStart (parts white s .0) → Flows s n → ordinary (getD s n 0) ≡ true → (opts : Opts.FormatOpts) (text : List ℕ) → def.normalized opts text s ≡ s
-    on [] n long starts f last = absurd (omega arith)
-    on (b ∷ s) n long starts f last = go (white b) refl starts
-      where
-        go : (t : Bool) → white b ≡ t → MayStart (cutAt t b (parts white s) .0) → (opts : Opts.FormatOpts) (text : List ℕ) → def.normalized opts text (b ∷ s) ≡ b ∷ s
-        go true e m = absurd (omega (arith, m .above-dot))
-        go false e m = bare-from b s n long e m f last
+    on : (s : Bytes) (n : ℕ) → length s ≡ n + 1 → white (getD s 0 0) ≡ false → (signs ≡ true → MayStart (parts white s .0)) → Flows signs s n → kept signs (getD s n 0) ≡ true
+        → (opts : Opts.FormatOpts) (text : List ℕ) → (not (opts .«skip_escape») ≡ true → signs ≡ true) → def.normalized opts text s ≡ s
+    on [] n long black starts f last = absurd (omega arith)
+    on (b ∷ s) n long black starts f last =
+        bare-from signs b s n long black (λ e. subst (λ (t : Bool). MayStart (cutAt t b (parts white s) .0)) black (starts e)) f last
+
+-- a word that may start a line has a byte, and none is white
+pub start-black : (s : Bytes) → MayStart (parts white s .0) → white (getD s 0 0) ≡ false
+unfolding parts cutAt
+start-black [] m = absurd (omega (arith, m .above-dot))
+start-black (b ∷ s) m = on (white b) m
+  where
+    on : (t : Bool) → MayStart (cutAt t b (parts white s) .0) → t ≡ false
+    on true k = absurd (omega (arith, k .above-dot))
+    on false k = refl

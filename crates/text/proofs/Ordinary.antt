@@ -15,6 +15,11 @@ use Rattle.text.specs.Flow.{MayStart}
 use Rattle.text.specs.Marks.{marks}
 use Rattle.tree.proofs.Sequences.{below, below-at}
 
+-- neither of two
+pub neither : (a b : Bool) → a || b ≡ false → (a ≡ false) × (b ≡ false)
+neither true b e = absurd (false≢true (sym e))
+neither false b e = (refl, e)
+
 -- ---- ordinary bytes
 
 -- an ordinary byte is not white, not escaped wherever it stands, and no `!`
@@ -43,11 +48,6 @@ ordinary-escaped u (b ∷ s) h =
     let r = ordinary-parts (white b) (isin b «ALWAYS_ESCAPED») (eqb b 33) (q .0) in
     ap (λ (t : Bool). cond t (ascii "\\") [] ++ (b ∷ escapedFrom false false u s)) (not-escaped u b s (r .1) (r .2))
     ∙ ap (λ (x : List ℕ). b ∷ x) (ordinary-escaped u s (q .1))
-
-ordinary-chunk : (s : List ℕ) (escape : Bool) → every ordinary s ≡ true → escapedChunk s escape false ≡ s
-unfolding escapedChunk
-ordinary-chunk s true h = ordinary-escaped (every (λ b. eqb b 61) s) s h
-ordinary-chunk s false h = refl
 
 -- behind the beginning of a line, a byte but `!` is escaped that is neither ordinary nor white
 inside : ℕ → Bool
@@ -113,15 +113,15 @@ unfolding isEscaped isin
 not-escaped-first u b s e f h k l =
     rw (e, f, ne-eqb b 35 (λ q. omega arith), ne-eqb b 62 l, ne-eqb b 45 (λ q. omega arith), ne-eqb b 43 (λ q. omega arith), ne-eqb b 61 k) (and-false u)
 
--- a chunk of ordinary bytes stands as it is, at the beginning of a line too where it may start one
-pub bare-chunk : (s : List ℕ) (escape start : Bool) → every ordinary s ≡ true → (start ≡ true → 0 < length s → MayStart s) → escapedChunk s escape start ≡ s
+-- a chunk stands as it is where nothing is escaped, and one of ordinary bytes at the beginning of a line too where it may start one
+pub bare-chunk : (s : List ℕ) (escape start : Bool) → (escape ≡ true → every ordinary s ≡ true) → (escape ≡ true → start ≡ true → 0 < length s → MayStart s) → escapedChunk s escape start ≡ s
 unfolding escapedChunk escapedFrom every
-bare-chunk s escape false h k = ordinary-chunk s escape h
-bare-chunk s false true h k = refl
+bare-chunk s false start h k = refl
+bare-chunk s true false h k = ordinary-escaped (every (λ b. eqb b 61) s) s (h refl)
 bare-chunk [] true true h k = refl
 bare-chunk (b ∷ s) true true h k =
-    let starts = k refl (omega arith) in
-    let q = and-eq-true-iff (ordinary b) (every ordinary s) .0 h in
+    let starts = k refl refl (omega arith) in
+    let q = and-eq-true-iff (ordinary b) (every ordinary s) .0 (h refl) in
     let r = ordinary-parts (white b) (isin b «ALWAYS_ESCAPED») (eqb b 33) (q .0) in
     let u = eqb b 61 && every (λ c. eqb c 61) s in
     ap (λ (m : Bool). escapedFrom true m u (b ∷ s)) (starts .no-marker)

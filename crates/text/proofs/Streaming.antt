@@ -73,7 +73,7 @@ flow-ended s i to escape t h = ap (λ (x : List ℕ). push (flow escape x) t) (p
 -- ---- a part of what is read: what is left behind a step
 
 module _ {own : Bool} {text src : List ℕ} {room from to : ℕ} (p : Apart own text src room from to) where
-  pub plain-reach : {now : List ℕ} → Still room text now → (i k : ℕ) → i ≤ to → Flows (slice i to (store own now src)) k → i + k ≤ to
+  pub plain-reach : {now : List ℕ} → Still room text now → (i k : ℕ) → i ≤ to → Flows true (slice i to (store own now src)) k → i + k ≤ to
   plain-reach {now} q i k l f = omega (arith, l, f .within, length-slice i to (store own now src) (omega (arith, p .within, store-long p q)))
 
   -- one byte
@@ -106,14 +106,14 @@ module _ {own : Bool} {text src : List ℕ} {room from to : ℕ} (p : Apart own 
     flow-left j = push (flow escape (slice j to (store own text src)))
 
     -- k plain bytes at once
-    module _ (k : ℕ) (l : i ≤ to) (f : Flows (slice i to (store own now src)) k) {after : List ℕ} {r : Wrote} (w : WritesIn room now after r (push (slice i (i + k) (store own now src)) (take n now))) where
+    module _ (k : ℕ) (l : i ≤ to) (f : Flows true (slice i to (store own now src)) k) {after : List ℕ} {r : Wrote} (w : WritesIn room now after r (push (slice i (i + k) (store own now src)) (take n now))) where
       plain-turn : (t : List ℕ) → flow-left i t ≡ andThen (push (slice i (i + k) (store own now src)) t) (flow-left (i + k))
       plain-turn t =
           let s = store own now src in
           let q = o .still in
           ap (λ (x : List ℕ). push (flow escape x) t) (sym (slice-kept p q i to h))
           ∙ ap (λ (x : List ℕ). push x t)
-          (flows-flow f escape ∙ ap (λ (x : List ℕ). x ++ flow escape (drop k (slice i to s))) (slice-front s i to k (plain-reach q i k l f))
+          (flows-flow escape (λ e. refl) f ∙ ap (λ (x : List ℕ). x ++ flow escape (drop k (slice i to s))) (slice-front s i to k (plain-reach q i k l f))
           ∙ ap (λ (x : List ℕ). slice i (i + k) s ++ flow escape x) (drop-drop k i (take to s) ∙ slice-kept p q (i + k) to (omega (arith, h))))
           ∙ push-both (slice i (i + k) s) (flow escape (slice (i + k) to (store own text src))) t
 

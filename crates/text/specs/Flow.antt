@@ -43,16 +43,20 @@ unfoldable pub flowBefore : Bool → Bytes → Bytes → Bytes
 flowBefore escape [] rest = []
 flowBefore escape (b ∷ part) rest = added escape b (part ++ rest) ++ flowBefore escape part rest
 
--- b adds itself before `next`: an ordinary byte, or a blank before a word
-abbrev pub plain : ℕ → ℕ → Bool
-plain b next = ordinary b || (eqb b 32 && not (white next))
+-- b adds itself whatever follows: an ordinary byte, or any that is not white where no signs are escaped
+abbrev pub kept : Bool → ℕ → Bool
+kept signs b = cond signs (ordinary b) (not (white b))
+
+-- b adds itself before `next`: a byte that does so anyway, or a blank before a word
+abbrev pub plain : Bool → ℕ → ℕ → Bool
+plain signs b next = kept signs b || (eqb b 32 && not (white next))
 
 -- the byte at i has a byte behind it, and adds itself
-pub record Plain (s : Bytes) (i : ℕ) : Type 0 where
+pub record Plain (signs : Bool) (s : Bytes) (i : ℕ) : Type 0 where
   pub followed : i + 1 < length s
-  pub adds-itself : plain (getD s i 0) (getD s (i + 1) 0) ≡ true
+  pub adds-itself : plain signs (getD s i 0) (getD s (i + 1) 0) ≡ true
 
 -- the first n bytes of s are appended as they are
-pub record Flows (s : Bytes) (n : ℕ) : Type 0 where
+pub record Flows (signs : Bool) (s : Bytes) (n : ℕ) : Type 0 where
   pub within : n ≤ length s
-  pub each : (i : ℕ) → i < n → Plain s i
+  pub each : (i : ℕ) → i < n → Plain signs s i

@@ -196,7 +196,7 @@ fn push_marked(
 // Whether b stands in a text as it is, `next` behind it: an ordinary byte, or a blank before no white byte. Some that would
 // are left out, so that few ranges of bytes are left.
 fn is_plain(b: u8, next: u8) -> bool
-    ensures { λ r. ⌜ (r ≡ true → plain b next ≡ true) ⌝ }
+    ensures { λ r. ⌜ (r ≡ true → plain true b next ≡ true) ⌝ }
 {
     !((b < 14)
         | ((b == 33)
@@ -209,7 +209,7 @@ fn is_plain(b: u8, next: u8) -> bool
 // The same for the 16 bytes at `at`, without an early exit, so that they can be tested at once.
 fn is_plain_block(s: &[u8], at: usize) -> bool
     requires { ⌜ at + 17 ≤ length (now s) ⌝ }
-    ensures { λ r. ⌜ (r ≡ true → (i : ℕ) → at ≤ i → i < at + 16 → Plain (now (s .entry)) i) ⌝ }
+    ensures { λ r. ⌜ (r ≡ true → (i : ℕ) → at ≤ i → i < at + 16 → Plain true (now (s .entry)) i) ⌝ }
 {
     let mut all = true;
     let mut i = 0;
@@ -222,7 +222,7 @@ fn is_plain_block(s: &[u8], at: usize) -> bool
 
 // How many bytes s begins with that stand in a text as they are, in blocks of 16 with a byte behind them.
 fn plain_blocks(s: &[u8]) -> usize
-    ensures { λ r. ⌜ Flows (now (s .entry)) r ⌝ }
+    ensures { λ r. ⌜ Flows true (now (s .entry)) r ⌝ }
 {
     let mut at = 0;
     while 16 < s.len() - at {
@@ -237,7 +237,7 @@ fn plain_blocks(s: &[u8]) -> usize
 // Whether a byte of a short text is plain; i is not the last.
 fn is_plain_at(s: &[u8], i: usize) -> bool
     requires { ⌜ i + 1 < length (now s) ⌝ }
-    ensures { λ r. ⌜ (r ≡ true → Plain (now (s .entry)) i) ⌝ }
+    ensures { λ r. ⌜ (r ≡ true → Plain true (now (s .entry)) i) ⌝ }
 {
     if is_in(Class::Ordinary, s[i]) {
         return true;
@@ -251,7 +251,7 @@ fn is_plain_at(s: &[u8], i: usize) -> bool
 // Whether the bytes before the last are plain.
 fn is_plain_text(s: &[u8]) -> bool
     requires { ⌜ 0 < length (now s) ⌝ }
-    ensures { λ r. ⌜ (r ≡ true → (n : ℕ) → length (now (s .entry)) ≡ n + 1 → Flows (now (s .entry)) n) ⌝ }
+    ensures { λ r. ⌜ (r ≡ true → (n : ℕ) → length (now (s .entry)) ≡ n + 1 → Flows true (now (s .entry)) n) ⌝ }
 {
     let last = s.len() - 1;
     if 16 <= last {
@@ -328,10 +328,92 @@ pub fn is_bare_text(s: &[u8]) -> bool
     is_plain_text(s) & is_in(Class::Ordinary, s[s.len() - 1])
 }
 
+// Whether b stands in a text as it is where nothing is escaped, `next` behind it: a byte that is not white, or a blank before
+// no white byte. Other bytes below the blank are left out, so that few ranges of bytes are left.
+fn is_spaced(b: u8, next: u8) -> bool
+    ensures { λ r. ⌜ (r ≡ true → plain false b next ≡ true) ⌝ }
+{
+    !((b < 32) | ((b == 32) & (next < 33)))
+}
+
+// The same for the 16 bytes at `at`, without an early exit, so that they can be tested at once.
+fn is_spaced_block(s: &[u8], at: usize) -> bool
+    requires { ⌜ at + 17 ≤ length (now s) ⌝ }
+    ensures { λ r. ⌜ (r ≡ true → (i : ℕ) → at ≤ i → i < at + 16 → Plain false (now (s .entry)) i) ⌝ }
+{
+    let mut all = true;
+    let mut i = 0;
+    while i < 16 {
+        all = all & is_spaced(s[at + i], s[at + i + 1]);
+        i += 1;
+    }
+    all
+}
+
+// Whether the bytes before the last stand as they are where nothing is escaped, byte by byte.
+fn is_spaced_short(s: &[u8]) -> bool
+    requires { ⌜ 0 < length (now s) ⌝ }
+    ensures { λ r. ⌜ (r ≡ true → (n : ℕ) → length (now (s .entry)) ≡ n + 1 → Flows false (now (s .entry)) n) ⌝ }
+{
+    let last = s.len() - 1;
+    let mut i = 0;
+    while i < last {
+        if !is_spaced(s[i], s[i + 1]) {
+            return false;
+        }
+        i += 1;
+    }
+    true
+}
+
+// The same in blocks of 16. The last block ends before the last byte, and may begin within the one before.
+fn is_spaced_long(s: &[u8]) -> bool
+    requires { ⌜ 16 < length (now s) ⌝ }
+    ensures { λ r. ⌜ (r ≡ true → (n : ℕ) → length (now (s .entry)) ≡ n + 1 → Flows false (now (s .entry)) n) ⌝ }
+{
+    let last = s.len() - 1;
+    let mut at = 0;
+    while 16 <= last - at {
+        if !is_spaced_block(s, at) {
+            return false;
+        }
+        at += 16;
+    }
+    is_spaced_block(s, last - 16)
+}
+
+// Whether a text is known to be appended as it is where nothing is escaped: words with one blank between them.
+pub fn is_spaced_text(s: &[u8]) -> bool
+    ensures { λ r. ⌜ (r ≡ true → (opts : Opts.FormatOpts) (text : List ℕ) → opts .«skip_escape» ≡ true → def.normalized opts text (now (s .entry)) ≡ now (s .entry)) ⌝ }
+{
+    if s.len() == 0 {
+        return false;
+    }
+    if (s[0] < 33) | (s[s.len() - 1] < 33) {
+        return false;
+    }
+    if s.len() < 17 {
+        is_spaced_short(s)
+    } else {
+        is_spaced_long(s)
+    }
+}
+
+// Whether a text is known to be appended as it is; `raw` says that nothing is escaped.
+pub fn is_kept_text(s: &[u8], raw: bool) -> bool
+    ensures { λ r. ⌜ (r ≡ true → (opts : Opts.FormatOpts) (text : List ℕ) → (raw ≡ true → opts .«skip_escape» ≡ true) → def.normalized opts text (now (s .entry)) ≡ now (s .entry)) ⌝ }
+{
+    if raw {
+        is_spaced_text(s)
+    } else {
+        is_bare_text(s)
+    }
+}
+
 // The plain bytes that a part of what is read begins with.
 fn plain_in(src: &[u8], text: &[u8], own: bool, from: usize, to: usize) -> usize
     requires { ⌜ (from ≤ to) × (to ≤ length (store own (now text) (now src))) ⌝ }
-    ensures { λ r. ⌜ Flows (slice from to (store own (now (text .entry)) (now (src .entry)))) r ⌝ }
+    ensures { λ r. ⌜ Flows true (slice from to (store own (now (text .entry)) (now (src .entry)))) r ⌝ }
 {
     if own {
         plain_blocks(&text[from..to])

@@ -21,7 +21,7 @@ use crate::buffer::push_all;
 use crate::buffer::push_byte;
 use crate::buffer::trim_end_matches;
 use crate::buffer::trim_start_matches;
-use crate::normalize::is_bare_text;
+use crate::normalize::is_kept_text;
 use crate::normalize::push_normalized;
 use spec::ctx::FormatOpts;
 use tree::fields::is_same;
@@ -88,7 +88,7 @@ pub fn push_normalized_text(
     requires { ⌜ len ≤ length (now text) ⌝ }
     ensures { λ r. ⌜ Writes (length (now (text .entry))) (now (text .exit)) r (def.«push_normalized_text» (now («new_text» .entry)) «f_opts» (take len (now (text .entry)))) ⌝ }
 {
-    if is_bare_text(new_text) {
+    if is_kept_text(new_text, f_opts.skip_escape) {
         return push_all(text, len, new_text);
     }
     let room = text.len();

@@ -1,11 +1,11 @@
 -- `text::normalize::is_bare_text` meets its contract. Assumes nothing.
 use Prim.Native.Nat.{ℕ, zero, suc, _-_, _<_}
-use mathlib.Core.Path.{_≡_, sym, _∙_}
-use mathlib.Core.Bool.{false, _||_, false≢true, and-eq-true-iff}
+use mathlib.Core.Path.{_≡_, refl, sym, _∙_}
+use mathlib.Core.Bool.{true, false, _||_, false≢true, and-eq-true-iff}
 use lib.ListN.{length}
 use lib.Dec.{eqb, ltb}
 use borrow.Author.Tests.{not-false}
-use Rattle.text.proofs.Flowing.{bare-flow}
+use Rattle.text.proofs.Flowing.{bare-flow, start-black}
 use native.Mathlib.Omega.{arith}
 use borrow.Author.Needs.{needs}
 use Rattle.text.proofs.normalize.is_bare_text.Statement.{statement}
@@ -50,8 +50,9 @@ returns-3 c =
     let h = some (length s) (c .before .before .before .before .before .if1 .left) in
     λ e.
     let q = and-eq-true-iff (plain .result) (c .is-in .result) .0 e in
-    bare-flow {s = s} {n = length s - 1} (omega arith) (bare .ensures (not-false (bare .result) (c .before .before .before .if2 .left)))
-    (plain .ensures (q .0) (length s - 1) (omega arith)) (sym (c .is-in .ensures) ∙ q .1)
+    let starts = bare .ensures (not-false (bare .result) (c .before .before .before .if2 .left)) in
+    λ opts text.
+    bare-flow {signs = true} {s = s} {n = length s - 1} (omega arith) (start-black s starts) (λ o. starts) (plain .ensures (q .0) (length s - 1) (omega arith)) (sym (c .is-in .ensures) ∙ q .1) opts text (λ o. refl)
 
 pub is-bare-text-spec : {M : Type 1} → statement M
 is-bare-text-spec = tie.close (tie.spec returns begins-bare-requires returns-2 is-plain-text-requires sub-is-in shared-slice-read-is-in is-in-requires returns-3)

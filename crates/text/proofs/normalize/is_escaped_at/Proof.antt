@@ -1,9 +1,10 @@
 -- `text::normalize::is_escaped_at` meets its contract. Assumes nothing.
-use mathlib.Core.Path.{_≡_, refl}
-use mathlib.Core.Bool.{Bool, true, false, not, _||_, false≢true}
+use mathlib.Core.Bool.{_||_}
 use Prim.Native.Nat.{_+_}
 use lib.Seq.{slice}
 use Rattle.text.specs.Source.{store}
+use borrow.Author.Tests.{not-true}
+use Rattle.text.proofs.Ordinary.{neither}
 use borrow.Author.Needs.{needs}
 use Rattle.text.proofs.normalize.is_escaped_at.Statement.{statement}
 use Rattle.text.proofs.normalize.is_escaped_at.Tie as tie
@@ -11,16 +12,10 @@ use Rattle.text.proofs.normalize.is_escaped_at.Tie as tie
 is-escaped-inside-requires : tie.Need-is-escaped-inside-requires
 is-escaped-inside-requires c κs = search needs
 
--- neither of two
-neither : (a b : Bool) → not (a || b) ≡ true → (a ≡ false) × (b ≡ false)
-neither true b e = absurd (false≢true e)
-neither false true e = absurd (false≢true e)
-neither false false e = (refl, refl)
-
 returns : tie.Need-returns
 returns c =
     let a = c .before .before .before .before .args in
-    let n = neither (a .start) (a .marker) (c .before .if1 .taken) in
+    let n = neither (a .start) (a .marker) (not-true (a .start || a .marker) (c .before .if1 .taken)) in
     rw (n .0, n .1) (c .is-escaped-inside .ensures (a .underline))
 
 add-follows : tie.Need-add-follows

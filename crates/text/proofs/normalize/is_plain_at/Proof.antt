@@ -1,14 +1,13 @@
 -- `text::normalize::is_plain_at` meets its contract. Assumes nothing.
-use Prim.Native.Nat.{ℕ, _+_, _≤_}
-use mathlib.Core.Path.{_≡_, sym, ap, _∙_}
-use mathlib.Core.Bool.{Bool, true, not, _&&_, _||_, false≢true, or-true}
+use Prim.Native.Nat.{_+_}
+use mathlib.Core.Path.{sym, ap, _∙_}
+use mathlib.Core.Bool.{Bool, true, not, _&&_, _||_, false≢true}
 use lib.ListN.{getD}
 use lib.Dec.{eqb}
 use native.Mathlib.Omega.{arith}
-use borrow.Author.Tests.{eq-eqb, ltb-true}
+use borrow.Author.Tests.{ltb-true}
 use Rattle.spec.specs.Bytes.{white}
-use Rattle.text.specs.Flow.{plain}
-use Rattle.text.proofs.Ordinary.{not-white}
+use Rattle.text.proofs.Flowing.{blank-plain}
 use borrow.Author.Needs.{needs}
 use Rattle.text.proofs.normalize.is_plain_at.Statement.{statement}
 use Rattle.text.proofs.normalize.is_plain_at.Tie as tie
@@ -43,9 +42,6 @@ add-result c = search needs
 shared-slice-read-result : tie.Need-shared-slice-read-result
 shared-slice-read-result c = search needs
 
-blank-plain : (b next : ℕ) → b ≡ 32 → 33 ≤ next → plain b next ≡ true
-blank-plain b next e h = rw (not-white next h, eq-eqb b 32 e, or-true)
-
 returns-3 : tie.Need-returns-3
 returns-3 c =
     let a = c .before .before .before .before .before .before .before .args in
@@ -53,7 +49,7 @@ returns-3 c =
     λ e.
     record {
       followed = c .before .before .before .before .before .before .before .pre;
-      adds-itself = blank-plain (getD (a .s .now) (a .i) 0) next (c .before .if2 .left) (omega (arith, ltb-true 32 next e));
+      adds-itself = blank-plain true (getD (a .s .now) (a .i) 0) next (c .before .if2 .left) (omega (arith, ltb-true 32 next e));
     }
 
 pub is-plain-at-spec : {M : Type 1} → statement M

@@ -1,16 +1,16 @@
 -- `text::normalize::is_plain_block` meets its contract. Assumes nothing.
 use Prim.Native.Nat.{ℕ, _+_, _-_, _≤_, _<_}
-use mathlib.Core.Path.{_≡_, subst}
-use mathlib.Core.Bool.{true, and-eq-true-iff}
+use mathlib.Core.Path.{_≡_}
+use mathlib.Core.Bool.{true}
 use Rattle.text.specs.Flow.{Plain}
-use Rattle.text.proofs.Flowing.{less-or-not}
+use Rattle.text.proofs.Flowing.{block-next}
 use native.Mathlib.Omega.{arith}
 use borrow.Author.Needs.{needs}
 use Rattle.text.proofs.normalize.is_plain_block.Statement.{statement}
 use Rattle.text.proofs.normalize.is_plain_block.Tie as tie
 
 abbrev Inv-loop : tie.InvT-loop
-Inv-loop s at all₀ i₀ all i = (i ≤ 16) × (all ≡ true → (j : ℕ) → at ≤ j → j < at + i → Plain s j)
+Inv-loop s at all₀ i₀ all i = (i ≤ 16) × (all ≡ true → (j : ℕ) → at ≤ j → j < at + i → Plain true s j)
 
 abbrev μ-loop : tie.MeasureT-loop
 μ-loop s at all₀ i₀ all i = 16 - i
@@ -46,14 +46,8 @@ loop-less c = search needs
 loop-again : tie.Need-loop-again Inv-loop μ-loop
 loop-again c =
     let a = c .before .before .before .before .before .before .args in
-    let s = a .s .now in
-    let l = c .before .before .before .before .loop in (
-      omega arith,
-      λ e j h k.
-          let q = and-eq-true-iff (l .all) (c .is-plain .result) .0 e in
-          less-or-not j (a .at + l .i) (l .inv .1 (q .0) j h)
-          (λ m. subst (Plain s) (omega arith) (record { followed = omega arith; adds-itself = c .is-plain .ensures (q .1) })),
-    )
+    let l = c .before .before .before .before .loop in
+    (omega arith, block-next (a .at) (l .i) (omega arith) (l .inv .1) (c .is-plain .ensures))
 
 returns : tie.Need-returns Inv-loop μ-loop
 returns c =

@@ -1,17 +1,17 @@
 -- `text::normalize::is_plain_text` meets its contract. Assumes nothing.
 use Prim.Native.Nat.{_-_, _≤_}
 use mathlib.Core.Path.{subst}
-use mathlib.Core.Bool.{false≢true}
+use mathlib.Core.Bool.{true, false≢true}
 use borrow.Author.Tests.{not-false}
-use Rattle.text.specs.Flow.{Plain, Flows}
-use Rattle.text.proofs.Flowing.{less-or-not, flows-short}
+use Rattle.text.specs.Flow.{Flows}
+use Rattle.text.proofs.Flowing.{flows-short, flows-none, flows-on, flows-next}
 use native.Mathlib.Omega.{arith}
 use borrow.Author.Needs.{needs}
 use Rattle.text.proofs.normalize.is_plain_text.Statement.{statement}
 use Rattle.text.proofs.normalize.is_plain_text.Tie as tie
 
 abbrev Inv-loop : tie.InvT-loop
-Inv-loop s last i₀ i = (i ≤ last) × Flows s i
+Inv-loop s last i₀ i = (i ≤ last) × Flows true s i
 
 abbrev μ-loop : tie.MeasureT-loop
 μ-loop s last i₀ i = last - i
@@ -36,11 +36,11 @@ is-plain-block-requires c κs = search needs
 returns-2 : tie.Need-returns-2 Inv-loop μ-loop
 returns-2 c =
     let r = c .before .before .plain-blocks in
-    λ e n q. record { within = omega arith; each = λ i h. less-or-not i (r .result) (r .ensures .each i) (λ k. c .is-plain-block .ensures e i (omega arith) (omega arith)) }
+    λ e n q. flows-on (r .ensures) (omega arith) (λ i h k. c .is-plain-block .ensures e i (omega arith) (omega arith))
 
 loop-holds : tie.Need-loop-holds Inv-loop μ-loop
 loop-holds c =
-    (omega arith, record { within = omega arith; each = λ i h. absurd (omega arith) })
+    (omega arith, flows-none true (c .before .before .args .s .now))
 
 is-plain-at-requires : tie.Need-is-plain-at-requires Inv-loop μ-loop
 is-plain-at-requires c κs = search needs
@@ -57,14 +57,12 @@ loop-less c = search needs
 
 loop-again : tie.Need-loop-again Inv-loop μ-loop
 loop-again c =
-    let s = c .before .before .before .before .before .before .args .s .now in
-    let l = c .before .before .before .loop in
-    let p = c .before .is-plain-at .ensures (not-false (c .before .is-plain-at .result) (c .if3 .left)) in
-    (omega arith, record { within = omega arith; each = λ j h. less-or-not j (l .i) (l .inv .1 .each j) (λ k. subst (Plain s) (omega arith) p) })
+    let r = c .before .is-plain-at in
+    (omega arith, flows-next (c .before .before .before .loop .inv .1) (r .ensures (not-false (r .result) (c .if3 .left))))
 
 returns-4 : tie.Need-returns-4 Inv-loop μ-loop
 returns-4 c =
-    λ e n q. subst (Flows (c .before .before .before .before .args .s .now)) (omega arith) (c .before .loop .inv .1)
+    λ e n q. subst (Flows true (c .before .before .before .before .args .s .now)) (omega arith) (c .before .loop .inv .1)
 
 pub is-plain-text-spec : {M : Type 1} → statement M
 is-plain-text-spec = tie.close (tie.spec Inv-loop μ-loop sub-last plain-blocks-requires sub-if2 returns is-plain-block-requires returns-2 loop-holds is-plain-at-requires returns-3 add-i loop-less loop-again returns-4)

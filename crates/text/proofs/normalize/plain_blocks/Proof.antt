@@ -1,23 +1,24 @@
 -- `text::normalize::plain_blocks` meets its contract. Assumes nothing.
 use Prim.Native.Nat.{_-_}
+use mathlib.Core.Bool.{true}
 use lib.ListN.{length}
 use borrow.Author.Tests.{not-false}
 use Rattle.text.specs.Flow.{Flows}
-use Rattle.text.proofs.Flowing.{less-or-not}
+use Rattle.text.proofs.Flowing.{flows-none, flows-on}
 use native.Mathlib.Omega.{arith}
 use borrow.Author.Needs.{needs}
 use Rattle.text.proofs.normalize.plain_blocks.Statement.{statement}
 use Rattle.text.proofs.normalize.plain_blocks.Tie as tie
 
 abbrev Inv-loop : tie.InvT-loop
-Inv-loop s at₀ at = Flows s at
+Inv-loop s at₀ at = Flows true s at
 
 abbrev μ-loop : tie.MeasureT-loop
 μ-loop s at₀ at = length s - at
 
 loop-holds : tie.Need-loop-holds Inv-loop μ-loop
 loop-holds c =
-    record { within = omega arith; each = λ i h. absurd (omega arith) }
+    flows-none true (c .before .args .s .now)
 
 sub-loop : tie.Need-sub-loop Inv-loop μ-loop
 sub-loop c = search needs
@@ -38,10 +39,7 @@ loop-less c = search needs
 loop-again : tie.Need-loop-again Inv-loop μ-loop
 loop-again c =
     let l = c .before .before .before .loop in
-    record {
-      within = omega arith;
-      each = λ i h. less-or-not i (l .at) (l .inv .each i) (λ k. c .before .is-plain-block .ensures (not-false (c .before .is-plain-block .result) (c .if1 .left)) i k h);
-    }
+    flows-on (l .inv) (omega arith) (c .before .is-plain-block .ensures (not-false (c .before .is-plain-block .result) (c .if1 .left)))
 
 returns-2 : tie.Need-returns-2 Inv-loop μ-loop
 returns-2 c =

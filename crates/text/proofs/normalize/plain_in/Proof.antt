@@ -1,7 +1,7 @@
 -- `text::normalize::plain_in` meets its contract. Assumes nothing.
 use Prim.Native.Nat.{ℕ, _≤_}
 use mathlib.Core.Path.{sym, ap, _∙_, subst}
-use mathlib.Core.Bool.{Bool}
+use mathlib.Core.Bool.{Bool, true}
 use mathlib.Core.List.{List}
 use lib.ListN.{length}
 use lib.Seq.{slice}
@@ -47,14 +47,14 @@ plain-blocks-requires-2 c κs = search needs
 returns : tie.Need-returns
 returns c =
     let a = c .before .before .before .before .before .args in
-    subst (λ (x : List ℕ). Flows x (c .plain-blocks .result))
+    subst (λ (x : List ℕ). Flows true x (c .plain-blocks .result))
     (part-is (a .from) (a .to) (a .text .now) ∙ sym (ap (λ (o : Bool). slice (a .from) (a .to) (store o (a .text .now) (a .src .now))) (c .before .before .if1 .taken)))
     (c .plain-blocks .ensures)
 
 returns-2 : tie.Need-returns-2
 returns-2 c =
     let a = c .before .before .before .before .before .args in
-    subst (λ (x : List ℕ). Flows x (c .plain-blocks2 .result))
+    subst (λ (x : List ℕ). Flows true x (c .plain-blocks2 .result))
     (part-is (a .from) (a .to) (a .src .now) ∙ sym (ap (λ (o : Bool). slice (a .from) (a .to) (store o (a .text .now) (a .src .now))) (c .before .before .if1 .left)))
     (c .plain-blocks2 .ensures)
 

@@ -14,8 +14,8 @@ use borrow.Author.Needs.{needs}
 use Rattle.text.proofs.text_utils.push_normalized_text.Statement.{statement}
 use Rattle.text.proofs.text_utils.push_normalized_text.Tie as tie
 
-is-bare-text-requires : tie.Need-is-bare-text-requires
-is-bare-text-requires c κs = search needs
+is-kept-text-requires : tie.Need-is-kept-text-requires
+is-kept-text-requires c κs = search needs
 
 push-all-requires : tie.Need-push-all-requires
 push-all-requires c κs = search needs
@@ -27,7 +27,7 @@ returns : tie.Need-returns
 unfolding «push_normalized_text»
 returns c =
     let a = c .before .before .before .before .before .before .before .before .args in
-    alike (ap (λ (x : List ℕ). push x (take (a .len) (a .text .now))) (c .before .before .before .before .before .is-bare-text .ensures (c .before .before .before .before .if1 .taken) (a .f-opts) (take (a .len) (a .text .now)))) (c .before .before .push-all .ensures)
+    alike (ap (λ (x : List ℕ). push x (take (a .len) (a .text .now))) (c .before .before .before .before .before .is-kept-text .ensures (c .before .before .before .before .if1 .taken) (a .f-opts) (take (a .len) (a .text .now)) (λ e. e))) (c .before .before .push-all .ensures)
 
 slice-aggregate-push-normalized : tie.Need-slice-aggregate-push-normalized
 slice-aggregate-push-normalized c =
@@ -48,4 +48,4 @@ returns-2 c =
     (alike-in (ap (λ (x : List ℕ). «push_normalized_text» (slice 0 (length (a .new-text .now)) x) (a .f-opts) (take (a .len) (a .text .now))) (sym (take-length (a .new-text .now)))) (c .before .before .push-normalized .ensures))
 
 pub push-normalized-text-spec : {M : Type 1} → statement M
-push-normalized-text-spec = tie.close (tie.spec is-bare-text-requires push-all-requires same-length returns slice-aggregate-push-normalized push-normalized-requires same-length-2 returns-2)
+push-normalized-text-spec = tie.close (tie.spec is-kept-text-requires push-all-requires same-length returns slice-aggregate-push-normalized push-normalized-requires same-length-2 returns-2)
