@@ -4,15 +4,17 @@ use native.Mathlib.Omega.{arith}
 use mathlib.Core.Path.{_≡_, refl, _∙_, sym}
 use mathlib.Core.Bool.{true, not, _&&_, and-eq-true-iff}
 use lib.ListN.{length, getD, take, drop}
-use lib.Dec.{leb}
-use borrow.Author.Tests.{le-leb, le-ltb, leb-true, eq-eqb}
-use Rattle.spec.specs.Bytes.{Bytes}
+use lib.Dec.{eqb, leb}
+use borrow.Author.Tests.{le-leb, le-ltb, leb-true, eq-eqb, eqb-true, eqb-false, ne-eqb, not-true}
+use Rattle.spec.specs.Bytes.{Bytes, isin}
 use Rattle.spec.specs.Utf8.{isUtf8}
 use Rattle.spec.specs.Fields.{fields, whole}
 use Rattle.spec.specs.Questions.{
   SkipList,
   everyField,
+  mayFollow,
   openAfter,
+  noStray,
   keepRules,
   stillOpen,
   utf8Body,
@@ -33,10 +35,11 @@ use Rattle.spec.specs.Questions.{
 }
 use Rattle.tree.specs.Spans.{lengthAt, spanAt}
 use Rattle.tree.specs.Scans.{fieldRight, countAfter, opensBlockquote}
-use Rattle.tree.specs.Sound.{soundField, Ended, Sound, refusalOfSound}
+use Rattle.tree.specs.Sound.{ruledField, soundField, Ended, Sound, refusalOfSound}
 use Rattle.tree.specs.declared.fields.Span.{Span}
 use Rattle.tree.proofs.Walking.{fits, whole-end}
 use Rattle.tree.proofs.Rules.{part-length, rules-on, still-on, kept, answer-open}
+use Rattle.tree.proofs.ByTag.{of-close}
 use Rattle.tree.proofs.Every.{every-right, every-end, count-on, count-end, depth-on, depth-end}
 
 -- the fields before p are sound, begin `count` nodes, and leave `depth` elements open behind the tag `before`
@@ -69,6 +72,15 @@ begun s h =
       plain = refl;
     }
 
+-- how many elements are open behind the name of one, and behind a field that is none and no close
+pub opened : (depth tag d : ℕ) → tag ≡ 1 → d ≡ depth + 1 → d ≤ 100 → (d ≡ openAfter depth tag) × (d ≤ 100)
+unfolding openAfter
+opened depth tag d one e low = (rw one (omega (arith, e)), low)
+
+pub level : (depth tag d : ℕ) → (tag ≡ 1 → ⊥) → (tag ≡ 6 → ⊥) → d ≡ depth → d ≤ 100 → (d ≡ openAfter depth tag) × (d ≤ 100)
+unfolding openAfter
+level depth tag d n1 n6 e low = (rw (ne-eqb tag 1 n1, ne-eqb tag 6 n6) e, low)
+
 -- the tests of a field, each for itself
 record Parts (before depth tag : ℕ) (body : Bytes) : Type 0 where
   least : 1 ≤ tag
@@ -78,12 +90,12 @@ record Parts (before depth tag : ℕ) (body : Bytes) : Type 0 where
   utf8 : isUtf8 body ≡ true
 
 parts : (before depth tag : ℕ) (body : Bytes) → soundField before depth tag body ≡ true → Parts before depth tag body
-unfolding soundField
+unfolding soundField ruledField
 parts before depth tag body e =
-    let a = and-eq-true-iff (leb 1 tag && leb tag 6) _ .0 e in let b = and-eq-true-iff (leb 1 tag) (leb tag 6) .0 (a .0) in
-    let c = and-eq-true-iff (fieldRight before depth tag (length body)) _ .0 (a .1) in
-    let d = and-eq-true-iff (not (opensBlockquote tag body)) (isUtf8 body) .0 (c .1) in
-    record { least = leb-true 1 tag (b .0); most = leb-true tag 6 (b .1); right = c .0; other = d .0; utf8 = d .1 }
+    let u = and-eq-true-iff (ruledField before depth tag body) (isUtf8 body) .0 e in
+    let a = and-eq-true-iff (leb 1 tag && leb tag 6) _ .0 (u .0) in let b = and-eq-true-iff (leb 1 tag) (leb tag 6) .0 (a .0) in
+    let c = and-eq-true-iff (fieldRight before depth tag (length body)) (not (opensBlockquote tag body)) .0 (a .1) in
+    record { least = leb-true 1 tag (b .0); most = leb-true tag 6 (b .1); right = c .0; other = c .1; utf8 = u .1 }
 
 -- the field at p, whose n bytes end inside
 module _ (s : Bytes) (p n before depth count : ℕ) (h : p + 3 ≤ length s) (n-is : n ≡ lengthAt s p) (fit : n ≤ length s - (p + 3)) where
@@ -115,6 +127,26 @@ module _ (s : Bytes) (p n before depth count : ℕ) (h : p + 3 ≤ length s) (n-
         levels = rw d-is (depth-on s p depth (f .levels) h span span-is (f .low));
         plain = every-right noBlockquote s p (f .plain) span h span-is (k .other);
       }
+
+pub empty-close : (before depth n : ℕ) → fieldRight before depth 6 n ≡ true → (n ≡ 0) × (0 < depth)
+unfolding mayFollow isin noStray
+empty-close before depth n e =
+    let a = and-eq-true-iff (not (eqb before 2) && eqb n 0) (not (eqb depth 0)) .0 e in
+    let some = eqb-false depth 0 (not-true (eqb depth 0) (a .1)) in
+    (eqb-true n 0 (and-eq-true-iff (not (eqb before 2)) (eqb n 0) .0 (a .0) .1), omega (arith, some))
+
+-- the close at p: the next field begins behind its head
+pub on-close : (s : Bytes) (p n before depth count : ℕ) → p + 3 ≤ length s → n ≡ lengthAt s p → getD s p 0 ≡ 6
+    → fieldRight before depth 6 n ≡ true → SoFar s before depth count p → SoFar s (getD s p 0) (depth - 1) count (p + 3)
+unfolding openAfter isin
+on-close s p n before depth count h n-is tag-is right f =
+    let e = empty-close before depth n right in let none : p + 3 + 0 ≡ p + 3 = omega arith in
+    let long : length (take (p + 3 + 0 - (p + 3)) (drop (p + 3) s)) ≡ n =
+    part-length s (p + 3) (p + 3 + 0) (omega arith) (omega arith) ∙ omega (arith, e .0) in
+    rw none at
+    (on s p 0 before depth count h (sym (e .0) ∙ n-is) (omega arith) f
+    (rw (tag-is, of-close before depth (take (p + 3 + 0 - (p + 3)) (drop (p + 3) s)), long) right)
+    (depth - 1) count (rw tag-is refl) (omega (arith, f .low)) (rw tag-is refl) (omega arith))
 
 -- at the end of the fields
 pub sound : (s : Bytes) (p before depth count r : ℕ) → length s - p < 3 → SoFar s before depth count p

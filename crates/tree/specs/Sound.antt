@@ -10,10 +10,13 @@ use Rattle.spec.specs.Utf8.{isUtf8}
 use Rattle.spec.specs.Questions.{SkipList, nodeCount, question1, question2, question3, question4, question5, question6, question8, firstNo}
 use Rattle.tree.specs.Scans.{fieldRight, opensBlockquote}
 
--- what questions 2, 3, 4 and 6 ask of a field that ends inside the sheet, behind one with the tag `before` and with `depth` elements open
+-- what questions 2, 3 and 6 ask of a field that ends inside the sheet, behind one with the tag `before` and with `depth` elements open
+unfoldable pub ruledField : ℕ → ℕ → ℕ → Bytes → Bool
+ruledField before depth tag body = (leb 1 tag && leb tag 6) && (fieldRight before depth tag (length body) && not (opensBlockquote tag body))
+
+-- what question 4 asks, too
 unfoldable pub soundField : ℕ → ℕ → ℕ → Bytes → Bool
-soundField before depth tag body =
-    (leb 1 tag && leb tag 6) && (fieldRight before depth tag (length body) && (not (opensBlockquote tag body) && isUtf8 body))
+soundField before depth tag body = ruledField before depth tag body && isUtf8 body
 
 -- what the questions ask at the end of the fields, with `left` bytes behind them
 pub record Ended (left before depth count r : ℕ) : Type 0 where

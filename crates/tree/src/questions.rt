@@ -76,7 +76,7 @@ fn length_right(tag: u8, len: usize) -> bool
 }
 
 // How many elements are open behind a field.
-pub fn open_after(depth: usize, tag: u8) -> usize
+fn open_after(depth: usize, tag: u8) -> usize
     requires { ⌜ depth < 18446744073709551615 ⌝ }
     ensures { λ r. ⌜ (r ≡ openAfter depth tag) × (r ≤ depth + 1) ⌝ }
 {

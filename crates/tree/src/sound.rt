@@ -2,12 +2,12 @@
 ghost use mathlib.Core.Path.{_≡_};
 ghost use Prim.Native.Nat.{ℕ, _-_, _<_, _≤_};
 ghost use lib.ListN.{length, take, drop};
+ghost use Rattle.spec.specs.Bytes.{Bytes};
 ghost use Rattle.tree.specs.Scans.{fieldRight};
-ghost use Rattle.tree.specs.Sound.{soundField, Ended, Sound};
+ghost use Rattle.tree.specs.Sound.{ruledField, soundField, Ended, Sound};
 use crate::fields::is_same;
 use crate::fields::length_at;
 use crate::questions::count_after;
-use crate::questions::open_after;
 use crate::utf8::is_utf8_part;
 
 // Whether a close of `len` bytes keeps the rules.
@@ -17,71 +17,47 @@ fn is_sound_close(before: u8, depth: usize, len: usize) -> bool
     ((before != 2) & (len == 0)) & (depth != 0)
 }
 
-// Whether an element's name, the bytes from `start` to `end`, keeps the rules, is not `blockquote` and is UTF-8.
-fn is_sound_open(before: u8, s: &[u8], start: usize, end: usize) -> bool
-    requires { ⌜ (start ≤ end) × (end ≤ length (now s)) ⌝ }
-    ensures { λ r. ⌜ ((depth : ℕ) → r ≡ soundField before depth 1 (take (end - start) (drop start (now (s .entry))))) ⌝ }
-{
-    if before == 2 {
-        return false;
-    }
-    if end - start == 0 {
-        return false;
-    }
-    if is_same(&s[start..end], b"blockquote") {
-        return false;
-    }
-    is_utf8_part(s, start, end)
-}
-
-// The same as `is_sound`, for a field that is no name of an element, no text and no close.
-fn is_sound_other(before: u8, tag: u8, s: &[u8], start: usize, end: usize) -> bool
-    requires { ⌜ (start ≤ end) × (end ≤ length (now s)) × (tag ≡ 1 → ⊥) × (tag ≡ 4 → ⊥) × (tag ≡ 6 → ⊥) ⌝ }
-    ensures { λ r. ⌜ ((depth : ℕ) → r ≡ soundField before depth tag (take (end - start) (drop start (now (s .entry))))) ⌝ }
+// The same as `is_ruled`, for a field of `len` bytes that is no name of an element and no text.
+fn is_ruled_other(before: u8, tag: u8, len: usize) -> bool
+    requires { ⌜ (tag ≡ 1 → ⊥) × (tag ≡ 4 → ⊥) × (tag ≡ 6 → ⊥) ⌝ }
+    ensures { λ r. ⌜ ((depth : ℕ) (body : Bytes) → length body ≡ len → r ≡ ruledField before depth tag body) ⌝ }
 {
     if tag == 2 {
-        if end - start == 0 {
-            return false;
-        }
-        if (before == 1) | (before == 3) {
-            return is_utf8_part(s, start, end);
-        }
-        return false;
+        return (len != 0) & ((before == 1) | (before == 3));
     }
     if tag == 3 {
-        if before != 2 {
-            return false;
-        }
-        return is_utf8_part(s, start, end);
+        return before == 2;
     }
-    if tag != 5 {
-        return false;
-    }
-    if before == 2 {
-        return false;
-    }
-    is_utf8_part(s, start, end)
+    (tag == 5) & (before != 2)
 }
 
-// Whether a field with the bytes from `start` to `end` has a tag from 1 to 6, keeps the rules, opens no block quote and
-// is UTF-8. The tags that are met most come first.
-fn is_sound(before: u8, depth: usize, tag: u8, s: &[u8], start: usize, end: usize) -> bool
-    requires { ⌜ (start ≤ end) × (end ≤ length (now s)) ⌝ }
-    ensures { λ r. ⌜ r ≡ soundField before depth tag (take (end - start) (drop start (now (s .entry)))) ⌝ }
+// Whether a field with the bytes from `start` to `end`, which is no close, has a tag from 1 to 6, keeps the rules and
+// opens no block quote. The tags that are met most come first.
+fn is_ruled(before: u8, tag: u8, s: &[u8], start: usize, end: usize) -> bool
+    requires { ⌜ (start ≤ end) × (end ≤ length (now s)) × (tag ≡ 6 → ⊥) ⌝ }
+    ensures { λ r. ⌜ ((depth : ℕ) → r ≡ ruledField before depth tag (take (end - start) (drop start (now (s .entry))))) ⌝ }
 {
-    if tag == 6 {
-        return is_sound_close(before, depth, end - start);
-    }
     if tag == 4 {
-        if before == 2 {
-            return false;
-        }
-        return is_utf8_part(s, start, end);
+        return before != 2;
     }
     if tag == 1 {
-        return is_sound_open(before, s, start, end);
+        if (before == 2) | (end - start == 0) {
+            return false;
+        }
+        return !is_same(&s[start..end], b"blockquote");
     }
-    is_sound_other(before, tag, s, start, end)
+    is_ruled_other(before, tag, end - start)
+}
+
+// Whether such a field is UTF-8, too. That is asked first and in one place, whatever the tag.
+fn is_sound(before: u8, tag: u8, s: &[u8], start: usize, end: usize) -> bool
+    requires { ⌜ (start ≤ end) × (end ≤ length (now s)) × (tag ≡ 6 → ⊥) ⌝ }
+    ensures { λ r. ⌜ ((depth : ℕ) → r ≡ soundField before depth tag (take (end - start) (drop start (now (s .entry))))) ⌝ }
+{
+    if !is_utf8_part(s, start, end) {
+        return false;
+    }
+    is_ruled(before, tag, s, start, end)
 }
 
 // The count, where nothing is left over behind the fields, no name stands last, every element is closed and the count
@@ -104,13 +80,12 @@ fn count_at_end(left: usize, before: u8, depth: usize, count: usize) -> usize
     count
 }
 
-// The nodes of a sheet that questions 1 to 6 let pass; 0 where one of them may say no.
-pub fn sound_count(s: &[u8]) -> usize
+// The same as `sound_count`, for a sheet of at most 1,048,576 bytes. Behind a close the next field begins at once: its
+// place needs no length.
+fn count_of_short(s: &[u8]) -> usize
+    requires { ⌜ length (now s) ≤ 1048576 ⌝ }
     ensures { λ r. ⌜ (0 < r → Sound (now (s .entry)) r) ⌝ }
 {
-    if 1048576 < s.len() {
-        return 0;
-    }
     let mut before = 0u8;
     let mut depth = 0;
     let mut count = 0;
@@ -119,20 +94,41 @@ pub fn sound_count(s: &[u8]) -> usize
         let n = length_at(s, p);
         let tag = s[p];
         let start = p + 3;
+        if tag == 6 {
+            if !is_sound_close(before, depth, n) {
+                return 0;
+            }
+            depth -= 1;
+            before = tag;
+            p = start;
+            continue;
+        }
         if s.len() - start < n {
             return 0;
         }
         let end = start + n;
-        if !is_sound(before, depth, tag, s, start, end) {
+        if !is_sound(before, tag, s, start, end) {
             return 0;
         }
-        depth = open_after(depth, tag);
-        if 100 < depth {
-            return 0;
+        if tag == 1 {
+            if 100 <= depth {
+                return 0;
+            }
+            depth += 1;
         }
         count = count_after(count, tag);
         before = tag;
         p = end;
     }
     count_at_end(s.len() - p, before, depth, count + 1)
+}
+
+// The nodes of a sheet that questions 1 to 6 let pass; 0 where one of them may say no.
+pub fn sound_count(s: &[u8]) -> usize
+    ensures { λ r. ⌜ (0 < r → Sound (now (s .entry)) r) ⌝ }
+{
+    if 1048576 < s.len() {
+        return 0;
+    }
+    count_of_short(s)
 }

@@ -247,18 +247,28 @@ fn is_utf8_long(s: &[u8], from: usize, to: usize) -> bool
     is_well_formed(&s[from..to])
 }
 
-// The same. Most fields are short, and one block of 16 bytes, which may reach behind `to`, holds all of theirs.
-pub fn is_utf8_part(s: &[u8], from: usize, to: usize) -> bool
+// Whether the bytes from `from` to `to` are at most 16, and ASCII with those behind them up to 16.
+fn is_short_ascii(s: &[u8], from: usize, to: usize) -> bool
     requires { ⌜ (from ≤ to) × (to ≤ length (now s)) ⌝ }
-    ensures { λ r. ⌜ r ≡ isUtf8 (take (to - from) (drop from (now (s .entry)))) ⌝ }
+    ensures { λ r. ⌜ (r ≡ true → every isAscii (take (to - from) (drop from (now (s .entry)))) ≡ true) ⌝ }
 {
     if to - from <= 16 {
         if 16 <= s.len() - from {
             let end = from + 16;
-            if is_ascii(&s[from..end]) {
-                return true;
-            }
+            return is_ascii(&s[from..end]);
         }
+    }
+    false
+}
+
+// The same as `is_utf8_long`. Most fields are short, and one block of 16 bytes, which may reach behind `to`, holds all of
+// theirs.
+pub fn is_utf8_part(s: &[u8], from: usize, to: usize) -> bool
+    requires { ⌜ (from ≤ to) × (to ≤ length (now s)) ⌝ }
+    ensures { λ r. ⌜ r ≡ isUtf8 (take (to - from) (drop from (now (s .entry)))) ⌝ }
+{
+    if is_short_ascii(s, from, to) {
+        return true;
     }
     is_utf8_long(s, from, to)
 }

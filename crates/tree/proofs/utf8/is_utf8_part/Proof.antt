@@ -1,39 +1,14 @@
 -- `tree::utf8::is_utf8_part` meets its contract. Assumes nothing.
-use Prim.Native.Nat.{_+_, _-_}
-use mathlib.Core.Path.{_≡_, refl, sym, _∙_}
-use Rattle.spec.specs.Bytes.{every}
-use Rattle.tree.proofs.Sequences.{ascii-block, all-ascii}
-use native.Mathlib.Omega.{arith}
+use Rattle.tree.proofs.Sequences.{all-ascii}
 use borrow.Author.Needs.{needs}
 use Rattle.tree.proofs.utf8.is_utf8_part.Statement.{statement}
 use Rattle.tree.proofs.utf8.is_utf8_part.Tie as tie
 
-sub-if1 : tie.Need-sub-if1
-sub-if1 c = search needs
-
-sub-if2 : tie.Need-sub-if2
-sub-if2 c = search needs
-
-add-end : tie.Need-add-end
-add-end c = search needs
-
-sub-is-ascii : tie.Need-sub-is-ascii
-sub-is-ascii c = search needs
-
-part-is-ascii-start : tie.Need-part-is-ascii-start
-part-is-ascii-start c = search needs
-
-part-is-ascii-end : tie.Need-part-is-ascii-end
-part-is-ascii-end c = search needs
-
-is-ascii-requires : tie.Need-is-ascii-requires
-is-ascii-requires c κs = search needs
+is-short-ascii-requires : tie.Need-is-short-ascii-requires
+is-short-ascii-requires c κs = search needs
 
 returns : tie.Need-returns
-unfolding every
-returns c =
-    let a = c .before .before .before .before .before .before .args in let none : a .to - (a .from + 16) ≡ 0 = omega arith in
-    all-ascii _ (ascii-block (a .s .now) (a .from) (a .to) (sym (c .before .is-ascii .ensures) ∙ c .if3 .taken) (rw none refl))
+returns c = all-ascii _ (c .before .is-short-ascii .ensures (c .if1 .taken))
 
 is-utf8-long-requires : tie.Need-is-utf8-long-requires
 is-utf8-long-requires c κs = search needs
@@ -42,16 +17,4 @@ returns-2 : tie.Need-returns-2
 returns-2 c = search needs
 
 pub is-utf8-part-spec : {M : Type 1} → statement M
-is-utf8-part-spec =
-    tie.close
-    (tie.spec
-    sub-if1
-    sub-if2
-    add-end
-    sub-is-ascii
-    part-is-ascii-start
-    part-is-ascii-end
-    is-ascii-requires
-    returns
-    is-utf8-long-requires
-    returns-2)
+is-utf8-part-spec = tie.close (tie.spec is-short-ascii-requires returns is-utf8-long-requires returns-2)
