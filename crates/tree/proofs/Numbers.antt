@@ -27,21 +27,21 @@ quad-same a b j g =
     let q : wordAt b (j + 2) ≡ wordAt a (j + 2) = word-same a b (j + 2) (λ i l h. g i (omega arith) (omega arith)) in
     cc
 
-pub stored-word : (a : Bytes) (j v : ℕ) → j + 1 < length a → Stored wordAt 2 j v a (set (set a j (v / 256)) (j + 1) (v % 256))
+pub stored-word : (a : Bytes) (j v : ℕ) → j + 1 < length a → Stored wordAt 2 j v a (set (set a j (v % 256)) (j + 1) (v / 256))
 unfolding wordAt word
 stored-word a j v h =
-    let p : getD (set (set a j (v / 256)) (j + 1) (v % 256)) j 0 ≡ v / 256 =
-    getD-set-other (set a j (v / 256)) (j + 1) j (v % 256) 0 (λ e. omega arith) ∙ getD-set-same a j (v / 256) 0 (omega arith) in
-    let q : getD (set (set a j (v / 256)) (j + 1) (v % 256)) (j + 1) 0 ≡ v % 256 =
-    getD-set-same (set a j (v / 256)) (j + 1) (v % 256) 0 (simp length-set h) in
+    let p : getD (set (set a j (v % 256)) (j + 1) (v / 256)) j 0 ≡ v % 256 =
+    getD-set-other (set a j (v % 256)) (j + 1) j (v / 256) 0 (λ e. omega arith) ∙ getD-set-same a j (v % 256) 0 (omega arith) in
+    let q : getD (set (set a j (v % 256)) (j + 1) (v / 256)) (j + 1) 0 ≡ v / 256 =
+    getD-set-same (set a j (v % 256)) (j + 1) (v / 256) 0 (simp length-set h) in
     record {
       same-long = simp length-set;
       value = omega arith;
-      before = λ i l. getD-set-other (set a j (v / 256)) (j + 1) i (v % 256) 0 (λ e. omega arith) ∙ getD-set-other a j i (v / 256) 0 (λ e. omega arith);
-      behind = λ i l. getD-set-other (set a j (v / 256)) (j + 1) i (v % 256) 0 (λ e. omega arith) ∙ getD-set-other a j i (v / 256) 0 (λ e. omega arith);
+      before = λ i l. getD-set-other (set a j (v % 256)) (j + 1) i (v / 256) 0 (λ e. omega arith) ∙ getD-set-other a j i (v % 256) 0 (λ e. omega arith);
+      behind = λ i l. getD-set-other (set a j (v % 256)) (j + 1) i (v / 256) 0 (λ e. omega arith) ∙ getD-set-other a j i (v % 256) 0 (λ e. omega arith);
     }
 
-pub stored-quad : {a b c : Bytes} {j : ℕ} (v : ℕ) → Stored wordAt 2 j (v / 65536) a b → Stored wordAt 2 (j + 2) (v % 65536) b c → Stored quadAt 4 j v a c
+pub stored-quad : {a b c : Bytes} {j : ℕ} (v : ℕ) → Stored wordAt 2 j (v % 65536) a b → Stored wordAt 2 (j + 2) (v / 65536) b c → Stored quadAt 4 j v a c
 unfolding quadAt
 stored-quad {a} {b} {c} {j} v p q =
     let e : wordAt c j ≡ wordAt b j = word-same b c j (λ i l h. q .before i h) in
@@ -52,7 +52,7 @@ stored-quad {a} {b} {c} {j} v p q =
       behind = λ i l. q .behind i (omega arith) ∙ p .behind i (omega arith);
     }
 
-pub stored-long : {a b c : Bytes} {j : ℕ} (v : ℕ) → Stored quadAt 4 j (v / 4294967296) a b → Stored quadAt 4 (j + 4) (v % 4294967296) b c → Stored longAt 8 j v a c
+pub stored-long : {a b c : Bytes} {j : ℕ} (v : ℕ) → Stored quadAt 4 j (v % 4294967296) a b → Stored quadAt 4 (j + 4) (v / 4294967296) b c → Stored longAt 8 j v a c
 unfolding longAt
 stored-long {a} {b} {c} {j} v p q =
     let e : quadAt c j ≡ quadAt b j = quad-same b c j (λ i l h. q .before i h) in

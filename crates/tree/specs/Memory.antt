@@ -5,15 +5,15 @@ use lib.ListN.{length, getD}
 use Rattle.spec.specs.Bytes.{Bytes}
 use Rattle.spec.specs.Fields.{word}
 
--- two, four and eight bytes at j, the most significant first
+-- two, four and eight bytes at j, the least significant first
 unfoldable pub wordAt : Bytes → ℕ → ℕ
-wordAt m j = word (getD m j 0) (getD m (j + 1) 0)
+wordAt m j = word (getD m (j + 1) 0) (getD m j 0)
 
 unfoldable pub quadAt : Bytes → ℕ → ℕ
-quadAt m j = wordAt m j * 65536 + wordAt m (j + 2)
+quadAt m j = wordAt m (j + 2) * 65536 + wordAt m j
 
 unfoldable pub longAt : Bytes → ℕ → ℕ
-longAt m j = quadAt m j * 4294967296 + quadAt m (j + 4)
+longAt m j = quadAt m (j + 4) * 4294967296 + quadAt m j
 
 -- v stands in the w bytes at j, where `read` reads it, and all else is as it was
 pub record Stored (read : Bytes → ℕ → ℕ) (w j v : ℕ) (a b : Bytes) : Type 0 where

@@ -1,4 +1,4 @@
-// Numbers in lent memory, the more significant bytes first.
+// Numbers in lent memory, the less significant bytes first.
 ghost use mathlib.Core.Path.{_≡_};
 ghost use Prim.Native.Nat.{_+_, _<_};
 ghost use lib.ListN.{length, replicate};
@@ -10,7 +10,7 @@ pub fn read_word(ns: &[u8], j: usize) -> usize
     requires { ⌜ j + 1 < length (now ns) ⌝ }
     ensures { λ r. ⌜ (r ≡ wordAt (now (ns .entry)) j) × (r < 65536) ⌝ }
 {
-    wide(ns[j]) * 256 + wide(ns[j + 1])
+    wide(ns[j + 1]) * 256 + wide(ns[j])
 }
 
 // The four bytes at j.
@@ -18,7 +18,7 @@ pub fn read_quad(ns: &[u8], j: usize) -> usize
     requires { ⌜ j + 3 < length (now ns) ⌝ }
     ensures { λ r. ⌜ (r ≡ quadAt (now (ns .entry)) j) × (r < 4294967296) ⌝ }
 {
-    read_word(ns, j) * 65536 + read_word(ns, j + 2)
+    read_word(ns, j + 2) * 65536 + read_word(ns, j)
 }
 
 // The eight bytes at j.
@@ -26,7 +26,7 @@ pub fn read_long(ns: &[u8], j: usize) -> usize
     requires { ⌜ j + 7 < length (now ns) ⌝ }
     ensures { λ r. ⌜ r ≡ longAt (now (ns .entry)) j ⌝ }
 {
-    read_quad(ns, j) * 4294967296 + read_quad(ns, j + 4)
+    read_quad(ns, j + 4) * 4294967296 + read_quad(ns, j)
 }
 
 // Stores v in the two bytes at j.
@@ -34,8 +34,8 @@ pub fn store_word(ns: &mut [u8], j: usize, v: usize)
     requires { ⌜ (j + 1 < length (now ns)) × (v < 65536) ⌝ }
     ensures { λ _. ⌜ Stored wordAt 2 j v (now (ns .entry)) (now (ns .exit)) ⌝ }
 {
-    ns[j] = (v / 256) as u8;
-    ns[j + 1] = (v % 256) as u8;
+    ns[j] = (v % 256) as u8;
+    ns[j + 1] = (v / 256) as u8;
 }
 
 // Stores v in the four bytes at j.
@@ -43,8 +43,8 @@ pub fn store_quad(ns: &mut [u8], j: usize, v: usize)
     requires { ⌜ (j + 3 < length (now ns)) × (v < 4294967296) ⌝ }
     ensures { λ _. ⌜ Stored quadAt 4 j v (now (ns .entry)) (now (ns .exit)) ⌝ }
 {
-    store_word(ns, j, v / 65536);
-    store_word(ns, j + 2, v % 65536);
+    store_word(ns, j, v % 65536);
+    store_word(ns, j + 2, v / 65536);
 }
 
 // Stores v in the eight bytes at j.
@@ -52,8 +52,8 @@ pub fn store_long(ns: &mut [u8], j: usize, v: usize)
     requires { ⌜ j + 7 < length (now ns) ⌝ }
     ensures { λ _. ⌜ Stored longAt 8 j v (now (ns .entry)) (now (ns .exit)) ⌝ }
 {
-    store_quad(ns, j, v / 4294967296);
-    store_quad(ns, j + 4, v % 4294967296);
+    store_quad(ns, j, v % 4294967296);
+    store_quad(ns, j + 4, v / 4294967296);
 }
 
 // Clears a memory.

@@ -26,4 +26,4 @@ add-result : tie.Need-add-result
 add-result c = search needs
 
 pub read-long-spec : {M : Type 1} → statement M
-read-long-spec = tie.close (tie.spec read-quad-requires mul-result add-read-quad read-quad-requires-2 add-result returns)
+read-long-spec = tie.close (tie.spec add-read-quad read-quad-requires mul-result read-quad-requires-2 add-result returns)

@@ -26,4 +26,4 @@ add-result : tie.Need-add-result
 add-result c = search needs
 
 pub read-quad-spec : {M : Type 1} → statement M
-read-quad-spec = tie.close (tie.spec read-word-requires mul-result add-read-word read-word-requires-2 add-result returns)
+read-quad-spec = tie.close (tie.spec add-read-word read-word-requires mul-result read-word-requires-2 add-result returns)

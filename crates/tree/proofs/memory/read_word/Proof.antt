@@ -33,4 +33,4 @@ add-result : tie.Need-add-result
 add-result c = search needs
 
 pub read-word-spec : {M : Type 1} → statement M
-read-word-spec = tie.close (tie.spec shared-slice-read-wide wide-requires mul-result add-wide shared-slice-read-wide-2 wide-requires-2 add-result returns)
+read-word-spec = tie.close (tie.spec add-wide shared-slice-read-wide wide-requires mul-result shared-slice-read-wide-2 wide-requires-2 add-result returns)
