@@ -5,7 +5,7 @@ use mathlib.Core.Path.{_≡_, _∙_}
 use borrow.Author.Tests.{eq-eqb, ne-eqb}
 use Rattle.spec.specs.Bytes.{Bytes}
 use Rattle.tree.specs.Memory.{wordAt, quadAt, Stored}
-use Rattle.tree.specs.Kinds.{opens, closes, texts, comments, kindOf, Placed}
+use Rattle.tree.specs.Kinds.{opens, texts, comments, kindOf, Placed}
 use Rattle.tree.proofs.Numbers.{word-same, quad-same}
 
 pub placed : (i entry end parent : ℕ) {a b c d : Bytes} → Stored quadAt 4 (i * 24) entry a b → Stored wordAt 2 (i * 24 + 4) end b c
@@ -24,14 +24,10 @@ module _ (tag : ℕ) where
   pub is-open : tag ≡ 1 → kindOf tag ≡ opens
   is-open e = rw (eq-eqb tag 1 e)
 
-  module _ (n1 : tag ≡ 1 → ⊥) where
-    pub is-close : tag ≡ 6 → kindOf tag ≡ closes
-    is-close e = rw (ne-eqb tag 1 n1, eq-eqb tag 6 e)
+  module _ (n1 : tag ≡ 1 → ⊥) (n6 : tag ≡ 6 → ⊥) where
+    pub is-text : tag ≡ 4 → kindOf tag ≡ texts
+    is-text e = rw (ne-eqb tag 1 n1, ne-eqb tag 6 n6, eq-eqb tag 4 e)
 
-    module _ (n6 : tag ≡ 6 → ⊥) where
-      pub is-text : tag ≡ 4 → kindOf tag ≡ texts
-      is-text e = rw (ne-eqb tag 1 n1, ne-eqb tag 6 n6, eq-eqb tag 4 e)
-
-      module _ (n4 : tag ≡ 4 → ⊥) where
-        pub is-comment : tag ≡ 5 → kindOf tag ≡ comments
-        is-comment e = rw (ne-eqb tag 1 n1, ne-eqb tag 6 n6, ne-eqb tag 4 n4, eq-eqb tag 5 e)
+    module _ (n4 : tag ≡ 4 → ⊥) where
+      pub is-comment : tag ≡ 5 → kindOf tag ≡ comments
+      is-comment e = rw (ne-eqb tag 1 n1, ne-eqb tag 6 n6, ne-eqb tag 4 n4, eq-eqb tag 5 e)

@@ -25,7 +25,7 @@ null-length (b ∷ s) = sym (eqb·suc-zero (length s))
 pub part-length : (s : Bytes) (a b : ℕ) → a ≤ b → b ≤ length s → length (take (b - a) (drop a s)) ≡ b - a
 part-length s a b p q = omega (arith, length-take (b - a) (drop a s), length-drop a s)
 
-right-length : (s : Bytes) (p : ℕ) → p + 3 ≤ length s
+pub right-length : (s : Bytes) (p : ℕ) → p + 3 ≤ length s
     → rightLength (fieldOf s (spanAt s p)) ≡ lengthRight (getD s p 0) (endOf s p - (p + 3))
 unfolding rightLength
 right-length s p h =

@@ -5,16 +5,18 @@ use mathlib.Core.Path.{_≡_, refl, _∙_, sym, subst, subst₂}
 use mathlib.Core.Bool.{Bool, true, false, cond, not, _&&_, _||_, and-eq-true-iff, false≢true}
 use mathlib.Core.List.{List, [], _∷_}
 use lib.ListN.{length, getD, drop, length-drop}
-use lib.Dec.{eqb}
+use lib.Dec.{eqb, ltb}
 use borrow.Author.Tests.{eqb-true}
 use Rattle.spec.specs.Bytes.{Bytes, isin}
 use Rattle.spec.specs.Fields.{Field, fields, fields-short}
 use Rattle.spec.specs.Questions.{mayFollow, rightLength, noStray, openAfter, keepRules, stillOpen, nodesIn, nodeCount}
-use Rattle.tree.specs.Spans.{lengthAt, spanAt, fieldOf}
+use Rattle.tree.specs.Spans.{lengthAt, endOf, spanAt, fieldOf}
+use Rattle.tree.specs.Scans.{lengthRight}
 use Rattle.tree.specs.Memory.{wordAt, Stored, endAt, parentAt}
 use Rattle.tree.specs.Kinds.{Kind, opens, closes, texts, comments, aside, kindBy, kindOf, Placed, FitsAs, TurnedAs, Storable}
 use Rattle.tree.specs.declared.store.Turn.{Turn}
-use Rattle.tree.proofs.Walking.{span-fields, past-end}
+use Rattle.tree.proofs.Walking.{span-fields, past-end, end-bounds}
+use Rattle.tree.proofs.Rules.{right-length}
 use Rattle.spec.specs.Tree.{treeOf}
 use Rattle.tree.specs.Represents.{entryOf, Holds}
 use Rattle.tree.proofs.Telling.{Recorded, ToldAs, Told, RepAll, told-all}
@@ -186,6 +188,14 @@ fits-by texts n m k cur a e below few room = (omega arith, omega arith, omega ar
 fits-by comments n m k cur a e below few room = (omega arith, omega arith, omega arith)
 fits-by aside n m k cur a e below few room = tt
 
+-- where nothing is left, storing has come to any place that is near the end or behind it
+moved : (sh ns : Bytes) (p q k cur : ℕ) → length sh - p < 3 → length sh - q < 3 → Storing sh ns p k cur → Storing sh ns q k cur
+unfolding Told
+moved sh ns p q k cur h g s =
+    let e : fields (drop p sh) ≡ [] = fields-short (drop p sh) (omega (arith, length-drop p sh)) in
+    let f : fields (drop q sh) ≡ [] = fields-short (drop q sh) (omega (arith, length-drop q sh)) in
+    rw f (rw e at s)
+
 -- the field at p, behind which storing goes on where its length says
 module _ (sh a : Bytes) (p k cur : ℕ) (s : Storing sh a p k cur) (h : p + 3 ≤ length sh) (room : Storable sh (length a)) where
   abbrev behind : List Field
@@ -222,6 +232,43 @@ module _ (sh a : Bytes) (p k cur : ℕ) (s : Storing sh a p k cur) (h : p + 3 �
             (eqb tag 1) (eqb tag 6) (eqb tag 4) (eqb tag 5) a b v k cur (g .around) t (g .root) (kept .0) (kept .1) shut counted-by (g .chain) (g .below)
             (λ c l told. g .rest c l (rw (all-left, ← v-is) told)) fits-field turned,
       )
+
+  -- a close keeps the rules, so that nothing is in it
+  close-end : getD sh p 0 ≡ 6 → endOf sh p ≡ p + 3
+  unfolding keepRules isin
+  close-end six =
+      let f : Field = fieldOf sh (spanAt sh p) in
+      let tag : ℕ = getD sh p 0 in
+      let d : ℕ = length (s .1 .around) in
+      let rules : keepRules (s .0) d (f ∷ behind) ≡ true = rw all-left at (s .1 .rules) in
+      let right : rightLength f ≡ true =
+      and-eq-true-iff (mayFollow (s .0) tag) (rightLength f) .0
+      (and-eq-true-iff (mayFollow (s .0) tag && rightLength f) (noStray d tag && keepRules tag (openAfter d tag) behind) .0 rules .0) .1 in
+      let none : lengthRight 6 (endOf sh p - (p + 3)) ≡ true =
+      subst (λ (x : ℕ). lengthRight x (endOf sh p - (p + 3)) ≡ true) six (sym (right-length sh p h) ∙ right) in
+      let nothing : endOf sh p - (p + 3) ≡ 0 = eqb-true (endOf sh p - (p + 3)) 0 none in
+      omega (arith, nothing, end-bounds sh p h .0)
+
+  pub fits-close : getD sh p 0 ≡ 6 → FitsAs closes k cur a
+  fits-close six = subst (λ (x : ℕ). FitsAs (kindOf x) k cur a) six fits-field
+
+  -- behind a close storing goes on behind its head
+  pub stored-close : getD sh p 0 ≡ 6 → (b : Bytes) (up : ℕ) → Stored wordAt 2 (cur * 24 + 4) k a b → up ≡ parentAt a cur
+      → Storing sh b (p + 3) k up
+  stored-close six b up end up-is = go (ltb (length sh - (p + 3)) (lengthAt sh p)) refl (close-end six)
+    where
+      turn : Turn
+      turn = record { count = k; cur = up }
+
+      next : Storing sh b (p + 3 + lengthAt sh p) k up
+      next =
+          stored-on (lengthAt sh p) (entryOf sh p) refl refl b turn
+          (subst (λ (x : ℕ). TurnedAs (kindOf x) (entryOf sh p) k cur a b turn) (sym six) (end, refl, up-is))
+
+      go : (t : Bool) → ltb (length sh - (p + 3)) (lengthAt sh p) ≡ t → cond t (length sh) (p + 3 + lengthAt sh p) ≡ p + 3
+          → Storing sh b (p + 3) k up
+      go true e q = moved sh b (p + 3 + lengthAt sh p) (p + 3) k up (omega (arith, q)) (omega (arith, q)) next
+      go false e q = subst (λ (x : ℕ). Storing sh b x k up) q next
 
 -- ---- beginning and end
 

@@ -3,7 +3,7 @@ ghost use mathlib.Core.Path.{_≡_};
 ghost use Prim.Native.Nat.{_+_, _*_, _≤_, _<_};
 ghost use lib.ListN.{length};
 ghost use Rattle.spec.specs.Questions.{nodeCount};
-ghost use Rattle.tree.specs.Memory.{parentAt};
+ghost use Rattle.tree.specs.Memory.{wordAt, Stored, parentAt};
 ghost use Rattle.tree.specs.Represents.{entryOf, Holds};
 ghost use Rattle.tree.specs.Kinds.{kindOf, Placed, FitsAs, TurnedAs, Storable};
 use crate::fields::length_at;
@@ -28,9 +28,19 @@ fn store_record(ns: &mut [u8], i: usize, entry: usize, end: usize, parent: usize
     store_word(ns, i * 24 + 6, parent);
 }
 
-// Stores what a field with this tag and this entry says of the nodes.
+// Stores that the node `cur` ends before the node with the number `count`, and says its parent.
+fn close_node(ns: &mut [u8], count: usize, cur: usize) -> usize
+    requires { ⌜ (cur * 24 + 24 ≤ length (now ns)) × (count < 65536) ⌝ }
+    ensures { λ r. ⌜ Stored wordAt 2 (cur * 24 + 4) count (now (ns .entry)) (now (ns .exit)) × (r ≡ parentAt (now (ns .entry)) cur) ⌝ }
+{
+    let up = read_word(ns, cur * 24 + 6);
+    store_word(ns, cur * 24 + 4, count);
+    up
+}
+
+// Stores what a field with this tag and this entry, which is no close, says of the nodes.
 fn store_field(ns: &mut [u8], tag: u8, entry: usize, count: usize, cur: usize) -> Turn
-    requires { ⌜ (entry < 4294967296) × FitsAs (kindOf tag) count cur (now ns) ⌝ }
+    requires { ⌜ (entry < 4294967296) × FitsAs (kindOf tag) count cur (now ns) × (tag ≡ 6 → ⊥) ⌝ }
     ensures { λ r. ⌜ TurnedAs (kindOf tag) entry count cur (now (ns .entry)) (now (ns .exit)) r ⌝ }
 {
     if tag == 1 {
@@ -38,14 +48,6 @@ fn store_field(ns: &mut [u8], tag: u8, entry: usize, count: usize, cur: usize) -
         return Turn {
             count: count + 1,
             cur: count,
-        };
-    }
-    if tag == 6 {
-        let up = read_word(ns, cur * 24 + 6);
-        store_word(ns, cur * 24 + 4, count);
-        return Turn {
-            count: count,
-            cur: up,
         };
     }
     if tag == 4 {
@@ -84,10 +86,16 @@ fn store_rest(sheet: &[u8], nodes: &mut [u8]) -> usize
     let mut count = 1;
     let mut cur = 0;
     let mut p = 0;
-    // Behind a field that is cut off nothing is left, so that no test is needed where it ends.
+    // Behind a field that is cut off nothing is left, so that no test is needed where it ends. A close holds nothing, so
+    // that its length is not read.
     while p + 3 <= sheet.len() {
-        let n = length_at(sheet, p);
         let tag = sheet[p];
+        if tag == 6 {
+            cur = close_node(nodes, count, cur);
+            p += 3;
+            continue;
+        }
+        let n = length_at(sheet, p);
         let entry = entry_of(sheet, p);
         let t = store_field(nodes, tag, entry, count, cur);
         count = t.count;

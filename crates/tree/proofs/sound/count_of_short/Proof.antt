@@ -89,7 +89,7 @@ loop-again-2 c =
     ⊎-elim (λ w. opened (l .depth) _ d (w .0 .taken) (omega arith) (omega arith))
     (λ w. level (l .depth) _ d (w .0 .left) (c .before .before .before .before .before .if1 .left) (omega arith) (omega arith)) (c .before .if5 .came) in
     on s (l .p) (n .result) (l .before) (l .depth) (l .count) (omega arith) (n .ensures .0) (omega arith) (l .inv)
-    (sym (c .before .before .before .is-sound .ensures (l .depth)) ∙ not-false _ (c .before .before .if4 .left))
+    (rw (c .before .before .before .is-sound .ensures (l .depth)) at (not-false (c .before .before .before .is-sound .result) (c .before .before .if4 .left)))
     d (c .count-after .result) (o .0) (o .1) (c .count-after .ensures .0) (c .count-after .ensures .1)
 
 sub-count-at-end : tie.Need-sub-count-at-end Inv-loop μ-loop

@@ -2,7 +2,7 @@
 use mathlib.Core.Path.{subst, refl}
 use borrow.Author.Tests.{eq-eqb, ne-eqb}
 use Rattle.tree.specs.Kinds.{Kind, FitsAs}
-use Rattle.tree.proofs.Placing.{is-open, is-close, is-text, is-comment}
+use Rattle.tree.proofs.Placing.{is-open, is-text, is-comment}
 use borrow.Author.Needs.{needs}
 use native.Mathlib.Omega.{arith}
 use Rattle.tree.proofs.store.store_field.Statement.{statement}
@@ -20,82 +20,46 @@ store-record-requires c κs =
     let fits = subst (λ (k : Kind). FitsAs k (a .count) (a .cur) (a .ns .now)) (is-open (a .tag) (c .before .if1 .taken)) (c .before .before .before .pre .1) in
     omega (arith, fits, c .before .before .before .pre .0)
 
-add-store-record-2 : tie.Need-add-store-record-2
-add-store-record-2 c =
-    let a = c .before .before .before .before .before .args in
-    let fits = subst (λ (k : Kind). FitsAs k (a .count) (a .cur) (a .ns .now)) (is-text (a .tag) (c .before .before .before .if1 .left) (c .before .before .if2 .left) (c .before .if3 .taken)) (c .before .before .before .before .before .pre .1) in
-    omega (arith, fits)
-
-store-record-requires-2 : tie.Need-store-record-requires-2
-store-record-requires-2 c κs =
-    let a = c .before .before .before .before .before .args in
-    let fits = subst (λ (k : Kind). FitsAs k (a .count) (a .cur) (a .ns .now)) (is-text (a .tag) (c .before .before .before .if1 .left) (c .before .before .if2 .left) (c .before .if3 .taken)) (c .before .before .before .before .before .pre .1) in
-    omega (arith, fits, c .before .before .before .before .before .pre .0)
-
-add-store-record-3 : tie.Need-add-store-record-3
-add-store-record-3 c =
-    let a = c .before .before .before .before .before .before .args in
-    let fits = subst (λ (k : Kind). FitsAs k (a .count) (a .cur) (a .ns .now)) (is-comment (a .tag) (c .before .before .before .before .if1 .left) (c .before .before .before .if2 .left) (c .before .before .if3 .left) (c .before .if4 .taken)) (c .before .before .before .before .before .before .pre .1) in
-    omega (arith, fits)
-
-store-record-requires-3 : tie.Need-store-record-requires-3
-store-record-requires-3 c κs =
-    let a = c .before .before .before .before .before .before .args in
-    let fits = subst (λ (k : Kind). FitsAs k (a .count) (a .cur) (a .ns .now)) (is-comment (a .tag) (c .before .before .before .before .if1 .left) (c .before .before .before .if2 .left) (c .before .before .if3 .left) (c .before .if4 .taken)) (c .before .before .before .before .before .before .pre .1) in
-    omega (arith, fits, c .before .before .before .before .before .before .pre .0)
-
-add-t11 : tie.Need-add-t11
-add-t11 c =
+add-t10 : tie.Need-add-t10
+add-t10 c =
     let a = c .before .before .before .before .before .before .args in
     let fits = subst (λ (k : Kind). FitsAs k (a .count) (a .cur) (a .ns .now)) (is-open (a .tag) (c .before .before .before .before .if1 .taken)) (c .before .before .before .before .before .before .pre .1) in
     omega (arith, fits)
 
-add-t22 : tie.Need-add-t22
-add-t22 c =
+add-store-record-2 : tie.Need-add-store-record-2
+add-store-record-2 c =
+    let a = c .before .before .before .before .args in
+    let fits = subst (λ (k : Kind). FitsAs k (a .count) (a .cur) (a .ns .now)) (is-text (a .tag) (c .before .before .if1 .left) (c .before .before .before .before .pre .2) (c .before .if2 .taken)) (c .before .before .before .before .pre .1) in
+    omega (arith, fits)
+
+store-record-requires-2 : tie.Need-store-record-requires-2
+store-record-requires-2 c κs =
+    let a = c .before .before .before .before .args in
+    let fits = subst (λ (k : Kind). FitsAs k (a .count) (a .cur) (a .ns .now)) (is-text (a .tag) (c .before .before .if1 .left) (c .before .before .before .before .pre .2) (c .before .if2 .taken)) (c .before .before .before .before .pre .1) in
+    omega (arith, fits, c .before .before .before .before .pre .0)
+
+add-t14 : tie.Need-add-t14
+add-t14 c =
+    let a = c .before .before .before .before .before .before .before .args in
+    let fits = subst (λ (k : Kind). FitsAs k (a .count) (a .cur) (a .ns .now)) (is-text (a .tag) (c .before .before .before .before .before .if1 .left) (c .before .before .before .before .before .before .before .pre .2) (c .before .before .before .before .if2 .taken)) (c .before .before .before .before .before .before .before .pre .1) in
+    omega (arith, fits)
+
+add-store-record-3 : tie.Need-add-store-record-3
+add-store-record-3 c =
+    let a = c .before .before .before .before .before .args in
+    let fits = subst (λ (k : Kind). FitsAs k (a .count) (a .cur) (a .ns .now)) (is-comment (a .tag) (c .before .before .before .if1 .left) (c .before .before .before .before .before .pre .2) (c .before .before .if2 .left) (c .before .if3 .taken)) (c .before .before .before .before .before .pre .1) in
+    omega (arith, fits)
+
+store-record-requires-3 : tie.Need-store-record-requires-3
+store-record-requires-3 c κs =
+    let a = c .before .before .before .before .before .args in
+    let fits = subst (λ (k : Kind). FitsAs k (a .count) (a .cur) (a .ns .now)) (is-comment (a .tag) (c .before .before .before .if1 .left) (c .before .before .before .before .before .pre .2) (c .before .before .if2 .left) (c .before .if3 .taken)) (c .before .before .before .before .before .pre .1) in
+    omega (arith, fits, c .before .before .before .before .before .pre .0)
+
+add-t18 : tie.Need-add-t18
+add-t18 c =
     let a = c .before .before .before .before .before .before .before .before .args in
-    let fits = subst (λ (k : Kind). FitsAs k (a .count) (a .cur) (a .ns .now)) (is-text (a .tag) (c .before .before .before .before .before .before .if1 .left) (c .before .before .before .before .before .if2 .left) (c .before .before .before .before .if3 .taken)) (c .before .before .before .before .before .before .before .before .pre .1) in
-    omega (arith, fits)
-
-add-t26 : tie.Need-add-t26
-add-t26 c =
-    let a = c .before .before .before .before .before .before .before .before .before .args in
-    let fits = subst (λ (k : Kind). FitsAs k (a .count) (a .cur) (a .ns .now)) (is-comment (a .tag) (c .before .before .before .before .before .before .before .if1 .left) (c .before .before .before .before .before .before .if2 .left) (c .before .before .before .before .before .if3 .left) (c .before .before .before .before .if4 .taken)) (c .before .before .before .before .before .before .before .before .before .pre .1) in
-    omega (arith, fits)
-
-mul-read-word : tie.Need-mul-read-word
-mul-read-word c =
-    let a = c .before .before .before .before .args in
-    let fits = subst (λ (k : Kind). FitsAs k (a .count) (a .cur) (a .ns .now)) (is-close (a .tag) (c .before .before .if1 .left) (c .before .if2 .taken)) (c .before .before .before .before .pre .1) in
-    omega (arith, fits)
-
-add-read-word : tie.Need-add-read-word
-add-read-word c =
-    let a = c .before .before .before .before .args in
-    let fits = subst (λ (k : Kind). FitsAs k (a .count) (a .cur) (a .ns .now)) (is-close (a .tag) (c .before .before .if1 .left) (c .before .if2 .taken)) (c .before .before .before .before .pre .1) in
-    omega (arith, fits)
-
-read-word-requires : tie.Need-read-word-requires
-read-word-requires c κs =
-    let a = c .before .before .before .before .args in
-    let fits = subst (λ (k : Kind). FitsAs k (a .count) (a .cur) (a .ns .now)) (is-close (a .tag) (c .before .before .if1 .left) (c .before .if2 .taken)) (c .before .before .before .before .pre .1) in
-    omega (arith, fits)
-
-mul-store-word : tie.Need-mul-store-word
-mul-store-word c =
-    let a = c .before .before .before .before .before .before .args in
-    let fits = subst (λ (k : Kind). FitsAs k (a .count) (a .cur) (a .ns .now)) (is-close (a .tag) (c .before .before .before .before .if1 .left) (c .before .before .before .if2 .taken)) (c .before .before .before .before .before .before .pre .1) in
-    omega (arith, fits)
-
-add-store-word : tie.Need-add-store-word
-add-store-word c =
-    let a = c .before .before .before .before .before .before .args in
-    let fits = subst (λ (k : Kind). FitsAs k (a .count) (a .cur) (a .ns .now)) (is-close (a .tag) (c .before .before .before .before .if1 .left) (c .before .before .before .if2 .taken)) (c .before .before .before .before .before .before .pre .1) in
-    omega (arith, fits)
-
-store-word-requires : tie.Need-store-word-requires
-store-word-requires c κs =
-    let a = c .before .before .before .before .before .before .args in
-    let fits = subst (λ (k : Kind). FitsAs k (a .count) (a .cur) (a .ns .now)) (is-close (a .tag) (c .before .before .before .before .if1 .left) (c .before .before .before .if2 .taken)) (c .before .before .before .before .before .before .pre .1) in
+    let fits = subst (λ (k : Kind). FitsAs k (a .count) (a .cur) (a .ns .now)) (is-comment (a .tag) (c .before .before .before .before .before .before .if1 .left) (c .before .before .before .before .before .before .before .before .pre .2) (c .before .before .before .before .before .if2 .left) (c .before .before .before .before .if3 .taken)) (c .before .before .before .before .before .before .before .before .pre .1) in
     omega (arith, fits)
 
 returns : tie.Need-returns
@@ -106,26 +70,20 @@ returns c =
 
 returns-2 : tie.Need-returns-2
 returns-2 c =
-    let a = c .before .before .before .before .before .before .before .before .before .args in
-    rw (ne-eqb (a .tag) 1 (c .before .before .before .before .before .before .before .if1 .left), eq-eqb (a .tag) 6 (c .before .before .before .before .before .before .if2 .taken))
-    (c .before .before .store-word .ensures, refl, c .before .before .before .before .read-word .ensures .0)
+    let a = c .before .before .before .before .before .before .before .args in
+    rw (ne-eqb (a .tag) 1 (c .before .before .before .before .before .if1 .left), ne-eqb (a .tag) 6 (c .before .before .before .before .before .before .before .pre .2), eq-eqb (a .tag) 4 (c .before .before .before .before .if2 .taken))
+    (c .before .before .store-record2 .ensures, refl, refl)
 
 returns-3 : tie.Need-returns-3
 returns-3 c =
     let a = c .before .before .before .before .before .before .before .before .args in
-    rw (ne-eqb (a .tag) 1 (c .before .before .before .before .before .before .if1 .left), ne-eqb (a .tag) 6 (c .before .before .before .before .before .if2 .left), eq-eqb (a .tag) 4 (c .before .before .before .before .if3 .taken))
-    (c .before .before .store-record2 .ensures, refl, refl)
+    rw (ne-eqb (a .tag) 1 (c .before .before .before .before .before .before .if1 .left), ne-eqb (a .tag) 6 (c .before .before .before .before .before .before .before .before .pre .2), ne-eqb (a .tag) 4 (c .before .before .before .before .before .if2 .left), eq-eqb (a .tag) 5 (c .before .before .before .before .if3 .taken))
+    (c .before .before .store-record3 .ensures, refl, refl)
 
 returns-4 : tie.Need-returns-4
 returns-4 c =
-    let a = c .before .before .before .before .before .before .before .before .before .args in
-    rw (ne-eqb (a .tag) 1 (c .before .before .before .before .before .before .before .if1 .left), ne-eqb (a .tag) 6 (c .before .before .before .before .before .before .if2 .left), ne-eqb (a .tag) 4 (c .before .before .before .before .before .if3 .left), eq-eqb (a .tag) 5 (c .before .before .before .before .if4 .taken))
-    (c .before .before .store-record3 .ensures, refl, refl)
-
-returns-5 : tie.Need-returns-5
-returns-5 c =
-    let a = c .before .before .before .before .before .args in
-    rw (ne-eqb (a .tag) 1 (c .before .before .before .if1 .left), ne-eqb (a .tag) 6 (c .before .before .if2 .left), ne-eqb (a .tag) 4 (c .before .if3 .left), ne-eqb (a .tag) 5 (c .if4 .left))
+    let a = c .before .before .before .before .args in
+    rw (ne-eqb (a .tag) 1 (c .before .before .if1 .left), ne-eqb (a .tag) 6 (c .before .before .before .before .pre .2), ne-eqb (a .tag) 4 (c .before .if2 .left), ne-eqb (a .tag) 5 (c .if3 .left))
     (refl, refl, refl)
 
 same-length : tie.Need-same-length
@@ -137,8 +95,5 @@ same-length-2 c = search needs
 same-length-3 : tie.Need-same-length-3
 same-length-3 c = search needs
 
-same-length-4 : tie.Need-same-length-4
-same-length-4 c = search needs
-
 pub store-field-spec : {M : Type 1} → statement M
-store-field-spec = tie.close (tie.spec add-store-record store-record-requires add-t11 same-length returns mul-read-word add-read-word read-word-requires mul-store-word add-store-word store-word-requires same-length-2 returns-2 add-store-record-2 store-record-requires-2 add-t22 same-length-3 returns-3 add-store-record-3 store-record-requires-3 add-t26 same-length-4 returns-4 returns-5)
+store-field-spec = tie.close (tie.spec add-store-record store-record-requires add-t10 same-length returns add-store-record-2 store-record-requires-2 add-t14 same-length-2 returns-2 add-store-record-3 store-record-requires-3 add-t18 same-length-3 returns-3 returns-4)
