@@ -40,7 +40,7 @@ blank-white : (b : ℕ) → eqb b 32 ≡ true → white b ≡ true
 unfolding white isin
 blank-white b e = ap white (eqb-true b 32 e)
 
-blank-added : (escape : Bool) (b c : ℕ) (rest : Bytes) → eqb b 32 ≡ true → white c ≡ false → added escape b (c ∷ rest) ≡ b ∷ []
+pub blank-added : (escape : Bool) (b c : ℕ) (rest : Bytes) → eqb b 32 ≡ true → white c ≡ false → added escape b (c ∷ rest) ≡ b ∷ []
 unfolding added startsBlack
 blank-added escape b c rest e f = rw (blank-white b e, f, eqb-true b 32 e)
 

@@ -12,6 +12,7 @@ pub mod Ordinary
 pub mod Flowing
 pub mod Starting
 pub mod Streaming
+pub mod Blocks
 pub mod Normal
 pub mod Leaves
 pub mod Linking

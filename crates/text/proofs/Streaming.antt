@@ -38,7 +38,7 @@ module _ (escape : Bool) (b : ℕ) (rest : List ℕ) where
   unfolding added
   added-white h e = rw (h, e) refl
 
-  added-black : {t : Bool} → white b ≡ false → t ≡ isEscaped false false false b rest → added escape b rest ≡ cond (escape && t) (ascii "\\") [] ++ (b ∷ [])
+  pub added-black : {t : Bool} → white b ≡ false → t ≡ isEscaped false false false b rest → added escape b rest ≡ cond (escape && t) (ascii "\\") [] ++ (b ∷ [])
   unfolding added
   added-black h e = rw (h, e) refl
 
@@ -55,7 +55,7 @@ module _ (escape : Bool) (b : ℕ) (rest : List ℕ) where
 
 -- ---- byte by byte
 
-slice-join : (s : List ℕ) (i m to : ℕ) → i ≤ m → m ≤ to → slice i m s ++ slice m to s ≡ slice i to s
+pub slice-join : (s : List ℕ) (i m to : ℕ) → i ≤ m → m ≤ to → slice i m s ++ slice m to s ≡ slice i to s
 slice-join s i m to h k =
     let z : i + (m - i) ≡ m = omega arith in
     ap (λ (x : List ℕ). x ++ slice m to s) (ap (λ (j : ℕ). slice i j s) (sym z) ∙ sym (slice-front s i to (m - i) (omega arith)))

@@ -7,6 +7,7 @@ pub mod Source
 pub mod Marks
 pub mod Words
 pub mod Flow
+pub mod Blocks
 pub mod Url
 pub mod Kept
 pub mod Runs

@@ -6,6 +6,7 @@ ghost use mathlib.Core.List.{List, [], _∷_, _++_};
 ghost use Prim.Native.Nat.{ℕ, _+_, _≤_, _<_};
 ghost use lib.ListN.{length, take, drop, getD};
 ghost use lib.Seq.{slice};
+ghost use lib.Dec.{eqb};
 ghost use Rattle.spec.specs.Bytes.{ascii, startsWith, isin, every, white, digit, words, parts, same, «trim_start_matches»};
 ghost use Rattle.spec.specs.Out.{push};
 ghost use Rattle.spec.specs.Md.Constants.{«ALWAYS_ESCAPED», «LINE_START_ESCAPED»};
@@ -16,6 +17,7 @@ ghost use Rattle.text.specs.Marks.{marks, leadOf, firstAndMore, dotWord,
 ghost use Rattle.text.specs.Trimmed.{Skipped};
 ghost use Rattle.text.specs.Words.{WordAt, WordEnd};
 ghost use Rattle.text.specs.Flow.{startsBlack, lastDot, MayStart, added, flow, flowBefore, plain, Plain, Flows};
+ghost use Rattle.text.specs.Blocks.{signed, BlockAt, Appends};
 ghost use Rattle.text.specs.Source.{store, Apart, WritesIn};
 use crate::buffer::Class;
 use crate::buffer::Wrote;
@@ -316,7 +318,7 @@ fn begins_bare(s: &[u8]) -> bool
 // Whether a text is known to be appended as it is, whatever stands before it: ordinary words with one blank between them, the
 // first of which begins with no sign and is no marker. Only short texts are looked at, for which the steps of any text cost
 // most.
-pub fn is_bare_text(s: &[u8]) -> bool
+fn is_bare_text(s: &[u8]) -> bool
     ensures { λ r. ⌜ (r ≡ true → (opts : Opts.FormatOpts) (text : List ℕ) → def.normalized opts text (now (s .entry)) ≡ now (s .entry)) ⌝ }
 {
     if (s.len() == 0) | (128 < s.len()) {
@@ -383,7 +385,7 @@ fn is_spaced_long(s: &[u8]) -> bool
 }
 
 // Whether a text is known to be appended as it is where nothing is escaped: words with one blank between them.
-pub fn is_spaced_text(s: &[u8]) -> bool
+fn is_spaced_text(s: &[u8]) -> bool
     ensures { λ r. ⌜ (r ≡ true → (opts : Opts.FormatOpts) (text : List ℕ) → opts .«skip_escape» ≡ true → def.normalized opts text (now (s .entry)) ≡ now (s .entry)) ⌝ }
 {
     if s.len() == 0 {
@@ -637,6 +639,82 @@ fn push_bytes_of(
     Wrote::Done(n)
 }
 
+// Whether b is escaped, `next` behind it, where no line begins.
+fn is_sign(b: u8, next: u8) -> bool
+    ensures { λ r. ⌜ ((rest : List ℕ) → eqb next 91 ≡ startsWith (ascii "[") rest → r ≡ def.isEscaped false false false b rest) ⌝ }
+{
+    is_always_escaped(b) | ((b == 33) & (next == 91))
+}
+
+// What 16 bytes add: for each 1 if a backslash stands before it, else 0, and whether each adds itself.
+pub struct Block {
+    pub signs: [u8; 16],
+    pub even: bool,
+}
+
+// The same for the 16 bytes at `at`, without a branch, so that it is found for all at once.
+fn block_at(s: &[u8], at: usize, escape: bool) -> Block
+    requires { ⌜ at + 17 ≤ length (now s) ⌝ }
+    ensures { λ r. ⌜ BlockAt escape (now (s .entry)) at r ⌝ }
+{
+    let mut signs = [0u8; 16];
+    let mut even = true;
+    let mut i = 0;
+    while i < 16 {
+        let b = s[at + i];
+        let next = s[at + i + 1];
+        signs[i] = (escape & is_sign(b, next)) as u8;
+        even = even & is_spaced(b, next);
+        i += 1;
+    }
+    Block {
+        signs: signs,
+        even: even,
+    }
+}
+
+// Appends 16 bytes, behind a backslash where one is escaped: where none is, the byte takes the backslash's place.
+fn push_block(src: &[u8], text: &mut [u8], at: usize, len: usize, signs: [u8; 16]) -> usize
+    requires { ⌜ (at + 16 ≤ length (now src)) × (len + 32 ≤ length (now text)) × ((i : ℕ) → i < 16 → getD signs i 0 ≤ 1) ⌝ }
+    ensures { λ r. ⌜ Appends (now (text .entry)) (now (text .exit)) len r 32 (signed signs (now (src .entry)) at 16) ⌝ }
+{
+    let mut n = len;
+    let mut i = 0;
+    while i < 16 {
+        text[n] = 92;
+        n += signs[i] as usize;
+        text[n] = src[at + i];
+        n += 1;
+        i += 1;
+    }
+    n
+}
+
+// The same as push_bytes_of, without a branch where 16 bytes, signs aside, add themselves.
+fn push_stretch(
+    src: &[u8],
+    text: &mut [u8],
+    own: bool,
+    from: usize,
+    stop: usize,
+    to: usize,
+    room: usize,
+    len: usize,
+    escape: bool,
+) -> Wrote
+    requires { ⌜ Apart own (now text) (now src) room from to × (from ≤ stop) × (stop ≤ to) × (len ≤ room) ⌝ }
+    ensures { λ r. ⌜ WritesIn room (now (text .entry)) (now (text .exit)) r (push (flowBefore escape (slice from stop (store own (now (text .entry)) (now (src .entry)))) (slice stop to (store own (now (text .entry)) (now (src .entry))))) (take len (now (text .entry)))) ⌝ }
+{
+    if !own & ((stop - from == 16) & ((stop < to) & (32 <= room - len))) {
+        let block = block_at(src, from, escape);
+        if block.even {
+            let signs = block.signs;
+            return Wrote::Done(push_block(src, text, from, len, signs));
+        }
+    }
+    push_bytes_of(src, text, own, from, stop, to, room, len, escape)
+}
+
 // Where the next 16 bytes end, or `to`.
 fn stretch_end(at: usize, to: usize) -> usize
     requires { ⌜ at ≤ to ⌝ }
@@ -673,7 +751,7 @@ fn push_flow(
         }
         at += k;
         let stop = stretch_end(at, to);
-        match push_bytes_of(src, text, own, at, stop, to, room, n, escape) {
+        match push_stretch(src, text, own, at, stop, to, room, n, escape) {
             Wrote::Done(m) => {
                 n = m;
             }

@@ -81,8 +81,8 @@ stretch-end-requires c κs =
     let w = c .before .before .before .before .before .before .before .plain-in .ensures in
     plain-reach p (l .inv .2 .still) (l .at) k (l .inv .1) w
 
-push-bytes-of-requires : tie.Need-push-bytes-of-requires Inv-loop μ-loop
-push-bytes-of-requires c κs =
+push-stretch-requires : tie.Need-push-stretch-requires Inv-loop μ-loop
+push-stretch-requires c κs =
     let a = c .before .before .before .before .before .before .before .before .before .before .before .before .before .before .before .args in
     let p = c .before .before .before .before .before .before .before .before .before .before .before .before .before .before .before .pre .0 in
     let l = c .before .before .before .before .before .before .before .before .before .before .before .before .loop in
@@ -100,7 +100,7 @@ enum-told-2 c = search needs
 
 same-length-2 : tie.Need-same-length-2 Inv-loop μ-loop
 same-length-2 c =
-    c .before .before .before .before .push-bytes-of .ensures .long ∙ c .before .before .before .before .before .before .before .before .before .before .before .before .push-ordinary .ensures .long ∙ c .before .before .before .before .before .before .before .before .before .before .before .before .before .before .before .before .before .loop .inv .2 .still .long
+    c .before .before .before .before .push-stretch .ensures .long ∙ c .before .before .before .before .before .before .before .before .before .before .before .before .push-ordinary .ensures .long ∙ c .before .before .before .before .before .before .before .before .before .before .before .before .before .before .before .before .before .loop .inv .2 .still .long
 
 returns-2 : tie.Need-returns-2 Inv-loop μ-loop
 returns-2 c =
@@ -111,7 +111,7 @@ returns-2 c =
     let w = c .before .before .before .before .before .before .before .before .before .before .before .before .before .before .plain-in .ensures in
     let o = plain-go p (a .escape) (l .at) (l .inv .2) (l .inv .0) k (l .inv .1) w (c .before .before .before .before .before .before .before .before .before .before .before .before .push-ordinary .ensures) (c .before .before .before .before .before .before .before .before .m .given .1) in
     let z = c .before .before .before .before .before .before .stretch-end .ensures in
-    stretch-stop p (a .escape) (l .at + k) o (omega (arith, l .inv .0)) (c .before .before .before .before .before .before .stretch-end .result) (z .0) (z .1) (c .before .before .before .before .push-bytes-of .ensures) (c .enum-told2 .given .1)
+    stretch-stop p (a .escape) (l .at + k) o (omega (arith, l .inv .0)) (c .before .before .before .before .before .before .stretch-end .result) (z .0) (z .1) (c .before .before .before .before .push-stretch .ensures) (c .enum-told2 .given .1)
 
 loop-less : tie.Need-loop-less Inv-loop μ-loop
 loop-less c =
@@ -130,7 +130,7 @@ loop-again c =
     let w = c .before .before .before .before .before .before .before .before .before .before .before .before .before .before .before .plain-in .ensures in
     let o = plain-go p (a .escape) (l .at) (l .inv .2) (l .inv .0) k (l .inv .1) w (c .before .before .before .before .before .before .before .before .before .before .before .before .before .push-ordinary .ensures) (c .before .before .before .before .before .before .before .before .before .m .given .1) in
     let z = c .before .before .before .before .before .before .before .stretch-end .ensures in
-    (omega (arith, l .inv .0, z .0), z .1, stretch-go p (a .escape) (l .at + k) o (omega (arith, l .inv .0)) (c .before .before .before .before .before .before .before .stretch-end .result) (z .0) (z .1) (c .before .before .before .before .before .push-bytes-of .ensures) (c .before .m2 .given .1))
+    (omega (arith, l .inv .0, z .0), z .1, stretch-go p (a .escape) (l .at + k) o (omega (arith, l .inv .0)) (c .before .before .before .before .before .before .before .stretch-end .result) (z .0) (z .1) (c .before .before .before .before .before .push-stretch .ensures) (c .before .m2 .given .1))
 
 same-length-3 : tie.Need-same-length-3 Inv-loop μ-loop
 same-length-3 c = c .before .loop .inv .2 .still .long
@@ -142,4 +142,4 @@ returns-3 c =
     owed-nothing (l .inv .2) (flow-ended (store (a .own) (a .text .now) (a .src .now)) (l .at) (a .to) (a .escape) (take (l .n) (l .text)) (c .loop-test .left))
 
 pub push-flow-spec : {M : Type 1} → statement M
-push-flow-spec = tie.close (tie.spec Inv-loop μ-loop loop-holds plain-in-requires push-ordinary-requires enum-known-m enum-told same-length returns add-at stretch-end-requires push-bytes-of-requires enum-known-m-2 enum-told-2 same-length-2 returns-2 loop-less loop-again same-length-3 returns-3)
+push-flow-spec = tie.close (tie.spec Inv-loop μ-loop loop-holds plain-in-requires push-ordinary-requires enum-known-m enum-told same-length returns add-at stretch-end-requires push-stretch-requires enum-known-m-2 enum-told-2 same-length-2 returns-2 loop-less loop-again same-length-3 returns-3)
