@@ -723,7 +723,7 @@ fn stretch_end(at: usize, to: usize) -> usize
     if 16 < to - at { at + 16 } else { to }
 }
 
-// Appends the words from `from` on, one blank between them: plain bytes at once, the others one by one.
+// Appends the words from `from` on, one blank between them: plain bytes at once, the others in stretches.
 fn push_flow(
     src: &[u8],
     text: &mut [u8],
