@@ -118,6 +118,10 @@ fn push_opening(text: &mut [u8], len: usize, name: usize, opts: FormatOpts) -> W
     if opts.link_body {
         return Wrote::Done(len);
     }
+    // most elements are neither
+    if (name < 5) | (15 < name) {
+        return Wrote::Done(len);
+    }
     push_md_prefix(text, len, name)
 }
 
@@ -265,7 +269,7 @@ fn push_scoped(text: &mut [u8], len: usize, n: usize, name: usize, opts: FormatO
     push_emphasis(text, len, n, b"*")
 }
 
-// The same.
+// The same, with the answer read anew.
 pub fn push_emphasis_by(
     text: &mut [u8],
     len: usize,

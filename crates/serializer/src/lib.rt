@@ -198,7 +198,8 @@ fn inside(
 {
     let name = node_name(sheet, nodes, at);
     if !opts.skip_md & has_writer(name, opts) {
-        // two calls, of which the compiler takes none into `write`: a level without a writer needs no frame for them
+        // lists and tables, and the others: of two calls the compiler takes none into `write`, so that a level without a
+        // writer needs no frame for them
         if name < 21 {
             return write_element(sheet, own, run, nodes, text, len, at, name, opts, levels);
         }

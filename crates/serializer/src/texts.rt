@@ -1,4 +1,4 @@
-// Which nodes are texts, and a text that is trimmed behind its end.
+// Which nodes are texts, and a text with the trim of the whole behind it.
 ghost use mathlib.Core.Path.{_≡_};
 ghost use mathlib.Core.Bool.{true, _&&_};
 ghost use Prim.Native.Nat.{_+_, _≤_, _<_};

@@ -9,10 +9,10 @@ use lib.ListN.{length, drop, getD, drop-of-length-le}
 use lib.Seq.{drop-cons}
 use lib.Dec.{eqb}
 use borrow.Author.Tests.{ne-eqb, eqb-true}
-use Rattle.spec.specs.Bytes.{ascii, isin, startsWith, same}
+use Rattle.spec.specs.Bytes.{ascii, isin, every, startsWith, same}
 use Rattle.spec.specs.Out.{andThen, push}
 use Rattle.spec.specs.Md.TextUtils.{wantsWrap, needsWrap, wrappedByte, backslashTwice, eachByte, htmlFrom, entity, isNbsp, «html_escape», destination, «push_md_url»}
-use Rattle.text.specs.Url.{urlByte, pieceOf}
+use Rattle.text.specs.Url.{urlByte, pieceOf, itself}
 use Rattle.text.proofs.Writing.{push-both}
 
 -- ---- parentheses
@@ -128,6 +128,55 @@ url-wrapped dest t e = rw (html-same dest false (λ q. absurd (false≢true q)) 
 pub url-plain : (dest t : List ℕ) → needsWrap 0 dest ≡ false → «push_md_url» dest t ≡ push (eachByte backslashTwice («html_escape» dest)) t
 unfolding «push_md_url» destination «html_escape»
 url-plain dest t e = rw (html-same dest false (λ q. absurd (false≢true q)) 0 ∙ e)
+
+-- ---- a destination that stands as it is
+
+record Parts (b : ℕ) : Type 0 where
+  wrap : wantsWrap b ≡ false
+  opening : eqb b 40 ≡ false
+  closing : eqb b 41 ≡ false
+  amp : eqb b 38 ≡ false
+  quote : eqb b 34 ≡ false
+  backslash : eqb b 92 ≡ false
+  nbsp : eqb b 0xC2 ≡ false
+
+neither : (x y : Bool) → not (x || y) ≡ true → (x ≡ false) × (not y ≡ true)
+neither true y h = absurd (false≢true h)
+neither false y h = (refl, h)
+
+none : (x : Bool) → not x ≡ true → x ≡ false
+none true h = absurd (false≢true h)
+none false h = refl
+
+parts : (b : ℕ) → itself b ≡ true → Parts b
+parts b h =
+    let w = neither (wantsWrap b) _ h in
+    let o = neither (eqb b 40) _ (w .1) in
+    let c = neither (eqb b 41) _ (o .1) in
+    let a = neither (eqb b 38) _ (c .1) in
+    let q = neither (eqb b 34) _ (a .1) in
+    let s = neither (eqb b 92) (eqb b 0xC2) (q .1) in
+    record { wrap = w .0; opening = o .0; closing = c .0; amp = a .0; quote = q .0; backslash = s .0; nbsp = none (eqb b 0xC2) (s .1) }
+
+plain-unwrapped : (s : List ℕ) → every itself s ≡ true → needsWrap 0 s ≡ false
+unfolding every needsWrap
+plain-unwrapped [] h = refl
+plain-unwrapped (b ∷ s) h =
+    let q = and-eq-true-iff (itself b) (every itself s) .0 h in
+    let p = parts b (q .0) in
+    neutral 0 b s (p .wrap) (p .opening) (p .closing) ∙ plain-unwrapped s (q .1)
+
+plain-pieces : (s : List ℕ) → every itself s ≡ true → eachByte backslashTwice (htmlFrom false s) ≡ s
+unfolding every htmlFrom eachByte backslashTwice entity isNbsp
+plain-pieces [] h = refl
+plain-pieces (b ∷ s) h =
+    let q = and-eq-true-iff (itself b) (every itself s) .0 h in
+    let p = parts b (q .0) in
+    rw (p .amp, p .quote, p .nbsp, p .backslash) (ap (λ (x : List ℕ). b ∷ x) (plain-pieces s (q .1)))
+
+pub url-itself : (dest t : List ℕ) → every itself dest ≡ true → «push_md_url» dest t ≡ push dest t
+unfolding «html_escape»
+url-itself dest t h = url-plain dest t (plain-unwrapped dest h) ∙ ap (λ (x : List ℕ). push x t) (plain-pieces dest h)
 
 -- ---- byte by byte
 

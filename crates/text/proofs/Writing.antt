@@ -29,6 +29,10 @@ full {room} {after} {r} {o} e w = subst (λ (x : Wrote). Says room after x o) e 
 pub alike : {room : ℕ} {after : List ℕ} {r : Wrote} {o p : Out} → o ≡ p → Writes room after r p → Writes room after r o
 alike {room} {after} {r} {o} {p} e w = subst (λ (x : Out). Writes room after r x) (sym e) w
 
+-- the same outcome for an equal answer
+pub alike-answer : {room : ℕ} {after : List ℕ} {r s : Wrote} {o : Out} → r ≡ s → Writes room after s o → Writes room after r o
+alike-answer {room} {after} {r} {s} {o} e w = subst (λ (x : Wrote). Writes room after x o) (sym e) w
+
 -- ---- sequencing
 
 pub then-done : {room : ℕ} {mid after : List ℕ} {n m : ℕ} {o : Out} (f : Step) → Written room mid n o → Written room after m (f (take n mid)) → Written room after m (andThen o f)

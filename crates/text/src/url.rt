@@ -7,10 +7,10 @@ ghost use lib.IntN.{pos, _+ℤ_, _-ℤ_};
 ghost use mir.Syntax.{w32};
 ghost use mir.Val.{SFits};
 ghost use mathlib.Core.List.{_++_};
-ghost use Rattle.spec.specs.Bytes.{ascii};
+ghost use Rattle.spec.specs.Bytes.{ascii, every};
 ghost use Rattle.spec.specs.Out.{push};
 ghost use Rattle.spec.specs.Md.TextUtils as def;
-ghost use Rattle.text.specs.Url.{nextBalance, urlByte, pieceOf};
+ghost use Rattle.text.specs.Url.{nextBalance, urlByte, pieceOf, itself};
 ghost use Rattle.text.specs.Writes.{Writes};
 use crate::buffer::Wrote;
 use crate::buffer::push_all;
@@ -140,11 +140,35 @@ fn push_wrapped(text: &mut [u8], len: usize, dest: &[u8]) -> Wrote
     }
 }
 
+// Whether b stands in a destination as it is, whatever is around it.
+fn is_itself(b: u8) -> bool
+    ensures { λ r. ⌜ r ≡ itself b ⌝ }
+{
+    !(wants_wrap(b)
+        | ((b == 40) | ((b == 41) | ((b == 38) | ((b == 34) | ((b == 92) | (b == 194)))))))
+}
+
+// Whether all bytes do: without an early exit, so that many bytes can be tested at once.
+fn is_plain_dest(dest: &[u8]) -> bool
+    ensures { λ r. ⌜ r ≡ every itself (now (dest .entry)) ⌝ }
+{
+    let mut all = true;
+    let mut i = 0;
+    while i < dest.len() {
+        all = all & is_itself(dest[i]);
+        i += 1;
+    }
+    all
+}
+
 // A destination is a part of the sheet, which has at most 1,048,576 bytes (question 1).
 pub fn push_md_url(text: &mut [u8], len: usize, dest: &[u8]) -> Wrote
     requires { ⌜ (len ≤ length (now text)) × (length (now dest) ≤ 1048576) ⌝ }
     ensures { λ r. ⌜ Writes (length (now (text .entry))) (now (text .exit)) r (def.«push_md_url» (now (dest .entry)) (take len (now (text .entry)))) ⌝ }
 {
+    if is_plain_dest(dest) {
+        return push_all(text, len, dest);
+    }
     if needs_wrap(dest) {
         push_wrapped(text, len, dest)
     } else {

@@ -112,15 +112,15 @@ ascii-on (suc n) d (b ∷ s) e h =
     let p : (ltb b 0x80 ≡ true) × (every isAscii (take n s) ≡ true) = and-eq-true-iff _ _ .0 h in
     ascii-law d b s e (ltb-true b 0x80 (p .0)) ∙ ascii-on n d s e (p .1)
 
--- the bytes of a block, one after the other
-module _ (s : Bytes) (all : Bool) (i : ℕ) (so-far : every isAscii s ≡ (all && every isAscii (drop i s))) where
-  pub ascii-turn : i < length s → every isAscii s ≡ ((all && isAscii (getD s i 0)) && every isAscii (drop (i + 1) s))
+-- a test of every byte, one after the other
+module _ (p : ℕ → Bool) (s : Bytes) (all : Bool) (i : ℕ) (so-far : every p s ≡ (all && every p (drop i s))) where
+  pub all-turn : i < length s → every p s ≡ ((all && p (getD s i 0)) && every p (drop (i + 1) s))
   unfolding every
-  ascii-turn h = so-far ∙ rw (add-one, drop-cons s i 0 h) (sym (and-assoc all _ _))
+  all-turn h = so-far ∙ rw (add-one, drop-cons s i 0 h) (sym (and-assoc all _ _))
 
-  pub ascii-end : length s ≤ i → all ≡ every isAscii s
+  pub all-end : length s ≤ i → all ≡ every p s
   unfolding every
-  ascii-end h = sym (so-far ∙ rw (drop-of-length-le s h) (and-true all))
+  all-end h = sym (so-far ∙ rw (drop-of-length-le s h) (and-true all))
 
 -- the first k bytes are ASCII where the first n are and those of the k behind them, if there are any
 ascii-behind : (n k : ℕ) (s : Bytes) → every isAscii (take n s) ≡ true → every isAscii (take (k - n) (drop n s)) ≡ true

@@ -1,13 +1,11 @@
 -- `elements::code::push_trimmed_code` meets its contract. Assumes nothing.
-use Prim.Native.Nat.{ℕ, _+_, _-_}
-use mathlib.Core.Path.{sym, ap₂, subst}
-use lib.ListN.{length, take, drop}
+use Prim.Native.Nat.{ℕ}
+use mathlib.Core.Path.{sym, ap₂}
+use lib.ListN.{take}
 use Rattle.spec.specs.Bytes.{Bytes}
 use Rattle.spec.specs.Tree.{«text_of»}
 use Rattle.spec.specs.Md.Elements.Code.{«push_code_text»}
-use Rattle.text.specs.declared.buffer.Wrote.{Wrote}
-use Rattle.text.specs.Writes.{Writes}
-use Rattle.text.proofs.Writing.{alike}
+use Rattle.text.proofs.Writing.{alike, alike-answer}
 use Rattle.elements.proofs.Interrupts.{element-kids}
 use Rattle.elements.proofs.Edges.{code-is, code-size}
 use borrow.Author.Needs.{needs}
@@ -38,7 +36,7 @@ returns c =
     (ap₂ (λ (j : ℕ) (z : Bytes). «push_code_text» j z (take (s .args .len) d))
     (sym (code-size d («text_of» kids) (s .args .len) (s .args .n) k m (s .pre .1) e b (c .before .before .before .before .before .before .before .before .code-end .ensures) (c .before .before .before .before .before .code-start .ensures)))
     (sym (code-is d («text_of» kids) (s .args .len) (s .args .n) k m (s .pre .1) e b (c .before .before .before .before .before .before .before .before .code-end .ensures) (c .before .before .before .before .before .code-start .ensures))))
-    (subst (λ (w : Wrote). Writes (length d) (c .before .before .before .push-code-text .last .0) w («push_code_text» (k - m) (take (k - m) (drop (s .args .len + m) d)) (take (s .args .len) d))) (sym (c .reread .ensures)) (c .before .before .before .push-code-text .ensures))
+    (alike-answer (c .reread .ensures) (c .before .before .before .push-code-text .ensures))
 
 node-end-requires : tie.Need-node-end-requires
 node-end-requires c κs = search needs

@@ -1,9 +1,5 @@
 -- `elements::steps::push_emphasis_by` meets its contract. Assumes nothing.
-use mathlib.Core.Path.{sym, subst}
-use lib.ListN.{length, take, drop}
-use Rattle.text.specs.declared.buffer.Wrote.{Wrote}
-use Rattle.text.specs.Writes.{Writes}
-use Rattle.elements.specs.EmphasisStep.{emphasisStep}
+use Rattle.text.proofs.Writing.{alike-answer}
 use borrow.Author.Needs.{needs}
 use Rattle.elements.proofs.steps.push_emphasis_by.Statement.{statement}
 use Rattle.elements.proofs.steps.push_emphasis_by.Tie as tie
@@ -18,9 +14,7 @@ same-length : tie.Need-same-length
 same-length c = search needs
 
 returns : tie.Need-returns
-returns c =
-    let a = c .before .before .before .before .before .before .args in
-    subst (λ (w : Wrote). Writes (length (a .text .now)) (c .before .before .before .push-scoped .last .0) w (emphasisStep (a .opts) (a .name) (take (a .n) (drop (a .len) (a .text .now))) (take (a .len) (a .text .now)))) (sym (c .reread .ensures)) (c .before .before .before .push-scoped .ensures)
+returns c = alike-answer (c .reread .ensures) (c .before .before .before .push-scoped .ensures)
 
 pub push-emphasis-by-spec : {M : Type 1} → statement M
 push-emphasis-by-spec = tie.close (tie.spec push-scoped-requires reread-requires same-length returns)

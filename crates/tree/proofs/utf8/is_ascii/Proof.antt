@@ -5,7 +5,7 @@ use mathlib.Core.Bool.{_&&_}
 use lib.ListN.{length, drop}
 use Rattle.spec.specs.Bytes.{every}
 use Rattle.tree.specs.Lead.{isAscii}
-use Rattle.tree.proofs.Sequences.{ascii-turn, ascii-end}
+use Rattle.tree.proofs.Sequences.{all-turn, all-end}
 use borrow.Author.Needs.{needs}
 use native.Mathlib.Omega.{arith}
 use Rattle.tree.proofs.utf8.is_ascii.Statement.{statement}
@@ -32,12 +32,12 @@ loop-less c = search needs
 loop-again : tie.Need-loop-again Inv-loop μ-loop
 loop-again c =
     let l = c .before .before .loop in
-    (omega arith, ascii-turn (c .before .before .before .args .s .now) (l .all) (l .i) (l .inv .1) (omega arith))
+    (omega arith, all-turn isAscii (c .before .before .before .args .s .now) (l .all) (l .i) (l .inv .1) (omega arith))
 
 returns : tie.Need-returns Inv-loop μ-loop
 returns c =
     let l = c .before .loop in
-    ascii-end (c .before .before .args .s .now) (l .all) (l .i) (l .inv .1) (omega arith)
+    all-end isAscii (c .before .before .args .s .now) (l .all) (l .i) (l .inv .1) (omega arith)
 
 pub is-ascii-spec : {M : Type 1} → statement M
 is-ascii-spec =
