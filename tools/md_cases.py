@@ -7,7 +7,7 @@ numbers 1 to 8 are the Rust's; number 9, and the room that a text needs, are tho
 have the same text and number: else the call is printed and nothing is written. Where the Rust panics (the cut that docs/DIFFERENCES.md
 names) the text is the model's.
 
-The list, numbers big-endian: how many calls (4 bytes), a head of 38 bytes for each, then the bytes that the heads point to. A head: flags (1: an own
+The list, numbers little-endian: how many calls (4 bytes), a head of 38 bytes for each, then the bytes that the heads point to. A head: flags (1: an own
 skip list, 2: with the start node, 4: the sheet is so many zeros), the number of the question that says no or 0 (1 byte each), start node, length of
 the node memory, room of the text (its peak, where there is a text), then for sheet, skip list and text where they stand and how long they are (4 each).
 The program makes a call that gives a text three times: with the peak as its room, with more, and with one byte less, where the number is 10.
@@ -144,8 +144,8 @@ def pack(calls):
         zeros = len(c.sheet) > 65536
         flags = OWN * (c.skips is not None) | WITH_NODE * c.include | ZEROS * zeros
         places = ((0, len(c.sheet)) if zeros else stored(c.sheet)) + stored(c.skips or b"") + stored(c.text)
-        heads[k] = struct.pack(">BB9I", flags, c.number, c.start, c.memory, c.room, *places)
-    return struct.pack(">I", len(calls)) + b"".join(heads) + bytes(pool)
+        heads[k] = struct.pack("<BB9I", flags, c.number, c.start, c.memory, c.room, *places)
+    return struct.pack("<I", len(calls)) + b"".join(heads) + bytes(pool)
 
 
 def names_of_code():

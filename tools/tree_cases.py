@@ -5,7 +5,7 @@
 Writes crates/tree_cases/stdin and stdout. The numbers of the questions and the trees are those of the model, a second definition in Python; with
 --oracle every number is compared with the Rust's. Where the fields stand is found here.
 
-A call in stdin, numbers big-endian: own skip list or not (1 byte), lengths of the skip list and of an attribute name (2 each), start node and
+A call in stdin, numbers little-endian: own skip list or not (1 byte), lengths of the skip list and of an attribute name (2 each), start node and
 length of the node memory (4 each), number of pieces (2), skip list, name; then the pieces of the sheet, each by how often it stands there (4),
 its length (2) and its bytes.
 
@@ -37,8 +37,8 @@ class Call:
 
     def packed(self):
         run = self.skips or b""
-        out = struct.pack(">BHHIIH", self.skips is not None, len(run), len(self.name), self.start, self.memory, len(self.pieces)) + run + self.name
-        return out + b"".join(struct.pack(">IH", n, len(p)) + p for n, p in self.pieces)
+        out = struct.pack("<BHHIIH", self.skips is not None, len(run), len(self.name), self.start, self.memory, len(self.pieces)) + run + self.name
+        return out + b"".join(struct.pack("<IH", n, len(p)) + p for n, p in self.pieces)
 
 
 def spans(sheet):
