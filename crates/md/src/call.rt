@@ -12,6 +12,7 @@ ghost use Rattle.tree.specs.Scans.{skipList};
 ghost use Rattle.text.specs.Writes.{Writes};
 ghost use Rattle.md.specs.Answer.{numberOf, lengthOf, isWritten, coded, codedNumber, codedLength, flag};
 ghost use Rattle.md.specs.Started.{Started, Answered};
+use serializer::options::packed;
 use serializer::write;
 use spec::ctx::FormatOpts;
 use text::buffer::Wrote;
@@ -41,6 +42,7 @@ fn write_inside(
 {
     let first = start + 1;
     let end = node_end(nodes, start);
+    let opts = FormatOpts::new();
     match write(
         sheet,
         own,
@@ -50,7 +52,8 @@ fn write_inside(
         0,
         first,
         end,
-        FormatOpts::new(),
+        packed(opts),
+        opts.offset,
         101,
     ) {
         Wrote::Done(n) => Wrote::Done(trim_space(text, n)),
@@ -75,7 +78,19 @@ fn write_whole(
     }
     let to = node_end(nodes, start);
     let opts = FormatOpts::new().include_node();
-    write(sheet, own, run, nodes, text, 0, start, to, opts, 101)
+    write(
+        sheet,
+        own,
+        run,
+        nodes,
+        text,
+        0,
+        start,
+        to,
+        packed(opts),
+        opts.offset,
+        101,
+    )
 }
 
 // serializer.rs, `serialize`: the text from the start node.

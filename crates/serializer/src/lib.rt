@@ -28,6 +28,7 @@ ghost use Rattle.elements.specs.Rows.{Rows, RowAt, SomeRow, SomeRows};
 ghost use Rattle.elements.specs.Spans.{rowLengths, tableLengths};
 ghost use Rattle.elements.specs.Stands.{ElementAt, Placed, PlacedNode, Placeds};
 ghost use Rattle.elements.specs.TableSteps.{rowsTexts, RowWrites, RowsWrites};
+ghost use Rattle.serializer.specs.Options as def;
 ghost use Rattle.serializer.specs.Writers.{selfAt, Ready, Fits, FitsIn, WritesForest, WritesElement, progressAt, GoesForest, GoesElement};
 use elements::code::write_code;
 use elements::item_steps::child_opts;
@@ -63,6 +64,8 @@ use elements::table::push_table;
 use elements::table::store_span;
 use list_items::start_item;
 use list_items::start_item_blocks;
+use options::packed;
+use options::unpacked;
 use progress::Going;
 use progress::going_on;
 use progress::rule_block;
@@ -89,6 +92,7 @@ use tree::nodes::node_end;
 use tree::nodes::node_place;
 use tree::nodes::tag_at;
 
+pub mod options;
 pub mod progress;
 pub mod texts;
 
@@ -102,12 +106,13 @@ pub fn write(
     len: usize,
     from: usize,
     to: usize,
-    opts: FormatOpts,
+    bits: usize,
+    offset: usize,
     levels: usize,
 ) -> Wrote
-    requires { ⌜ Placeds (now sheet) (now nodes) from to × Ready (now sheet) (now text) len × Fits opts levels ⌝ }
+    requires { ⌜ Placeds (now sheet) (now nodes) from to × Ready (now sheet) (now text) len × Fits (def.unpacked bits offset) levels ⌝ }
     ensures kept { λ r. ⌜ Kept from to (now (nodes .entry)) (now (nodes .exit)) ⌝ }
-    ensures { λ r. ⌜ WritesForest (now (sheet .entry)) (now (nodes .entry)) from to (λ anc f. writeAt (skipTags (skipList own (now (run .entry)))) levels anc opts f) (take len (now (text .entry))) (length (now (text .entry))) (now (text .exit)) r ⌝ }
+    ensures { λ r. ⌜ WritesForest (now (sheet .entry)) (now (nodes .entry)) from to (λ anc f. writeAt (skipTags (skipList own (now (run .entry)))) levels anc (def.unpacked bits offset) f) (take len (now (text .entry))) (length (now (text .entry))) (now (text .exit)) r ⌝ }
 {
     if levels == 0 {
         return Wrote::Done(len);
@@ -115,7 +120,18 @@ pub fn write(
     let mut at = from;
     let mut end = len;
     while at < to {
-        match node(sheet, own, run, nodes, text, end, at, opts, levels - 1) {
+        match node(
+            sheet,
+            own,
+            run,
+            nodes,
+            text,
+            end,
+            at,
+            bits,
+            offset,
+            levels - 1,
+        ) {
             Wrote::Done(n) => {
                 end = n;
             }
@@ -138,17 +154,31 @@ fn siblings(
     len: usize,
     from: usize,
     to: usize,
-    opts: FormatOpts,
+    bits: usize,
+    offset: usize,
     levels: usize,
 ) -> Wrote
-    requires { ⌜ Placeds (now sheet) (now nodes) from to × Ready (now sheet) (now text) len × Fits opts levels ⌝ }
+    requires { ⌜ Placeds (now sheet) (now nodes) from to × Ready (now sheet) (now text) len × Fits (def.unpacked bits offset) levels ⌝ }
     ensures kept { λ r. ⌜ Kept from to (now (nodes .entry)) (now (nodes .exit)) ⌝ }
-    ensures { λ r. ⌜ WritesForest (now (sheet .entry)) (now (nodes .entry)) from to (λ anc f. writeAt (skipTags (skipList own (now (run .entry)))) levels anc opts f) (take len (now (text .entry))) (length (now (text .entry))) (now (text .exit)) r ⌝ }
+    ensures { λ r. ⌜ WritesForest (now (sheet .entry)) (now (nodes .entry)) from to (λ anc f. writeAt (skipTags (skipList own (now (run .entry)))) levels anc (def.unpacked bits offset) f) (take len (now (text .entry))) (length (now (text .entry))) (now (text .exit)) r ⌝ }
 {
     if (levels != 0) & is_one_text(sheet, nodes, from, to) {
+        let opts = unpacked(bits, offset);
         return write_text_node(sheet, nodes, text, len, from, opts);
     }
-    write(sheet, own, run, nodes, text, len, from, to, opts, levels)
+    write(
+        sheet,
+        own,
+        run,
+        nodes,
+        text,
+        len,
+        from,
+        to,
+        bits,
+        offset,
+        levels,
+    )
 }
 
 // One node, with itself.
@@ -160,22 +190,25 @@ fn node(
     text: &mut [u8],
     len: usize,
     at: usize,
-    opts: FormatOpts,
+    bits: usize,
+    offset: usize,
     levels: usize,
 ) -> Wrote
-    requires { ⌜ PlacedNode (now sheet) (now nodes) at × Ready (now sheet) (now text) len × Fits opts (levels + 1) ⌝ }
+    requires { ⌜ PlacedNode (now sheet) (now nodes) at × Ready (now sheet) (now text) len × Fits (def.unpacked bits offset) (levels + 1) ⌝ }
     ensures kept { λ r. ⌜ Kept at (endAt (now (nodes .entry)) at) (now (nodes .entry)) (now (nodes .exit)) ⌝ }
-    ensures { λ r. ⌜ WritesForest (now (sheet .entry)) (now (nodes .entry)) at (endAt (now (nodes .entry)) at) (λ anc f. writeNodes (selfAt own (now (run .entry)) levels) anc opts f) (take len (now (text .entry))) (length (now (text .entry))) (now (text .exit)) r ⌝ }
+    ensures { λ r. ⌜ WritesForest (now (sheet .entry)) (now (nodes .entry)) at (endAt (now (nodes .entry)) at) (λ anc f. writeNodes (selfAt own (now (run .entry)) levels) anc (def.unpacked bits offset) f) (take len (now (text .entry))) (length (now (text .entry))) (now (text .exit)) r ⌝ }
 {
     let place = node_place(nodes, at);
     if tag_at(sheet, place) != 1 {
+        let opts = unpacked(bits, offset);
         return write_text_node(sheet, nodes, text, len, at, opts);
     }
     if node_is_skipped(sheet, own, run, nodes, at) {
         return Wrote::Done(len);
     }
+    let opts = unpacked(bits, offset);
     match opened(sheet, nodes, text, len, at, opts) {
-        Wrote::Done(n) => inside(sheet, own, run, nodes, text, n, at, opts, levels),
+        Wrote::Done(n) => inside(sheet, own, run, nodes, text, n, at, bits, offset, levels),
         Wrote::Full => Wrote::Full,
     }
 }
@@ -189,15 +222,18 @@ fn inside(
     text: &mut [u8],
     len: usize,
     at: usize,
-    opts: FormatOpts,
+    bits: usize,
+    offset: usize,
     levels: usize,
 ) -> Wrote
-    requires { ⌜ Placed (now sheet) (now nodes) at × Ready (now sheet) (now text) len × Fits opts (levels + 1) ⌝ }
+    requires { ⌜ Placed (now sheet) (now nodes) at × Ready (now sheet) (now text) len × Fits (def.unpacked bits offset) (levels + 1) ⌝ }
     ensures kept { λ r. ⌜ Kept at (endAt (now (nodes .entry)) at) (now (nodes .entry)) (now (nodes .exit)) ⌝ }
-    ensures { λ r. ⌜ WritesElement (now (sheet .entry)) (now (nodes .entry)) at (λ anc name attrs kids. inElement (selfAt own (now (run .entry)) levels) anc opts name attrs kids) (take len (now (text .entry))) (length (now (text .entry))) (now (text .exit)) r ⌝ }
+    ensures { λ r. ⌜ WritesElement (now (sheet .entry)) (now (nodes .entry)) at (λ anc name attrs kids. inElement (selfAt own (now (run .entry)) levels) anc (def.unpacked bits offset) name attrs kids) (take len (now (text .entry))) (length (now (text .entry))) (now (text .exit)) r ⌝ }
 {
     let name = node_name(sheet, nodes, at);
-    if !opts.skip_md & has_writer(name, opts) {
+    let flags = unpacked(bits, offset);
+    if !flags.skip_md & has_writer(name, flags) {
+        let opts = unpacked(bits, offset);
         // lists and tables, and the others: of two calls the compiler takes none into `write`, so that a level without a
         // writer needs no frame for them
         if name < 21 {
@@ -206,8 +242,20 @@ fn inside(
         return write_element(sheet, own, run, nodes, text, len, at, name, opts, levels);
     }
     let to = node_end(nodes, at);
-    match siblings(sheet, own, run, nodes, text, len, at + 1, to, opts, levels) {
-        Wrote::Done(n) => closed(text, n, name, opts),
+    match siblings(
+        sheet,
+        own,
+        run,
+        nodes,
+        text,
+        len,
+        at + 1,
+        to,
+        bits,
+        offset,
+        levels,
+    ) {
+        Wrote::Done(n) => closed(text, n, name, unpacked(bits, offset)),
         Wrote::Full => Wrote::Full,
     }
 }
@@ -271,7 +319,19 @@ fn kids(
     if (levels != 0) & is_one_text(sheet, nodes, at + 1, to) {
         return trim_behind_text(sheet, nodes, text, len, at + 1, opts);
     }
-    match write(sheet, own, run, nodes, text, len, at + 1, to, opts, levels) {
+    match write(
+        sheet,
+        own,
+        run,
+        nodes,
+        text,
+        len,
+        at + 1,
+        to,
+        packed(opts),
+        opts.offset,
+        levels,
+    ) {
         Wrote::Done(n) => Wrote::Done(trim_space(text, n)),
         Wrote::Full => Wrote::Full,
     }
@@ -305,7 +365,8 @@ fn write_emphasis(
         0,
         at + 1,
         to,
-        inner,
+        packed(inner),
+        inner.offset,
         levels,
     ) {
         Wrote::Done(n) => push_emphasis_by(text, len, n, name, opts),
@@ -530,6 +591,7 @@ fn item(
     let to = node_end(nodes, c);
     let opts = ctx.opts;
     if !li {
+        let inner = opts.fresh().include_node();
         return write(
             sheet,
             own,
@@ -539,7 +601,8 @@ fn item(
             len,
             c,
             to,
-            opts.fresh().include_node(),
+            packed(inner),
+            inner.offset,
             levels,
         );
     }
@@ -819,7 +882,19 @@ fn inline(
     let opts = item.ctx.opts;
     let inner = child_opts(name, opts);
     match push_inline_lead(text, len, item, blank) {
-        Wrote::Done(n) => write(sheet, own, run, nodes, text, n, c, to, inner, levels),
+        Wrote::Done(n) => write(
+            sheet,
+            own,
+            run,
+            nodes,
+            text,
+            n,
+            c,
+            to,
+            packed(inner),
+            inner.offset,
+            levels,
+        ),
         Wrote::Full => Wrote::Full,
     }
 }
@@ -940,6 +1015,7 @@ fn indented(
 {
     let to = node_end(nodes, c);
     let opts = item.ctx.opts;
+    let inner = opts.include_node();
     match write(
         sheet,
         own,
@@ -949,7 +1025,8 @@ fn indented(
         0,
         c,
         to,
-        opts.include_node(),
+        packed(inner),
+        inner.offset,
         levels,
     ) {
         Wrote::Done(n) => push_indented(text, len, n, item),

@@ -1,5 +1,5 @@
 -- `md::call::write_inside` meets its contract. Assumes nothing.
-use mathlib.Core.Path.{sym, subst}
+use mathlib.Core.Path.{sym, subst, _∙_}
 use lib.Dec.{lit<}
 use native.Mathlib.Omega.{arith}
 use Rattle.spec.specs.declared.ctx.FormatOpts.{FormatOpts}
@@ -12,15 +12,15 @@ use Rattle.md.proofs.call.write_inside.Tie as tie
 
 returns : tie.Need-returns
 returns c =
-    let s = c .before .before .before .before .before .before .before .before .before .before .before .before .before .before .before .before .before .before .before .before .before in
+    let s = c .before .before .before .before .before .before .before .before .before .before .before .before .before .before .before .before .before .before .before .before .before .before in
     let a = s .args in
-    inside-done (skipList (a .own) (a .run .now)) (a .sheet .now) (a .nodes .now) (a .start) _ (s .pre) (c .before .before .before .before .before .before .before .before .before .before .before .before .before .before .before .node-end .ensures) (a .text .now) (c .before .before .before .before .before .before .before .before .before .before .before .before .new .ensures) (c .before .before .before .before .before .before .before .before .before .before .before .write .ensures .1) (c .before .before .before .before .before .n .given .1) (c .before .before .trim-space .ensures)
+    inside-done (skipList (a .own) (a .run .now)) (a .sheet .now) (a .nodes .now) (a .start) _ (s .pre) (c .before .before .before .before .before .before .before .before .before .before .before .before .before .before .before .before .node-end .ensures) (a .text .now) (c .before .before .before .before .before .before .before .before .before .before .before .before .packed .ensures ∙ c .before .before .before .before .before .before .before .before .before .before .before .before .before .before .before .new .ensures) (c .before .before .before .before .before .before .before .before .before .before .before .write .ensures .1) (c .before .before .before .before .before .n .given .1) (c .before .before .trim-space .ensures)
 
 returns-2 : tie.Need-returns-2
 returns-2 c =
-    let s = c .before .before .before .before .before .before .before .before .before .before .before .before .before .before .before .before in
+    let s = c .before .before .before .before .before .before .before .before .before .before .before .before .before .before .before .before .before in
     let a = s .args in
-    inside-full (skipList (a .own) (a .run .now)) (a .sheet .now) (a .nodes .now) (a .start) _ (s .pre) (c .before .before .before .before .before .before .before .before .before .before .node-end .ensures) (a .text .now) (c .before .before .before .before .before .before .before .new .ensures) (c .before .before .before .before .before .before .write .ensures .1) (c .enum-told .given .1)
+    inside-full (skipList (a .own) (a .run .now)) (a .sheet .now) (a .nodes .now) (a .start) _ (s .pre) (c .before .before .before .before .before .before .before .before .before .before .before .node-end .ensures) (a .text .now) (c .before .before .before .before .before .before .before .packed .ensures ∙ c .before .before .before .before .before .before .before .before .before .before .new .ensures) (c .before .before .before .before .before .before .write .ensures .1) (c .enum-told .given .1)
 
 add-first : tie.Need-add-first
 add-first c = search needs
@@ -31,13 +31,16 @@ node-end-requires c κs = search needs
 new-requires : tie.Need-new-requires
 new-requires c κs = search needs
 
+packed-requires : tie.Need-packed-requires
+packed-requires c κs = search needs
+
 write-requires : tie.Need-write-requires
 write-requires c κs =
-    let s = c .before .before .before .before .before .before .before .before .before in
+    let s = c .before .before .before .before .before .before .before .before .before .before in
     let a = s .args in (
-      without (skipList (a .own) (a .run .now)) (a .sheet .now) (a .nodes .now) (a .start) _ (s .pre) (c .before .before .before .node-end .ensures) .at,
+      without (skipList (a .own) (a .run .now)) (a .sheet .now) (a .nodes .now) (a .start) _ (s .pre) (c .before .before .before .before .node-end .ensures) .at,
       (omega arith, s .pre .short),
-      subst (λ (o : FormatOpts). Fits o 101) (sym (c .new .ensures)) (lit< tt),
+      subst (λ (o : FormatOpts). Fits o 101) (sym (c .packed .ensures ∙ c .before .before .before .new .ensures)) (lit< tt),
     )
 
 enum-known-n : tie.Need-enum-known-n
@@ -45,9 +48,9 @@ enum-known-n c = search needs
 
 trim-space-requires : tie.Need-trim-space-requires
 trim-space-requires c κs =
-    let s = c .before .before .before .before .before .before .before .before .before .before .before .before .before .before .before .before .before .before in
+    let s = c .before .before .before .before .before .before .before .before .before .before .before .before .before .before .before .before .before .before .before in
     let a = s .args in
-    inside-reaches (skipList (a .own) (a .run .now)) (a .sheet .now) (a .nodes .now) (a .start) _ (s .pre) (c .before .before .before .before .before .before .before .before .before .before .before .before .node-end .ensures) (a .text .now) (c .before .before .before .before .before .before .before .before .before .new .ensures) (c .before .before .before .before .before .before .before .before .write .ensures .1) (c .before .before .n .given .1)
+    inside-reaches (skipList (a .own) (a .run .now)) (a .sheet .now) (a .nodes .now) (a .start) _ (s .pre) (c .before .before .before .before .before .before .before .before .before .before .before .before .before .node-end .ensures) (a .text .now) (c .before .before .before .before .before .before .before .before .before .packed .ensures ∙ c .before .before .before .before .before .before .before .before .before .before .before .before .new .ensures) (c .before .before .before .before .before .before .before .before .write .ensures .1) (c .before .before .n .given .1)
 
 enum-told : tie.Need-enum-told
 enum-told c = search needs
@@ -71,6 +74,7 @@ write-inside-spec =
     add-first
     node-end-requires
     new-requires
+    packed-requires
     write-requires
     enum-known-n
     trim-space-requires

@@ -27,13 +27,16 @@ new-requires c κs = search needs
 include-node-requires : tie.Need-include-node-requires
 include-node-requires c κs = search needs
 
+packed-requires : tie.Need-packed-requires
+packed-requires c κs = search needs
+
 write-requires : tie.Need-write-requires
 write-requires c κs =
-    let s = c .before .before .before .before .before .before .before .before .before .before .before in
+    let s = c .before .before .before .before .before .before .before .before .before .before .before .before in
     let a = s .args in (
-      with-node (skipList (a .own) (a .run .now)) (a .sheet .now) (a .nodes .now) (a .start) _ (s .pre) (pos-of-ne-zero (c .before .before .before .before .before .before .if1 .left)) (c .before .before .before .before .node-end .ensures) .at,
+      with-node (skipList (a .own) (a .run .now)) (a .sheet .now) (a .nodes .now) (a .start) _ (s .pre) (pos-of-ne-zero (c .before .before .before .before .before .before .before .if1 .left)) (c .before .before .before .before .before .node-end .ensures) .at,
       (omega arith, s .pre .short),
-      subst (λ (o : FormatOpts). Fits o 101) (sym (c .before .before .include-node .ensures ∙ ap «include_node» (c .before .before .before .new .ensures))) (lit< tt),
+      subst (λ (o : FormatOpts). Fits o 101) (sym (c .packed .ensures ∙ c .before .before .before .include-node .ensures ∙ ap «include_node» (c .before .before .before .before .new .ensures))) (lit< tt),
     )
 
 same-length : tie.Need-same-length
@@ -44,10 +47,10 @@ same-length-2 c = search needs
 
 returns-2 : tie.Need-returns-2
 returns-2 c =
-    let s = c .before .before .before .before .before .before .before .before .before .before .before .before .before .before .before .before in
+    let s = c .before .before .before .before .before .before .before .before .before .before .before .before .before .before .before .before .before in
     let a = s .args in
-    whole-wrote (skipList (a .own) (a .run .now)) (a .sheet .now) (a .nodes .now) (a .start) _ (s .pre) (pos-of-ne-zero (c .before .before .before .before .before .before .before .before .before .before .before .if1 .left)) (c .before .before .before .before .before .before .before .before .before .node-end .ensures)
-    (c .before .before .before .before .before .before .before .include-node .ensures ∙ ap «include_node» (c .before .before .before .before .before .before .before .before .new .ensures)) refl (c .before .before .before .before .write .ensures .1)
+    whole-wrote (skipList (a .own) (a .run .now)) (a .sheet .now) (a .nodes .now) (a .start) _ (s .pre) (pos-of-ne-zero (c .before .before .before .before .before .before .before .before .before .before .before .before .if1 .left)) (c .before .before .before .before .before .before .before .before .before .before .node-end .ensures)
+    (c .before .before .before .before .before .packed .ensures ∙ c .before .before .before .before .before .before .before .before .include-node .ensures ∙ ap «include_node» (c .before .before .before .before .before .before .before .before .before .new .ensures)) refl (c .before .before .before .before .write .ensures .1)
 
 pub write-whole-spec : {M : Type 1} → statement M
 write-whole-spec =
@@ -57,6 +60,7 @@ write-whole-spec =
     node-end-requires
     new-requires
     include-node-requires
+    packed-requires
     write-requires
     same-length
     same-length-2

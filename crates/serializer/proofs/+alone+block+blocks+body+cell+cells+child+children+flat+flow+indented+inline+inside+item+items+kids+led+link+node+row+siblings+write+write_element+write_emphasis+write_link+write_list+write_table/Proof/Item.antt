@@ -16,6 +16,7 @@ use Rattle.tree.specs.Scans.{skipList}
 use Rattle.tree.proofs.Frames.{kept-in}
 use Rattle.text.proofs.Writing.{alike}
 use Rattle.elements.specs.Stands.{NodeAt, Placed, Placeds}
+use Rattle.serializer.specs.Options.{unpacked}
 use Rattle.serializer.specs.Writers.{selfAt}
 use Rattle.serializer.proofs.Falls.{falls-in}
 use Rattle.serializer.proofs.Lists.{fits-plain, head-other, item-placed, head-item}
@@ -27,6 +28,7 @@ use Rattle.serializer.proofs.item.Reads as item
 use Rattle.tree.proofs.nodes.node_end.Reads as node-end-reads
 use Rattle.spec.proofs.ctx.FormatOpts.fresh.Reads as fresh-reads
 use Rattle.spec.proofs.ctx.FormatOpts.include_node.Reads as include-node-reads
+use Rattle.serializer.proofs.options.packed.Reads as packed-reads
 use Rattle.serializer.proofs.write.Reads as write
 use Rattle.elements.proofs.list_nodes.has_blocks.Reads as has-blocks-reads
 use Rattle.serializer.proofs.blocks.Reads as blocks
@@ -34,7 +36,7 @@ use Rattle.serializer.proofs.flat.Reads as flat
 use Rattle.serializer.proofs.+alone+block+blocks+body+cell+cells+child+children+flat+flow+indented+inline+inside+item+items+kids+led+link+node+row+siblings+write+write_element+write_emphasis+write_link+write_list+write_table.Proof.Measures.{item-at, write-below, blocks-below, flat-below}
 
 abbrev claims : ℕ → lts.Claims
-claims t = (node-end-reads.Asked, node-end-reads.Learnt, fresh-reads.Asked, fresh-reads.Learnt, include-node-reads.Asked, include-node-reads.Learnt, write-below t, write.Post, has-blocks-reads.Asked, has-blocks-reads.Learnt, blocks-below t, blocks.Post, flat-below t, flat.Post)
+claims t = (node-end-reads.Asked, node-end-reads.Learnt, fresh-reads.Asked, fresh-reads.Learnt, include-node-reads.Asked, include-node-reads.Learnt, packed-reads.Asked, packed-reads.Learnt, write-below t, write.Post, has-blocks-reads.Asked, has-blocks-reads.Learnt, blocks-below t, blocks.Post, flat-below t, flat.Post)
 
 node : (t : ℕ) (c : lts.Start (claims t) (item-at t) item.Post) → NodeAt (c .args .sheet .now) (c .args .nodes .now) (c .args .c)
 node t c = placeds-at (c .pre .1 .0 .alone) (c .pre .1 .0 .later)
@@ -43,25 +45,28 @@ node-end-requires : (t : ℕ) → lts.Need-node-end-requires (claims t) (item-at
 node-end-requires t c κs =
     node t (c .before .before .before .before .before) .inside
 
-inner : (t : ℕ) (c : lts.After-include-node (claims t) (item-at t) item.Post) → c .include-node .result ≡ «include_node» (fresh (c .before .before .before .before .before .before .before .before .before .before .before .before .args .ctx .opts))
+inner : (t : ℕ) (c : lts.After-include-node (claims t) (item-at t) item.Post) → c .include-node .result ≡ «include_node» (fresh (c .before .before .before .before .before .before .before .before .before .before .args .ctx .opts))
 inner t c = c .include-node .ensures ∙ ap «include_node» (c .before .fresh .ensures)
+
+packed-requires : (t : ℕ) → lts.Need-packed-requires (claims t) (item-at t) item.Post
+packed-requires t c κs = search needs
 
 write-requires : (t : ℕ) → lts.Need-write-requires (claims t) (item-at t) item.Post
 write-requires t c κs =
-    let s = c .before .before .before .before .before .before .before .before .before .before .before .before in
-    (falls-in (s .args .levels) (s .pre .0) (lit< tt), (subst (λ (e : ℕ). Placeds (s .args .sheet .now) (s .args .nodes .now) (s .args .c) e) (sym (c .before .before .before .before .before .before .node-end .ensures)) (s .pre .1 .0 .alone), s .pre .1 .2, fits-plain (s .args .levels) (s .args .ctx) (c .include-node .result) (inner t (c)) (s .pre .1 .3)))
+    let s = c .before .before .before .before .before .before .before .before .before .before .before .before .before in
+    (falls-in (s .args .levels) (s .pre .0) (lit< tt), (subst (λ (e : ℕ). Placeds (s .args .sheet .now) (s .args .nodes .now) (s .args .c) e) (sym (c .before .before .before .before .before .before .before .node-end .ensures)) (s .pre .1 .0 .alone), s .pre .1 .2, fits-plain (s .args .levels) (s .args .ctx) (unpacked (c .packed .result) (c .before .before .before .include-node .result .offset)) (c .packed .ensures ∙ inner t (c .before .before .before)) (s .pre .1 .3)))
 
 returns : (t : ℕ) → lts.Need-returns (claims t) (item-at t) item.Post
 returns t c =
-    let s = c .before .before .before .before .before .before .before .before .before .before .before .before .before .before .before .before .before in
+    let s = c .before .before .before .before .before .before .before .before .before .before .before .before .before .before .before .before .before .before in
     let a = s .args in
     let skips = skipTags (skipList (a .own) (a .run .now)) in (
-      kept-in (omega arith) (omega (arith, c .before .before .before .before .before .before .before .before .before .before .before .node-end .ensures)) (c .before .before .before .before .write .ensures .0),
+      kept-in (omega arith) (omega (arith, c .before .before .before .before .before .before .before .before .before .before .before .before .node-end .ensures)) (c .before .before .before .before .write .ensures .0),
       record {
         for = λ parent f anc h x.
-            alike (head-other skips (a .levels) anc (a .ctx) (take (a .len) (a .text .now)) (a .sheet .now) (a .nodes .now) parent (a .c) f h (s .pre .1 .0 .later) (sym (s .pre .1 .1) ∙ not-true (a .li) (c .before .before .before .before .before .before .before .before .before .if1 .taken))
-            ∙ ap (λ (o : FormatOpts). writeAt skips (a .levels) anc o f (take (a .len) (a .text .now))) (sym (inner t (c .before .before .before .before .before))))
-            (c .before .before .before .before .write .ensures .1 .for parent f anc (subst (λ (e : ℕ). Rep (a .sheet .now) (a .nodes .now) parent (a .c) e f) (sym (c .before .before .before .before .before .before .before .before .before .before .before .node-end .ensures)) h) x);
+            alike (head-other skips (a .levels) anc (a .ctx) (take (a .len) (a .text .now)) (a .sheet .now) (a .nodes .now) parent (a .c) f h (s .pre .1 .0 .later) (sym (s .pre .1 .1) ∙ not-true (a .li) (c .before .before .before .before .before .before .before .before .before .before .if1 .taken))
+            ∙ ap (λ (o : FormatOpts). writeAt skips (a .levels) anc o f (take (a .len) (a .text .now))) (sym (c .before .before .before .before .before .packed .ensures ∙ inner t (c .before .before .before .before .before .before .before .before))))
+            (c .before .before .before .before .write .ensures .1 .for parent f anc (subst (λ (e : ℕ). Rep (a .sheet .now) (a .nodes .now) parent (a .c) e f) (sym (c .before .before .before .before .before .before .before .before .before .before .before .before .node-end .ensures)) h) x);
       },
     )
 
@@ -137,6 +142,6 @@ same-length-6 t c = search needs
 pub spec : (M : Type 1) (t : ℕ) → lts.Closed (claims t) (item-at t) item.Post M
 spec M t =
     lts.spec (claims t) (item-at t) item.Post
-    (node-end-requires t) (fresh-requires t) (include-node-requires t) (write-requires t) (same-length t) (same-length-2 t)
+    (node-end-requires t) (fresh-requires t) (include-node-requires t) (packed-requires t) (write-requires t) (same-length t) (same-length-2 t)
     (returns t) (add-has-blocks t) (has-blocks-requires t) (blocks-requires t) (same-length-3 t)
     (same-length-4 t) (returns-2 t) (flat-requires t) (same-length-5 t) (same-length-6 t) (returns-3 t)

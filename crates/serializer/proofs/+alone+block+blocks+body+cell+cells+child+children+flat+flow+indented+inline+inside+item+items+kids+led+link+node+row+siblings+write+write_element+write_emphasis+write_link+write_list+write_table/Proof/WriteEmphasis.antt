@@ -20,6 +20,7 @@ use Rattle.text.proofs.Temporary.{lent, back}
 use Rattle.text.proofs.Writing.{alike}
 use Rattle.elements.specs.EmphasisStep.{emphasisStep}
 use Rattle.elements.specs.Stands.{ElementAt}
+use Rattle.serializer.specs.Options.{unpacked}
 use Rattle.serializer.specs.Writers.{selfAt, Fits}
 use Rattle.serializer.proofs.Answers.{below-wrote, nest-done, nest-full, nest-fits}
 use Rattle.serializer.proofs.Falls.{falls-in}
@@ -32,12 +33,13 @@ use Rattle.serializer.proofs.+alone+block+blocks+body+cell+cells+child+
 use Rattle.serializer.proofs.write_emphasis.Reads as write-emphasis
 use Rattle.tree.proofs.nodes.node_end.Reads as node-end-reads
 use Rattle.elements.proofs.steps.emphasis_opts.Reads as emphasis-opts-reads
+use Rattle.serializer.proofs.options.packed.Reads as packed-reads
 use Rattle.serializer.proofs.write.Reads as write
 use Rattle.elements.proofs.steps.push_emphasis_by.Reads as push-emphasis-by-reads
 use Rattle.serializer.proofs.+alone+block+blocks+body+cell+cells+child+children+flat+flow+indented+inline+inside+item+items+kids+led+link+node+row+siblings+write+write_element+write_emphasis+write_link+write_list+write_table.Proof.Measures.{write-emphasis-at, write-below}
 
 abbrev claims : ℕ → lts.Claims
-claims t = (node-end-reads.Asked, node-end-reads.Learnt, emphasis-opts-reads.Asked, emphasis-opts-reads.Learnt, write-below t, write.Post, push-emphasis-by-reads.Asked, push-emphasis-by-reads.Learnt)
+claims t = (node-end-reads.Asked, node-end-reads.Learnt, emphasis-opts-reads.Asked, emphasis-opts-reads.Learnt, packed-reads.Asked, packed-reads.Learnt, write-below t, write.Post, push-emphasis-by-reads.Asked, push-emphasis-by-reads.Learnt)
 
 node-end-requires : (t : ℕ) → lts.Need-node-end-requires (claims t) (write-emphasis-at t) write-emphasis.Post
 node-end-requires t c κs =
@@ -49,40 +51,43 @@ add-write t c =
     let s = c .before .before .before .before .before .before .before .before .before in
     omega (arith, placed-node (s .args .sheet .now) (s .args .nodes .now) (s .args .at) (s .pre .1 .0) .inside, s .good)
 
+packed-requires : (t : ℕ) → lts.Need-packed-requires (claims t) (write-emphasis-at t) write-emphasis.Post
+packed-requires t c κs = search needs
+
 write-requires : (t : ℕ) → lts.Need-write-requires (claims t) (write-emphasis-at t) write-emphasis.Post
 write-requires t c κs =
-    let s = c .before .before .before .before .before .before .before .before .before in (
+    let s = c .before .before .before .before .before .before .before .before .before .before in (
       falls-in (s .args .levels) (s .pre .0) (lit< tt),
       (
-        placed-kids (s .args .sheet .now) (s .args .nodes .now) (s .args .at) (s .pre .1 .0) (c .before .before .before .node-end .ensures),
+        placed-kids (s .args .sheet .now) (s .args .nodes .now) (s .args .at) (s .pre .1 .0) (c .before .before .before .before .node-end .ensures),
         (omega arith, s .pre .1 .2 .1),
-        subst (λ (o : FormatOpts). Fits o (s .args .levels)) (sym (c .before .before .emphasis-opts .ensures)) (omega (arith, s .pre .1 .3)),
+        subst (λ (o : FormatOpts). Fits o (s .args .levels)) (sym (c .packed .ensures ∙ c .before .before .before .emphasis-opts .ensures)) (omega (arith, s .pre .1 .3)),
       ),
     )
 
 -- what the children wrote, under the options that the definition names
-wrote : (t : ℕ) (c : lts.After-write (claims t) (write-emphasis-at t) write-emphasis.Post) {name : Bytes} {attrs : List Attr} {kids : Forest} (anc : Ancestors) → ElementAt (c .before .before .before .before .before .before .before .before .before .before .args .sheet .now) (c .before .before .before .before .before .before .before .before .before .before .args .nodes .now) (c .before .before .before .before .before .before .before .before .before .before .args .at) name attrs kids
-    → Around (c .before .before .before .before .before .before .before .before .before .before .args .sheet .now) (c .before .before .before .before .before .before .before .before .before .before .args .nodes .now) (parentAt (c .before .before .before .before .before .before .before .before .before .before .args .nodes .now) (c .before .before .before .before .before .before .before .before .before .before .args .at)) anc
-    → Writes (length (lent (c .before .before .before .before .before .before .before .before .before .before .args .text .now) (c .before .before .before .before .before .before .before .before .before .before .args .len))) (c .write .last .1 .1 .1 .1 .0) (c .write .result)
-    (selfAt (c .before .before .before .before .before .before .before .before .before .before .args .own) (c .before .before .before .before .before .before .before .before .before .before .args .run .now) (c .before .before .before .before .before .before .before .before .before .before .args .levels) .below (attrs ∷ anc) («emphasis_scope» (scopeOf («md_emphasis» (tagOf name))) (inline («include_node» (c .before .before .before .before .before .before .before .before .before .before .args .opts)))) kids [])
+wrote : (t : ℕ) (c : lts.After-write (claims t) (write-emphasis-at t) write-emphasis.Post) {name : Bytes} {attrs : List Attr} {kids : Forest} (anc : Ancestors) → ElementAt (c .before .before .before .before .before .before .before .before .before .before .before .args .sheet .now) (c .before .before .before .before .before .before .before .before .before .before .before .args .nodes .now) (c .before .before .before .before .before .before .before .before .before .before .before .args .at) name attrs kids
+    → Around (c .before .before .before .before .before .before .before .before .before .before .before .args .sheet .now) (c .before .before .before .before .before .before .before .before .before .before .before .args .nodes .now) (parentAt (c .before .before .before .before .before .before .before .before .before .before .before .args .nodes .now) (c .before .before .before .before .before .before .before .before .before .before .before .args .at)) anc
+    → Writes (length (lent (c .before .before .before .before .before .before .before .before .before .before .before .args .text .now) (c .before .before .before .before .before .before .before .before .before .before .before .args .len))) (c .write .last .1 .1 .1 .1 .0) (c .write .result)
+    (selfAt (c .before .before .before .before .before .before .before .before .before .before .before .args .own) (c .before .before .before .before .before .before .before .before .before .before .before .args .run .now) (c .before .before .before .before .before .before .before .before .before .before .before .args .levels) .below (attrs ∷ anc) («emphasis_scope» (scopeOf («md_emphasis» (tagOf name))) (inline («include_node» (c .before .before .before .before .before .before .before .before .before .before .before .args .opts)))) kids [])
 wrote t c {name} {attrs} {kids} anc x h =
-    let s = c .before .before .before .before .before .before .before .before .before .before in
+    let s = c .before .before .before .before .before .before .before .before .before .before .before in
     let a = s .args in
     subst (λ (o : FormatOpts). Writes (length (lent (a .text .now) (a .len))) (c .write .last .1 .1 .1 .1 .0) (c .write .result) (selfAt (a .own) (a .run .now) (a .levels) .below (attrs ∷ anc) o kids []))
-    (c .before .before .before .emphasis-opts .ensures ∙ ap (λ (k : ℕ). «emphasis_scope» (scopeOf («md_emphasis» k)) (inline («include_node» (a .opts)))) (s .pre .1 .1 ∙ element-name x))
-    (below-wrote (a .own) (a .run .now) (a .levels) (c .before .before .before .emphasis-opts .result) anc x h (c .before .before .before .before .node-end .ensures) (c .write .ensures .1))
+    (c .before .packed .ensures ∙ c .before .before .before .before .emphasis-opts .ensures ∙ ap (λ (k : ℕ). «emphasis_scope» (scopeOf («md_emphasis» k)) (inline («include_node» (a .opts)))) (s .pre .1 .1 ∙ element-name x))
+    (below-wrote (a .own) (a .run .now) (a .levels) (unpacked (c .before .packed .result) (c .before .before .before .before .emphasis-opts .result .offset)) anc x h (c .before .before .before .before .before .node-end .ensures) (c .write .ensures .1))
 
 push-emphasis-by-requires : (t : ℕ) → lts.Need-push-emphasis-by-requires (claims t) (write-emphasis-at t) write-emphasis.Post
 push-emphasis-by-requires t c κs =
-    let s = c .before .before .before .before .before .before .before .before .before .before .before .before .before .before .before .before .before .before in
+    let s = c .before .before .before .before .before .before .before .before .before .before .before .before .before .before .before .before .before .before .before in
     let p = s .pre .1 .0 in
     nest-fits (s .args .text .now) (s .args .len) (s .pre .1 .2 .0) (wrote t (c .before .before .before .before .before .before .before .before) (p .1 .0) (p .0 .3) (p .1 .1)) (c .before .before .n .given .1)
 
 returns : (t : ℕ) → lts.Need-returns (claims t) (write-emphasis-at t) write-emphasis.Post
 returns t c =
-    let s = c .before .before .before .before .before .before .before .before .before .before .before .before .before .before .before .before .before .before .before .before .before in
+    let s = c .before .before .before .before .before .before .before .before .before .before .before .before .before .before .before .before .before .before .before .before .before .before in
     let a = s .args in (
-      kept-in (omega arith) (omega (arith, c .before .before .before .before .before .before .before .before .before .before .before .before .before .before .before .node-end .ensures)) (c .before .before .before .before .before .before .before .before .before .before .before .write .ensures .0),
+      kept-in (omega arith) (omega (arith, c .before .before .before .before .before .before .before .before .before .before .before .before .before .before .before .before .node-end .ensures)) (c .before .before .before .before .before .before .before .before .before .before .before .write .ensures .0),
       record {
         for = λ name attrs kids anc x h. alike (ap (λ (f : Step). f (take (a .len) (a .text .now))) (emphasis-is (selfAt (a .own) (a .run .now) (a .levels)) anc (a .opts) (tagOf name) attrs kids))
             (nest-done (a .text .now) (a .len) (s .pre .1 .2 .0) (wrote t (c .before .before .before .before .before .before .before .before .before .before .before) anc x h) (λ z. emphasisStep (a .opts) (tagOf name) z) (c .before .before .before .before .before .n .given .1)
@@ -92,9 +97,9 @@ returns t c =
 
 returns-2 : (t : ℕ) → lts.Need-returns-2 (claims t) (write-emphasis-at t) write-emphasis.Post
 returns-2 t c =
-    let s = c .before .before .before .before .before .before .before .before .before .before .before .before .before .before .before .before in
+    let s = c .before .before .before .before .before .before .before .before .before .before .before .before .before .before .before .before .before in
     let a = s .args in (
-      kept-in (omega arith) (omega (arith, c .before .before .before .before .before .before .before .before .before .before .node-end .ensures)) (c .before .before .before .before .before .before .write .ensures .0),
+      kept-in (omega arith) (omega (arith, c .before .before .before .before .before .before .before .before .before .before .before .node-end .ensures)) (c .before .before .before .before .before .before .write .ensures .0),
       record {
         for = λ name attrs kids anc x h. alike (ap (λ (f : Step). f (take (a .len) (a .text .now))) (emphasis-is (selfAt (a .own) (a .run .now) (a .levels)) anc (a .opts) (tagOf name) attrs kids))
             (nest-full (a .text .now) (a .len) (s .pre .1 .2 .0) (wrote t (c .before .before .before .before .before .before) anc x h) (emphasisStep (a .opts) (tagOf name) (selfAt (a .own) (a .run .now) (a .levels) .below (attrs ∷ anc) («emphasis_scope» (scopeOf («md_emphasis» (tagOf name))) (inline («include_node» (a .opts)))) kids [] .text)) (c .enum-told .given .1));
@@ -135,5 +140,5 @@ pub spec : (M : Type 1) (t : ℕ) → lts.Closed (claims t) (write-emphasis-at t
 spec M t =
     lts.spec (claims t) (write-emphasis-at t) write-emphasis.Post
     (node-end-requires t) (emphasis-opts-requires t) (sub-write t) (part-write-start t) (part-write-end t) (add-write t)
-    (write-requires t) (enum-known-n t) (push-emphasis-by-requires t) (enum-told t) (same-length t) (same-length-2 t)
+    (packed-requires t) (write-requires t) (enum-known-n t) (push-emphasis-by-requires t) (enum-told t) (same-length t) (same-length-2 t)
     (returns t) (same-length-3 t) (same-length-4 t) (returns-2 t)
