@@ -233,13 +233,36 @@ fn inside(
     let name = node_name(sheet, nodes, at);
     let flags = unpacked(bits, offset);
     if !flags.skip_md & has_writer(name, flags) {
-        let opts = unpacked(bits, offset);
         // lists and tables, and the others: of two calls the compiler takes none into `write`, so that a level without a
         // writer needs no frame for them
         if name < 21 {
-            return write_element(sheet, own, run, nodes, text, len, at, name, opts, levels);
+            return write_element(
+                sheet,
+                own,
+                run,
+                nodes,
+                text,
+                len,
+                at,
+                name,
+                bits,
+                offset,
+                levels,
+            );
         }
-        return write_element(sheet, own, run, nodes, text, len, at, name, opts, levels);
+        return write_element(
+            sheet,
+            own,
+            run,
+            nodes,
+            text,
+            len,
+            at,
+            name,
+            bits,
+            offset,
+            levels,
+        );
     }
     let to = node_end(nodes, at);
     match siblings(
@@ -270,13 +293,15 @@ fn write_element(
     len: usize,
     at: usize,
     name: usize,
-    opts: FormatOpts,
+    bits: usize,
+    offset: usize,
     levels: usize,
 ) -> Wrote
-    requires { ⌜ Placed (now sheet) (now nodes) at × (name ≡ nameAt (now sheet) (placeAt (now nodes) at)) × Ready (now sheet) (now text) len × Fits opts (levels + 1) ⌝ }
+    requires { ⌜ Placed (now sheet) (now nodes) at × (name ≡ nameAt (now sheet) (placeAt (now nodes) at)) × Ready (now sheet) (now text) len × Fits (def.unpacked bits offset) (levels + 1) ⌝ }
     ensures kept { λ r. ⌜ Kept at (endAt (now (nodes .entry)) at) (now (nodes .entry)) (now (nodes .exit)) ⌝ }
-    ensures { λ r. ⌜ WritesElement (now (sheet .entry)) (now (nodes .entry)) at (λ anc name attrs kids. «write_element» (selfAt own (now (run .entry)) levels) anc opts name attrs kids) (take len (now (text .entry))) (length (now (text .entry))) (now (text .exit)) r ⌝ }
+    ensures { λ r. ⌜ WritesElement (now (sheet .entry)) (now (nodes .entry)) at (λ anc name attrs kids. «write_element» (selfAt own (now (run .entry)) levels) anc (def.unpacked bits offset) name attrs kids) (take len (now (text .entry))) (length (now (text .entry))) (now (text .exit)) r ⌝ }
 {
+    let opts = unpacked(bits, offset);
     if is_list(name) {
         return write_list(sheet, own, run, nodes, text, len, at, name, opts, levels);
     }

@@ -1,5 +1,5 @@
 -- `serializer::inside`, of the cycle. Assumes nothing.
-use Prim.Native.Nat.{ℕ, _+_, _<_}
+use Prim.Native.Nat.{ℕ, _<_}
 use mathlib.Core.Path.{_≡_, ap, sym, subst, _∙_}
 use mathlib.Core.Bool.{Bool, not, _&&_}
 use mathlib.Core.List.{List, _∷_}
@@ -17,7 +17,7 @@ use Rattle.spec.specs.Md.MDSerializer.{Ancestors}
 use Rattle.spec.specs.declared.ctx.FormatOpts.{FormatOpts}
 use Rattle.elements.specs.Stands.{ElementAt}
 use Rattle.serializer.specs.Options.{unpacked}
-use Rattle.serializer.specs.Writers.{selfAt, Fits}
+use Rattle.serializer.specs.Writers.{selfAt}
 use Rattle.serializer.proofs.Answers.{forest-reaches, below-wrote, both-done, both-full}
 use Rattle.serializer.proofs.Falls.{falls-in}
 use Rattle.elements.proofs.Interrupts.{element-name}
@@ -46,13 +46,13 @@ node-name-requires t c κs =
 
 write-element-requires : (t : ℕ) → lts.Need-write-element-requires (claims t) (inside-at t) inside.Post
 write-element-requires t c κs =
-    let s = c .before .before .before .before .before .before .before .before .before .before .before .before .before .before in
-    (falls-in (s .args .levels) (s .pre .0) (lit< tt), (s .pre .1 .0, c .before .before .before .before .before .before .before .before .node-name .ensures, s .pre .1 .1, subst (λ (o : FormatOpts). Fits o (s .args .levels + 1)) (sym (c .before .before .before .unpacked2 .ensures)) (s .pre .1 .2)))
+    let s = c .before .before .before .before .before .before .before .before .before .before .before .before .before in
+    (falls-in (s .args .levels) (s .pre .0) (lit< tt), (s .pre .1 .0, c .before .before .before .before .before .before .before .node-name .ensures, s .pre .1 .1, s .pre .1 .2))
 
 write-element-requires-2 : (t : ℕ) → lts.Need-write-element-requires-2 (claims t) (inside-at t) inside.Post
 write-element-requires-2 t c κs =
-    let s = c .before .before .before .before .before .before .before .before .before .before .before .before .before .before in
-    (falls-in (s .args .levels) (s .pre .0) (lit< tt), (s .pre .1 .0, c .before .before .before .before .before .before .before .before .node-name .ensures, s .pre .1 .1, subst (λ (o : FormatOpts). Fits o (s .args .levels + 1)) (sym (c .before .before .before .unpacked2 .ensures)) (s .pre .1 .2)))
+    let s = c .before .before .before .before .before .before .before .before .before .before .before .before .before in
+    (falls-in (s .args .levels) (s .pre .0) (lit< tt), (s .pre .1 .0, c .before .before .before .before .before .before .before .node-name .ensures, s .pre .1 .1, s .pre .1 .2))
 
 -- the element has a writer of its own
 by-writer : (t : ℕ) (c : lts.Then1 (claims t) (inside-at t) inside.Post) {name : Bytes} {attrs : List Attr} {kids : Forest} (anc : Ancestors) → ElementAt (c .before .before .before .before .before .before .before .before .before .before .args .sheet .now) (c .before .before .before .before .before .before .before .before .before .before .args .nodes .now) (c .before .before .before .before .before .before .before .before .before .before .args .at) name attrs kids
@@ -67,13 +67,11 @@ by-writer t c {name} {attrs} {kids} anc x =
 
 returns : (t : ℕ) → lts.Need-returns (claims t) (inside-at t) inside.Post
 returns t c =
-    let a = c .before .before .before .before .before .before .before .before .before .before .before .before .before .before .before .before .before .before .before .args in
-    (c .before .before .before .before .write-element .ensures .0, record { for = λ name attrs kids anc x h. alike (by-writer t (c .before .before .before .before .before .before .before .before .before) anc x ∙ ap (λ (o : FormatOpts). «write_element» (selfAt (a .own) (a .run .now) (a .levels)) anc o name attrs kids (take (a .len) (a .text .now))) (sym (c .before .before .before .before .before .before .before .before .unpacked2 .ensures))) (c .before .before .before .before .write-element .ensures .1 .for name attrs kids anc x h) })
+    (c .before .before .before .before .write-element .ensures .0, record { for = λ name attrs kids anc x h. alike (by-writer t (c .before .before .before .before .before .before .before .before) anc x) (c .before .before .before .before .write-element .ensures .1 .for name attrs kids anc x h) })
 
 returns-2 : (t : ℕ) → lts.Need-returns-2 (claims t) (inside-at t) inside.Post
 returns-2 t c =
-    let a = c .before .before .before .before .before .before .before .before .before .before .before .before .before .before .before .before .before .before .before .args in
-    (c .before .before .before .before .write-element2 .ensures .0, record { for = λ name attrs kids anc x h. alike (by-writer t (c .before .before .before .before .before .before .before .before .before) anc x ∙ ap (λ (o : FormatOpts). «write_element» (selfAt (a .own) (a .run .now) (a .levels)) anc o name attrs kids (take (a .len) (a .text .now))) (sym (c .before .before .before .before .before .before .before .before .unpacked2 .ensures))) (c .before .before .before .before .write-element2 .ensures .1 .for name attrs kids anc x h) })
+    (c .before .before .before .before .write-element2 .ensures .0, record { for = λ name attrs kids anc x h. alike (by-writer t (c .before .before .before .before .before .before .before .before) anc x) (c .before .before .before .before .write-element2 .ensures .1 .for name attrs kids anc x h) })
 
 node-end-requires : (t : ℕ) → lts.Need-node-end-requires (claims t) (inside-at t) inside.Post
 node-end-requires t c κs =
@@ -121,8 +119,8 @@ returns-3 t c =
       kept-in (omega arith) (omega (arith, c .before .before .before .before .before .before .before .before .before .before .before .before .before .before .before .node-end .ensures)) (c .before .before .before .before .before .before .before .before .before .before .before .before .siblings .ensures .0),
       record {
         for = λ name attrs kids anc x h. both-done (a .text .now) (a .len) (s .pre .1 .1 .0) (inElement (selfAt (a .own) (a .run .now) (a .levels)) anc (unpacked (a .bits) (a .offset)) name attrs kids) (selfAt (a .own) (a .run .now) (a .levels) .below (attrs ∷ anc) (unpacked (a .bits) (a .offset)) kids) (closed (unpacked (a .bits) (a .offset)) (tagOf name)) (plain t (c .before .before .before .before .before .before .before .before .before .before .before .before .before .before .before .before .before) anc x) (below-wrote (a .own) (a .run .now) (a .levels) (unpacked (a .bits) (a .offset)) anc x h (c .before .before .before .before .before .before .before .before .before .before .before .before .before .before .before .node-end .ensures) (c .before .before .before .before .before .before .before .before .before .before .before .before .siblings .ensures .1)) (c .before .before .before .before .before .before .n .given .1)
-            (subst (λ (o : FormatOpts). Writes (length (c .before .before .before .before .before .before .before .before .before .before .before .before .siblings .last .1 .1 .1 .1 .0)) (c .before .before .closed .last .0) (c .before .before .closed .result) (closed o (tagOf name) (take (c .before .before .before .before .before .before .n .given .0 .0) (c .before .before .before .before .before .before .before .before .before .before .before .before .siblings .last .1 .1 .1 .1 .0)))) (c .before .before .before .unpacked3 .ensures)
-            (subst (λ (k : ℕ). Writes (length (c .before .before .before .before .before .before .before .before .before .before .before .before .siblings .last .1 .1 .1 .1 .0)) (c .before .before .closed .last .0) (c .before .before .closed .result) (closed (c .before .before .before .unpacked3 .result) k (take (c .before .before .before .before .before .before .n .given .0 .0) (c .before .before .before .before .before .before .before .before .before .before .before .before .siblings .last .1 .1 .1 .1 .0)))) (c .before .before .before .before .before .before .before .before .before .before .before .before .before .before .before .before .before .before .before .before .before .node-name .ensures ∙ element-name x) (c .before .before .closed .ensures)));
+            (subst (λ (o : FormatOpts). Writes (length (c .before .before .before .before .before .before .before .before .before .before .before .before .siblings .last .1 .1 .1 .1 .0)) (c .before .before .closed .last .0) (c .before .before .closed .result) (closed o (tagOf name) (take (c .before .before .before .before .before .before .n .given .0 .0) (c .before .before .before .before .before .before .before .before .before .before .before .before .siblings .last .1 .1 .1 .1 .0)))) (c .before .before .before .unpacked2 .ensures)
+            (subst (λ (k : ℕ). Writes (length (c .before .before .before .before .before .before .before .before .before .before .before .before .siblings .last .1 .1 .1 .1 .0)) (c .before .before .closed .last .0) (c .before .before .closed .result) (closed (c .before .before .before .unpacked2 .result) k (take (c .before .before .before .before .before .before .n .given .0 .0) (c .before .before .before .before .before .before .before .before .before .before .before .before .siblings .last .1 .1 .1 .1 .0)))) (c .before .before .before .before .before .before .before .before .before .before .before .before .before .before .before .before .before .before .before .before .before .node-name .ensures ∙ element-name x) (c .before .before .closed .ensures)));
       },
     )
 
@@ -131,9 +129,6 @@ unpacked-requires t c κs = search needs
 
 unpacked-requires-2 : (t : ℕ) → lts.Need-unpacked-requires-2 (claims t) (inside-at t) inside.Post
 unpacked-requires-2 t c κs = search needs
-
-unpacked-requires-3 : (t : ℕ) → lts.Need-unpacked-requires-3 (claims t) (inside-at t) inside.Post
-unpacked-requires-3 t c κs = search needs
 
 has-writer-requires : (t : ℕ) → lts.Need-has-writer-requires (claims t) (inside-at t) inside.Post
 has-writer-requires t c κs = search needs
@@ -171,7 +166,7 @@ same-length-8 t c = search needs
 pub spec : (M : Type 1) (t : ℕ) → lts.Closed (claims t) (inside-at t) inside.Post M
 spec M t =
     lts.spec (claims t) (inside-at t) inside.Post
-    (node-name-requires t) (unpacked-requires t) (has-writer-requires t) (unpacked-requires-2 t) (write-element-requires t) (same-length t) (same-length-2 t)
+    (node-name-requires t) (unpacked-requires t) (has-writer-requires t) (write-element-requires t) (same-length t) (same-length-2 t)
     (returns t) (write-element-requires-2 t) (same-length-3 t) (same-length-4 t) (returns-2 t)
-    (node-end-requires t) (add-siblings t) (siblings-requires t) (enum-known-n t) (unpacked-requires-3 t) (closed-requires t) (enum-told t)
+    (node-end-requires t) (add-siblings t) (siblings-requires t) (enum-known-n t) (unpacked-requires-2 t) (closed-requires t) (enum-told t)
     (same-length-5 t) (same-length-6 t) (returns-3 t) (same-length-7 t) (same-length-8 t) (returns-4 t)

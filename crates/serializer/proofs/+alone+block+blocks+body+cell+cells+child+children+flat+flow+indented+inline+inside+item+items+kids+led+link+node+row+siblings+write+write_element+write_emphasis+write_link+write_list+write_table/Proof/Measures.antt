@@ -256,7 +256,7 @@ abbrev pub write-below : ℕ → In 4 write-kinds.ps
 write-below t = and 4 write-kinds.ps (falls 4 write-kinds.ps _<_ μ-write t) write.Pre
 
 abbrev pub μ-write-element : Measures 4 write-element-kinds.ps ℕ
-μ-write-element κs a = a .1 .1 .1 .1 .1 .1 .1 .1 .1 .0 * 147573952589676412928 + 73786976294838206468
+μ-write-element κs a = a .1 .1 .1 .1 .1 .1 .1 .1 .1 .1 .0 * 147573952589676412928 + 73786976294838206468
 
 abbrev pub write-element-at : ℕ → In 4 write-element-kinds.ps
 write-element-at t = and 4 write-element-kinds.ps (is 4 write-element-kinds.ps μ-write-element t) write-element.Pre
