@@ -333,15 +333,17 @@ fn kids(
     text: &mut [u8],
     len: usize,
     at: usize,
-    opts: FormatOpts,
+    bits: usize,
+    offset: usize,
     levels: usize,
 ) -> Wrote
-    requires { ⌜ Placed (now sheet) (now nodes) at × Ready (now sheet) (now text) len × Fits opts levels ⌝ }
+    requires { ⌜ Placed (now sheet) (now nodes) at × Ready (now sheet) (now text) len × Fits (def.unpacked bits offset) levels ⌝ }
     ensures kept { λ r. ⌜ Kept at (endAt (now (nodes .entry)) at) (now (nodes .entry)) (now (nodes .exit)) ⌝ }
-    ensures { λ r. ⌜ WritesElement (now (sheet .entry)) (now (nodes .entry)) at (λ anc name attrs kids. writeKids (selfAt own (now (run .entry)) levels) anc opts (element name attrs kids nothing)) (take len (now (text .entry))) (length (now (text .entry))) (now (text .exit)) r ⌝ }
+    ensures { λ r. ⌜ WritesElement (now (sheet .entry)) (now (nodes .entry)) at (λ anc name attrs kids. writeKids (selfAt own (now (run .entry)) levels) anc (def.unpacked bits offset) (element name attrs kids nothing)) (take len (now (text .entry))) (length (now (text .entry))) (now (text .exit)) r ⌝ }
 {
     let to = node_end(nodes, at);
     if (levels != 0) & is_one_text(sheet, nodes, at + 1, to) {
+        let opts = unpacked(bits, offset);
         return trim_behind_text(sheet, nodes, text, len, at + 1, opts);
     }
     match write(
@@ -353,8 +355,8 @@ fn kids(
         len,
         at + 1,
         to,
-        packed(opts),
-        opts.offset,
+        bits,
+        offset,
         levels,
     ) {
         Wrote::Done(n) => Wrote::Done(trim_space(text, n)),
@@ -431,7 +433,21 @@ fn write_link(
             opts,
             levels,
         ),
-        Value::Missing => kids(sheet, own, run, nodes, text, len, at, fresh, levels),
+        Value::Missing => {
+            let bits = packed(fresh);
+            kids(
+                sheet,
+                own,
+                run,
+                nodes,
+                text,
+                len,
+                at,
+                bits,
+                fresh.offset,
+                levels,
+            )
+        }
     }
 }
 
@@ -515,6 +531,7 @@ fn body(
     ensures { λ r. ⌜ WritesElement (now (sheet .entry)) (now (nodes .entry)) at (λ anc name attrs kids. linkOf attrs (take (to - from) (drop from (now (sheet .entry)))) (writeKids (selfAt own (now (run .entry)) levels) anc opts (element name attrs kids nothing) []) push) (take len (now (text .entry))) (length (now (text .entry))) (now (text .exit)) r ⌝ }
 {
     let place = node_place(nodes, at);
+    let bits = packed(opts);
     match kids(
         sheet,
         own,
@@ -523,7 +540,8 @@ fn body(
         &mut text[len..],
         0,
         at,
-        opts,
+        bits,
+        opts.offset,
         levels,
     ) {
         Wrote::Done(n) => push_link(sheet, text, len, n, place, from, to, false, opts),
@@ -657,10 +675,25 @@ fn flat(
     let wrote = begun.wrote;
     let opts = begun.ctx.opts;
     match wrote {
-        Wrote::Done(n) => match kids(sheet, own, run, nodes, text, n, c, opts.list_item(), levels) {
-            Wrote::Done(m) => push_linebreak(text, m, opts.table_cell),
-            Wrote::Full => Wrote::Full,
-        },
+        Wrote::Done(n) => {
+            let inner = opts.list_item();
+            let bits = packed(inner);
+            match kids(
+                sheet,
+                own,
+                run,
+                nodes,
+                text,
+                n,
+                c,
+                bits,
+                inner.offset,
+                levels,
+            ) {
+                Wrote::Done(m) => push_linebreak(text, m, opts.table_cell),
+                Wrote::Full => Wrote::Full,
+            }
+        }
         Wrote::Full => Wrote::Full,
     }
 }
@@ -1014,10 +1047,25 @@ fn flow(
     }
     let opts = item.ctx.opts;
     match push_heading_prefix(text, len, name) {
-        Wrote::Done(n) => match kids(sheet, own, run, nodes, text, n, c, opts.list_item(), levels) {
-            Wrote::Done(m) => end_flow(text, m, name, item),
-            Wrote::Full => Wrote::Full,
-        },
+        Wrote::Done(n) => {
+            let inner = opts.list_item();
+            let bits = packed(inner);
+            match kids(
+                sheet,
+                own,
+                run,
+                nodes,
+                text,
+                n,
+                c,
+                bits,
+                inner.offset,
+                levels,
+            ) {
+                Wrote::Done(m) => end_flow(text, m, name, item),
+                Wrote::Full => Wrote::Full,
+            }
+        }
         Wrote::Full => Wrote::Full,
     }
 }
@@ -1079,7 +1127,19 @@ fn write_table(
     let first = next_filled_row(sheet, nodes, at + 1, to);
     let fresh = opts.fresh();
     if !is_table_node_writable(sheet, nodes, at + 1, to, first) {
-        return kids(sheet, own, run, nodes, text, len, at, fresh, levels);
+        let bits = packed(fresh);
+        return kids(
+            sheet,
+            own,
+            run,
+            nodes,
+            text,
+            len,
+            at,
+            bits,
+            fresh.offset,
+            levels,
+        );
     }
     match cells(sheet, own, run, nodes, text, len, first, to, opts, levels) {
         Wrote::Done(end) => push_table(sheet, nodes, text, len, end - len, first, to),
@@ -1171,7 +1231,19 @@ fn cell(
     ensures { λ r. ⌜ ((name : Bytes) (attrs : List Attr) (kids : Forest) (anc : Ancestors) (th : Bool) → ElementAt (now (sheet .entry)) (now (nodes .entry)) c name attrs kids → Around (now (sheet .entry)) (now (nodes .entry)) (parentAt (now (nodes .entry)) c) anc → Writes (length (now (text .entry))) (now (text .exit)) r (cellText (selfAt own (now (run .entry)) levels) opts (record { ancestors = anc; isTh = th; node = element name attrs kids nothing }))) ⌝ }
 {
     let inner = opts.fresh().table_cell();
-    match kids(sheet, own, run, nodes, text, 0, c, inner, levels) {
+    let bits = packed(inner);
+    match kids(
+        sheet,
+        own,
+        run,
+        nodes,
+        text,
+        0,
+        c,
+        bits,
+        inner.offset,
+        levels,
+    ) {
         Wrote::Done(n) => {
             let k = trim_trailing_cell_break(&text[..n]);
             escape_table_cell_inplace(text, k)

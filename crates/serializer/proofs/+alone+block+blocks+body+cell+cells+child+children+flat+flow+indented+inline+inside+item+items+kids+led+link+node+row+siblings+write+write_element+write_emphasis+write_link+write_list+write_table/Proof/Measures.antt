@@ -193,7 +193,7 @@ abbrev pub items-below : ℕ → In 4 items-kinds.ps
 items-below t = and 4 items-kinds.ps (falls 4 items-kinds.ps _<_ μ-items t) items.Pre
 
 abbrev pub μ-kids : Measures 4 kids-kinds.ps ℕ
-μ-kids κs a = a .1 .1 .1 .1 .1 .1 .1 .1 .0 * 147573952589676412928 + 2
+μ-kids κs a = a .1 .1 .1 .1 .1 .1 .1 .1 .1 .0 * 147573952589676412928 + 2
 
 abbrev pub kids-at : ℕ → In 4 kids-kinds.ps
 kids-at t = and 4 kids-kinds.ps (is 4 kids-kinds.ps μ-kids t) kids.Pre

@@ -23,11 +23,12 @@ use Rattle.tree.proofs.nodes.node_place.Reads as node-place-reads
 use Rattle.spec.proofs.ctx.FormatOpts.fresh.Reads as fresh-reads
 use Rattle.tree.proofs.attributes.attribute.Reads as attribute-reads
 use Rattle.serializer.proofs.link.Reads as link
+use Rattle.serializer.proofs.options.packed.Reads as packed-reads
 use Rattle.serializer.proofs.kids.Reads as kids
 use Rattle.serializer.proofs.+alone+block+blocks+body+cell+cells+child+children+flat+flow+indented+inline+inside+item+items+kids+led+link+node+row+siblings+write+write_element+write_emphasis+write_link+write_list+write_table.Proof.Measures.{write-link-at, link-below, kids-below}
 
 abbrev claims : ℕ → lts.Claims
-claims t = (node-place-reads.Asked, node-place-reads.Learnt, fresh-reads.Asked, fresh-reads.Learnt, attribute-reads.Asked, attribute-reads.Learnt, link-below t, link.Post, kids-below t, kids.Post)
+claims t = (node-place-reads.Asked, node-place-reads.Learnt, fresh-reads.Asked, fresh-reads.Learnt, attribute-reads.Asked, attribute-reads.Learnt, link-below t, link.Post, packed-reads.Asked, packed-reads.Learnt, kids-below t, kids.Post)
 
 node-place-requires : (t : ℕ) → lts.Need-node-place-requires (claims t) (write-link-at t) write-link.Post
 node-place-requires t c κs =
@@ -58,21 +59,24 @@ returns t c =
       },
     )
 
+packed-requires : (t : ℕ) → lts.Need-packed-requires (claims t) (write-link-at t) write-link.Post
+packed-requires t c κs = search needs
+
 kids-requires : (t : ℕ) → lts.Need-kids-requires (claims t) (write-link-at t) write-link.Post
 kids-requires t c κs =
-    let s = c .before .before .before .before .before .before .before .before .before .before .before .before .before in
-    (falls-in (s .args .levels) (s .pre .0) (lit< tt), (s .pre .1 .0, s .pre .1 .1, subst (λ (o : FormatOpts). Fits o (s .args .levels)) (sym (c .before .before .before .before .before .before .fresh .ensures)) (omega (arith, s .pre .1 .2))))
+    let s = c .before .before .before .before .before .before .before .before .before .before .before .before .before .before in
+    (falls-in (s .args .levels) (s .pre .0) (lit< tt), (s .pre .1 .0, s .pre .1 .1, subst (λ (o : FormatOpts). Fits o (s .args .levels)) (sym (c .before .before .packed .ensures ∙ c .before .before .before .before .before .before .before .fresh .ensures)) (omega (arith, s .pre .1 .2))))
 
 returns-2 : (t : ℕ) → lts.Need-returns-2 (claims t) (write-link-at t) write-link.Post
 returns-2 t c =
-    let s = c .before .before .before .before .before .before .before .before .before .before .before .before .before .before .before .before .before .before in
+    let s = c .before .before .before .before .before .before .before .before .before .before .before .before .before .before .before .before .before .before .before in
     let a = s .args in (
       c .before .before .before .before .kids .ensures .0,
       record {
         for = λ name attrs kids anc x h.
             alike (link-none (selfAt (a .own) (a .run .now) (a .levels)) anc (a .opts) name attrs kids (take (a .len) (a .text .now))
-            (ap (attr (ascii "href")) (x .attrs-are ∙ ap (attrsBehind (a .sheet .now)) (sym (c .before .before .before .before .before .before .before .before .before .before .before .before .node-place .ensures))) ∙ value-as (c .before .before .before .before .before .before .before .enum-told .given .1) (c .before .before .before .before .before .before .before .before .before .attribute .ensures) .value-is))
-            (subst (λ (o : FormatOpts). Writes (length (a .text .now)) (c .before .before .before .before .kids .last .1 .1 .1 .1 .0) (c .before .before .before .before .kids .result) (writeKids (selfAt (a .own) (a .run .now) (a .levels)) anc o (element name attrs kids nothing) (take (a .len) (a .text .now)))) (c .before .before .before .before .before .before .before .before .before .before .before .fresh .ensures) (c .before .before .before .before .kids .ensures .1 .for name attrs kids anc x h));
+            (ap (attr (ascii "href")) (x .attrs-are ∙ ap (attrsBehind (a .sheet .now)) (sym (c .before .before .before .before .before .before .before .before .before .before .before .before .before .node-place .ensures))) ∙ value-as (c .before .before .before .before .before .before .before .before .enum-told .given .1) (c .before .before .before .before .before .before .before .before .before .before .attribute .ensures) .value-is))
+            (subst (λ (o : FormatOpts). Writes (length (a .text .now)) (c .before .before .before .before .kids .last .1 .1 .1 .1 .0) (c .before .before .before .before .kids .result) (writeKids (selfAt (a .own) (a .run .now) (a .levels)) anc o (element name attrs kids nothing) (take (a .len) (a .text .now)))) (c .before .before .before .before .before .before .before .packed .ensures ∙ c .before .before .before .before .before .before .before .before .before .before .before .before .fresh .ensures) (c .before .before .before .before .kids .ensures .1 .for name attrs kids anc x h));
       },
     )
 
@@ -104,5 +108,5 @@ pub spec : (M : Type 1) (t : ℕ) → lts.Closed (claims t) (write-link-at t) wr
 spec M t =
     lts.spec (claims t) (write-link-at t) write-link.Post
     (node-place-requires t) (fresh-requires t) (slice-aggregate-attribute t) (attribute-requires t) (enum-known-from t)
-    (link-requires t) (enum-told t) (kids-requires t) (same-length t) (same-length-2 t) (returns t) (same-length-3 t)
+    (link-requires t) (enum-told t) (packed-requires t) (kids-requires t) (same-length t) (same-length-2 t) (returns t) (same-length-3 t)
     (same-length-4 t) (returns-2 t)

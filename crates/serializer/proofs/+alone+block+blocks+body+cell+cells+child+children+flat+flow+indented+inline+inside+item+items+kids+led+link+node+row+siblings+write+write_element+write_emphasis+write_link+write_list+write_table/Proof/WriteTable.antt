@@ -39,13 +39,14 @@ use Rattle.tree.proofs.nodes.node_end.Reads as node-end-reads
 use Rattle.elements.proofs.rows.next_filled_row.Reads as next-filled-row-reads
 use Rattle.spec.proofs.ctx.FormatOpts.fresh.Reads as fresh-reads
 use Rattle.elements.proofs.rows.is_table_node_writable.Reads as is-table-node-writable-reads
+use Rattle.serializer.proofs.options.packed.Reads as packed-reads
 use Rattle.serializer.proofs.kids.Reads as kids
 use Rattle.serializer.proofs.cells.Reads as cells
 use Rattle.elements.proofs.table.push_table.Reads as push-table-reads
 use Rattle.serializer.proofs.+alone+block+blocks+body+cell+cells+child+children+flat+flow+indented+inline+inside+item+items+kids+led+link+node+row+siblings+write+write_element+write_emphasis+write_link+write_list+write_table.Proof.Measures.{write-table-at, kids-below, cells-below}
 
 abbrev claims : ℕ → lts.Claims
-claims t = (node-end-reads.Asked, node-end-reads.Learnt, next-filled-row-reads.Asked, next-filled-row-reads.Learnt, fresh-reads.Asked, fresh-reads.Learnt, is-table-node-writable-reads.Asked, is-table-node-writable-reads.Learnt, kids-below t, kids.Post, cells-below t, cells.Post, push-table-reads.Asked, push-table-reads.Learnt)
+claims t = (node-end-reads.Asked, node-end-reads.Learnt, next-filled-row-reads.Asked, next-filled-row-reads.Learnt, fresh-reads.Asked, fresh-reads.Learnt, is-table-node-writable-reads.Asked, is-table-node-writable-reads.Learnt, packed-reads.Asked, packed-reads.Learnt, kids-below t, kids.Post, cells-below t, cells.Post, push-table-reads.Asked, push-table-reads.Learnt)
 
 node-end-requires : (t : ℕ) → lts.Need-node-end-requires (claims t) (write-table-at t) write-table.Post
 node-end-requires t c κs =
@@ -95,20 +96,23 @@ writable : (t : ℕ) (c : lts.After-is-table-node-writable (claims t) (write-tab
 writable t c {name} {attrs} {kids} anc x h =
     c .is-table-node-writable .ensures (c .before .before .before .before .before .before .before .before .before .before .before .args .at) kids (fromCells (rowsOf (attrs ∷ anc) kids)) (element-kids x (c .before .before .before .before .before .node-end .ensures)) (filled t (c .before .before .before) anc x h)
 
+packed-requires : (t : ℕ) → lts.Need-packed-requires (claims t) (write-table-at t) write-table.Post
+packed-requires t c κs = search needs
+
 kids-requires : (t : ℕ) → lts.Need-kids-requires (claims t) (write-table-at t) write-table.Post
 kids-requires t c κs =
-    let s = c .before .before .before .before .before .before .before .before .before .before .before .before .before .before in
-    (falls-in (s .args .levels) (s .pre .0) (lit< tt), (s .pre .1 .0, s .pre .1 .1, subst (λ (o : FormatOpts). Fits o (s .args .levels)) (sym (c .before .before .before .before .before .fresh .ensures)) (omega (arith, s .pre .1 .2))))
+    let s = c .before .before .before .before .before .before .before .before .before .before .before .before .before .before .before in
+    (falls-in (s .args .levels) (s .pre .0) (lit< tt), (s .pre .1 .0, s .pre .1 .1, subst (λ (o : FormatOpts). Fits o (s .args .levels)) (sym (c .before .before .packed .ensures ∙ c .before .before .before .before .before .before .fresh .ensures)) (omega (arith, s .pre .1 .2))))
 
 returns : (t : ℕ) → lts.Need-returns (claims t) (write-table-at t) write-table.Post
 returns t c =
-    let s = c .before .before .before .before .before .before .before .before .before .before .before .before .before .before .before .before .before .before .before in
+    let s = c .before .before .before .before .before .before .before .before .before .before .before .before .before .before .before .before .before .before .before .before in
     let a = s .args in (
       c .before .before .before .before .kids .ensures .0,
       record {
         for = λ name attrs kids anc x h.
-            alike (table-flat (selfAt (a .own) (a .run .now) (a .levels)) anc (a .opts) name attrs kids (take (a .len) (a .text .now)) (sym (writable t (c .before .before .before .before .before .before .before .before) anc x h) ∙ not-true _ (c .before .before .before .before .before .before .before .if1 .taken)))
-            (subst (λ (o : FormatOpts). Writes (length (a .text .now)) (c .before .before .before .before .kids .last .1 .1 .1 .1 .0) (c .before .before .before .before .kids .result) (writeKids (selfAt (a .own) (a .run .now) (a .levels)) anc o (element name attrs kids nothing) (take (a .len) (a .text .now)))) (c .before .before .before .before .before .before .before .before .before .before .fresh .ensures) (c .before .before .before .before .kids .ensures .1 .for name attrs kids anc x h));
+            alike (table-flat (selfAt (a .own) (a .run .now) (a .levels)) anc (a .opts) name attrs kids (take (a .len) (a .text .now)) (sym (writable t (c .before .before .before .before .before .before .before .before .before) anc x h) ∙ not-true _ (c .before .before .before .before .before .before .before .before .if1 .taken)))
+            (subst (λ (o : FormatOpts). Writes (length (a .text .now)) (c .before .before .before .before .kids .last .1 .1 .1 .1 .0) (c .before .before .before .before .kids .result) (writeKids (selfAt (a .own) (a .run .now) (a .levels)) anc o (element name attrs kids nothing) (take (a .len) (a .text .now)))) (c .before .before .before .before .before .before .before .packed .ensures ∙ c .before .before .before .before .before .before .before .before .before .before .before .fresh .ensures) (c .before .before .before .before .kids .ensures .1 .for name attrs kids anc x h));
       },
     )
 
@@ -226,6 +230,6 @@ pub spec : (M : Type 1) (t : ℕ) → lts.Closed (claims t) (write-table-at t) w
 spec M t =
     lts.spec (claims t) (write-table-at t) write-table.Post
     (node-end-requires t) (add-next-filled-row t) (next-filled-row-requires t) (fresh-requires t) (add-is-table-node-writable t)
-    (is-table-node-writable-requires t) (kids-requires t) (same-length t) (same-length-2 t) (returns t) (cells-requires t)
+    (is-table-node-writable-requires t) (packed-requires t) (kids-requires t) (same-length t) (same-length-2 t) (returns t) (cells-requires t)
     (enum-known-end t) (sub-push-table t) (push-table-requires t) (enum-told t) (same-length-3 t) (same-length-4 t)
     (returns-2 t) (same-length-5 t) (same-length-6 t) (returns-3 t)
