@@ -1,12 +1,12 @@
 -- Blocks of bytes that are appended without a branch. Assumes nothing.
 use Prim.Native.Nat.{ℕ, zero, suc, _+_, _-_, _*_, _≤_, _<_}
-use mathlib.Core.Path.{_≡_, refl, sym, ap, subst, subst₂, _∙_}
+use mathlib.Core.Path.{_≡_, refl, sym, ap, ap₂, subst, subst₂, _∙_}
 use mathlib.Core.Bool.{Bool, true, false, cond, not, _&&_, _||_, and-false, and-eq-true-iff}
 use mathlib.Core.List.{List, [], _∷_, _++_, append-assoc, append-nil}
 use native.Mathlib.Omega.{arith}
 use native.Mathlib.Numerals.{add-one}
 use lib.ListN.{length, take, drop, getD, set, length-set, length-append}
-use lib.Seq.{slice, slice-empty, length-take-le, take-suc-set, take-set-le, drop-set-lt, take-take, drop-drop, getD-set-same, getD-set-other}
+use lib.Seq.{slice, slice-empty, length-slice, length-take-le, take-suc-set, take-set-le, drop-set-lt, take-take, take-all, take-at, take-append-add, drop-drop, getD-set-same, getD-set-other, paste, length-paste-head}
 use lib.Dec.{eqb, ltb, leb}
 use mir.Val.{boolByte}
 use borrow.Author.Tests.{eqb-true, ltb-true, leb-true, not-true}
@@ -17,12 +17,14 @@ use Rattle.spec.specs.Md.TextUtils.{isEscaped}
 use Rattle.text.specs.Blocks.{signed, Signs, BlockAt, Appends}
 use Rattle.text.specs.Flow.{added, flowBefore, plain, Plain}
 use Rattle.text.specs.Source.{store, Apart, WritesIn}
+use Rattle.text.specs.Writes.{Written}
 use Rattle.text.specs.declared.normalize.Block.{Block}
 use Rattle.text.specs.declared.buffer.Wrote.the-variants.{Done}
 use Rattle.text.proofs.Ordinary.{not-escaped}
 use Rattle.text.proofs.Flowing.{blank-added, less-or-not}
 use Rattle.text.proofs.Sourcing.{slice-on, follows-some, alike-in}
 use Rattle.text.proofs.Streaming.{added-black, slice-join}
+use Rattle.text.proofs.Wording.{slice-front}
 
 -- ---- the signs, one by one
 
@@ -86,7 +88,7 @@ flow-snoc escape (a ∷ part) b rest =
     ∙ ap (λ (x : Bytes). added escape a (part ++ (b ∷ rest)) ++ x) (flow-snoc escape part b rest)
     ∙ sym (append-assoc (added escape a (part ++ (b ∷ rest))) (flowBefore escape part (b ∷ rest)) (added escape b rest))
 
-slice-snoc : (s : Bytes) (at i : ℕ) → at ≤ i → i < length s → slice at (i + 1) s ≡ slice at i s ++ (getD s i 0 ∷ [])
+pub slice-snoc : (s : Bytes) (at i : ℕ) → at ≤ i → i < length s → slice at (i + 1) s ≡ slice at i s ++ (getD s i 0 ∷ [])
 slice-snoc s at i h k =
     sym (slice-join s at i (i + 1) h (omega arith))
     ∙ ap (λ (x : Bytes). slice at i s ++ x) (slice-on s i (i + 1) (omega arith) (omega arith) ∙ ap (λ (x : Bytes). getD s i 0 ∷ x) (slice-empty (i + 1) s))
@@ -223,3 +225,39 @@ module _ {own : Bool} {text src : List ℕ} {room from stop to len : ℕ} (p : A
       ∙ ap (λ (j : ℕ). push (flowBefore escape (slice from j src) (slice j to src)) (take len text)) (f .sixteen)
       ∙ ap (λ (x : Bytes). push x (take len text)) (sym (signed-flow (b .marked) (b .spaced e) (source-long .0) (source-long .1))))
       (appends-in a (f .roomy) (p .inside))
+
+-- ---- a part that is copied in blocks, the last of which may reach behind it
+
+pub block-on : (d text b src : List ℕ) (len from i : ℕ) → len + i + 16 ≤ length text → from + i + 16 ≤ length src → b ≡ slice (from + i) (from + i + 16) src
+    → take (len + i) text ≡ take len d ++ slice from (from + i) src → take (len + (i + 16)) (paste text (len + i) b 16) ≡ take len d ++ slice from (from + (i + 16)) src
+block-on d text b src len from i h k e inv =
+    let z : len + (i + 16) ≡ len + i + 16 = omega arith in
+    let w : from + i + 16 ≡ from + (i + 16) = omega arith in
+    let q = length-slice (from + i) (from + i + 16) src k in
+    let long : length b ≡ 16 = omega (arith, ap length e, q) in
+    let p = take (len + i) text ++ take 16 b in
+    ap (λ (m : ℕ). take m (paste text (len + i) b 16)) z
+    ∙ take-at p (drop (len + i + 16) text) (len + i + 16) (length-paste-head text (len + i) b 16 (omega arith) (omega (arith, long)))
+    ∙ ap₂ (λ (x y : List ℕ). x ++ y) inv (take-all 16 b (omega (arith, long)) ∙ e)
+    ∙ append-assoc (take len d) (slice from (from + i) src) (slice (from + i) (from + i + 16) src)
+    ∙ ap (λ (x : List ℕ). take len d ++ x) (slice-join src from (from + i) (from + i + 16) (omega arith) (omega arith))
+    ∙ ap (λ (m : ℕ). take len d ++ slice from m src) w
+
+pub part-done : (d after src : List ℕ) (len from to i : ℕ) → from ≤ to → to ≤ length src → len + (to - from) ≤ length d → length after ≡ length d → to - from ≤ i
+    → take (len + i) after ≡ take len d ++ slice from (from + i) src → Written (length d) after (len + (to - from)) (push (slice from to src) (take len d))
+unfolding push
+part-done d after src len from to i f t h l m inv =
+    let n = to - from in
+    let x = slice from (from + i) src in
+    let k : length (take len d) ≡ len = length-take-le len d (omega arith) in
+    let z : from + n ≡ to = omega arith in
+    let q = length-slice from to src t in
+    record {
+      long = l;
+      fits = omega (arith, q, k);
+      count = omega (arith, length-append (take len d) (slice from to src), q, k);
+      text-is =
+          sym (take-take (len + n) (len + i) after (omega arith)) ∙ ap (take (len + n)) inv
+          ∙ ap (λ (j : ℕ). take (j + n) (take len d ++ x)) (sym k) ∙ take-append-add (take len d) x n
+          ∙ ap (λ (y : List ℕ). take len d ++ y) (slice-front src from (from + i) n (omega arith) ∙ ap (λ (j : ℕ). slice from j src) z);
+    }

@@ -3,10 +3,10 @@ use Prim.Native.Nat.{ℕ, zero, suc, _+_, _-_, _≤_, _<_}
 use mathlib.Core.Path.{_≡_, refl, sym, ap, ap₂, subst, _∙_}
 use mathlib.Core.Bool.{Bool, true, false, cond, not, _&&_, _||_, false≢true, and-false, or-true, and-eq-true-iff}
 use mathlib.Core.Logic.{⊎-elim}
-use mathlib.Core.List.{List, [], _∷_, _++_, append-assoc, append-nil}
+use mathlib.Core.List.{List, [], _∷_, _++_, append-assoc}
 use native.Mathlib.Omega.{arith}
 use lib.ListN.{length, take, drop, getD, drop-of-length-le}
-use lib.Seq.{drop-cons, take-suc, take-all}
+use lib.Seq.{drop-cons, take-suc, take-all, length-take-le, slice, length-slice}
 use lib.Dec.{eqb}
 use borrow.Author.Tests.{eqb-true, eqb-false, eq-eqb, ne-eqb, not-true}
 use Rattle.spec.specs.Bytes.{Bytes, ascii, null, same, isin, every, startsWith, white, isBlank, words, split, parts, cutAt, filled, one, «trim_end_matches», «trim_ascii_end»}
@@ -17,8 +17,9 @@ use Rattle.text.specs.Class.{ordinary}
 use Rattle.text.specs.Flow.{startsBlack, MayStart, added, flow, flowBefore, kept, plain, Plain, Flows}
 use Rattle.text.specs.Marks.{marks}
 use Rattle.tree.proofs.Building.{le-or-lt}
-use Rattle.text.proofs.Reading.{same-self}
-use Rattle.text.proofs.Trimming.{trim-here}
+use Rattle.text.proofs.Reading.{same-self, not-long}
+use Rattle.text.proofs.Sourcing.{part-byte}
+use Rattle.text.proofs.Trimming.{trim-less, trim-here, trim-long}
 use Rattle.text.proofs.Ordinary.{ordinary-parts, not-white, not-escaped, inner-chunk, bare-chunk}
 
 -- ---- plain bytes
@@ -103,6 +104,28 @@ block-next {signs} {s} {all} {one} at i h before here e j l m =
     let q = and-eq-true-iff all one .0 e in
     less-or-not j (at + i) (before (q .0) j l) (λ k. subst (Plain signs s) (omega arith) (record { followed = h; adds-itself = here (q .1) }))
 
+-- the same where only the first n bytes count, `past` says that this one is none of them
+pub front-next : {s : Bytes} {all past one : Bool} (at i n : ℕ) → at + i + 1 < length s → (all ≡ true → (j : ℕ) → at ≤ j → j < at + i → j < at + n → Plain true s j)
+    → (past ≡ true → n ≤ i) → (one ≡ true → plain true (getD s (at + i) 0) (getD s (at + i + 1) 0) ≡ true) → all && (past || one) ≡ true
+    → (j : ℕ) → at ≤ j → j < at + (i + 1) → j < at + n → Plain true s j
+front-next {s} {all} {past} {one} at i n h before gone here e j l m k =
+    let q = and-eq-true-iff all (past || one) .0 e in
+    less-or-not j (at + i) (λ b. before (q .0) j l b k) (λ b. subst (Plain true s) (omega arith) (record { followed = h; adds-itself = here (on past one gone (omega arith) (q .1)) }))
+  where
+    on : (p o : Bool) → (p ≡ true → n ≤ i) → i < n → p || o ≡ true → o ≡ true
+    on true o g less t = absurd (omega (arith, g refl))
+    on false o g less t = t
+
+-- a plain byte of a part
+pub plain-part : {signs : Bool} (s : Bytes) (from to i : ℕ) → to ≤ length s → from + i + 1 < to → Plain signs s (from + i) → Plain signs (slice from to s) i
+plain-part {signs} s from to i h k p =
+    let z : from + (i + 1) ≡ from + i + 1 = omega arith in
+    record {
+      followed = omega (arith, length-slice from to s h);
+      adds-itself =
+          ap₂ (λ (x y : ℕ). plain signs x y) (part-byte s from to i (omega arith)) (part-byte s from to (i + 1) (omega arith) ∙ ap (λ (j : ℕ). getD s j 0) z) ∙ p .adds-itself;
+    }
+
 pub flow-split : (escape : Bool) (part rest : Bytes) → flow escape (part ++ rest) ≡ flowBefore escape part rest ++ flow escape rest
 unfolding flow flowBefore
 flow-split escape [] rest = refl
@@ -183,14 +206,13 @@ words-flow s black escape = words-parted escape s (parted escape s) ∙ ap (λ (
 
 -- ---- a whole text of plain bytes
 
--- a plain byte that is not white adds itself anyway
-plain-black : (signs : Bool) (b c : ℕ) → plain signs b c ≡ true → white b ≡ false → kept signs b ≡ true
-plain-black signs b c h w = on (kept signs b) (eqb b 32) refl h
+-- a byte that adds itself, or is a blank, adds itself anyway if it is not white
+black-kept : (signs : Bool) (b : ℕ) (e : Bool) → (e ≡ true → eqb b 32 ≡ true) → kept signs b || e ≡ true → white b ≡ false → kept signs b ≡ true
+black-kept signs b e is h w = on (kept signs b) h
   where
-    on : (o e : Bool) → eqb b 32 ≡ e → o || (e && not (white c)) ≡ true → o ≡ true
-    on true e q h = refl
-    on false true q h = absurd (false≢true (sym w ∙ blank-white b q))
-    on false false q h = h
+    on : (o : Bool) → o || e ≡ true → o ≡ true
+    on true h = refl
+    on false h = absurd (false≢true (sym w ∙ blank-white b (is h)))
 
 -- so that those of the first word do
 kept-first : (signs : Bool) (s : Bytes) → ((i : ℕ) → i < length s → white (getD s i 0) ≡ false → kept signs (getD s i 0) ≡ true) → every (kept signs) (parts white s .0) ≡ true
@@ -206,18 +228,51 @@ kept-black : (signs : Bool) (b : ℕ) → kept signs b ≡ true → white b ≡ 
 kept-black true b h = ordinary-parts (white b) (isin b «ALWAYS_ESCAPED») (eqb b 33) h .0
 kept-black false b h = not-true (white b) h
 
+-- the last byte, and the blank that stands for white bytes at the end
+last-flow : (signs escape : Bool) (b : ℕ) → (escape ≡ true → signs ≡ true) → kept signs b || eqb b 32 ≡ true → flow escape (b ∷ []) ++ cond (white b) (ascii " ") [] ≡ b ∷ []
+unfolding flow added startsBlack
+last-flow signs escape b only h = on (white b) refl
+  where
+    on : (t : Bool) → white b ≡ t → flow escape (b ∷ []) ++ cond t (ascii " ") [] ≡ b ∷ []
+    on true w = rw w (ap (λ (x : ℕ). x ∷ []) (sym (eqb-true b 32 (blank (kept signs b) refl h))))
+      where
+        blank : (o : Bool) → kept signs b ≡ o → o || eqb b 32 ≡ true → eqb b 32 ≡ true
+        blank true q k = absurd (false≢true (sym (kept-black signs b q) ∙ w))
+        blank false q k = k
+    on false w = ap (λ (x : Bytes). (x ++ []) ++ []) (added-kept signs escape b [] only (black-kept signs b (eqb b 32) (λ e. e) h w))
+
+-- a text ends white where its last byte is
+ends-last : (s : Bytes) (n : ℕ) → length s ≡ n + 1 → def.endsWithWhite s ≡ white (getD s n 0)
+unfolding def.endsWithWhite «trim_ascii_end»
+ends-last s n long = on (white (getD s n 0)) refl
+  where
+    all : take (suc n) s ≡ s
+    all = take-all (suc n) s (omega arith)
+
+    here : (t : Bool) → white (getD s n 0) ≡ t → white (getD s (suc n - 1) 0) ≡ t
+    here t w = let e : n ≡ suc n - 1 = omega arith in subst (λ (k : ℕ). white (getD s k 0) ≡ t) e w
+
+    on : (t : Bool) → white (getD s n 0) ≡ t → not (same («trim_end_matches» (one white) s) s) ≡ t
+    on true w =
+        let z : suc n - 1 ≡ n = omega arith in
+        let q = ap («trim_end_matches» (one white)) (sym all) ∙ trim-less white s (suc n) (omega arith) (omega arith) (here true w) ∙ ap (λ (k : ℕ). «trim_end_matches» (one white) (take k s)) z in
+        ap not (not-long («trim_end_matches» (one white) s) s (λ e. omega (arith, e, ap length q, trim-long (one white) (take n s), length-take-le n s (omega arith))))
+    on false w =
+        ap (λ (x : Bytes). not (same x s)) (ap («trim_end_matches» (one white)) (sym all) ∙ trim-here white s (suc n) (omega arith) (omega arith) (here false w) ∙ all)
+        ∙ ap not (same-self s)
+
 -- no backslash stands before the first word
 no-lead : (escape dot digits : Bool) → (escape ≡ true → dot ≡ false) → escape && (dot && digits) ≡ false
 no-lead true dot digits h = rw (h refl)
 no-lead false dot digits h = refl
 
 normal-words : (opts : Opts.FormatOpts) (text s w : Bytes) (ws : List Bytes) → def.startsWithWhite s ≡ false → (not (opts .«skip_escape») ≡ true → same w (ascii ".") || same w (ascii ")") ≡ false)
-    → ((start : Bool) → def.escapedChunk w (not (opts .«skip_escape»)) start ≡ w) → def.endsWithWhite s ≡ false → def.normalizedWords opts text s (w ∷ ws) ≡ w ++ def.moreWords (not (opts .«skip_escape»)) ws
+    → ((start : Bool) → def.escapedChunk w (not (opts .«skip_escape»)) start ≡ w) → def.normalizedWords opts text s (w ∷ ws) ≡ w ++ (def.moreWords (not (opts .«skip_escape»)) ws ++ cond (def.endsWithWhite s) (ascii " ") [])
 unfolding def.normalizedWords
-normal-words opts text s w ws a b c d =
-    simp (a, no-lead (not (opts .«skip_escape»)) (same w (ascii ".") || same w (ascii ")")) (def.«ends_with_marker_digits» text) b, c, d, and-false, append-nil)
+normal-words opts text s w ws a b c =
+    simp (a, no-lead (not (opts .«skip_escape»)) (same w (ascii ".") || same w (ascii ")")) (def.«ends_with_marker_digits» text) b, c, and-false)
 
-module _ (signs : Bool) (b : ℕ) (s : Bytes) (n : ℕ) (long : length (b ∷ s) ≡ n + 1) (black : white b ≡ false) (starts : signs ≡ true → MayStart (b ∷ parts white s .0)) (f : Flows signs (b ∷ s) n) (last : kept signs (getD (b ∷ s) n 0) ≡ true) where
+module _ (signs : Bool) (b : ℕ) (s : Bytes) (n : ℕ) (long : length (b ∷ s) ≡ n + 1) (black : white b ≡ false) (starts : signs ≡ true → MayStart (b ∷ parts white s .0)) (f : Flows signs (b ∷ s) n) (last : kept signs (getD (b ∷ s) n 0) || eqb (getD (b ∷ s) n 0) 32 ≡ true) where
   abbrev first : Bytes
   first = b ∷ parts white s .0
 
@@ -238,59 +293,61 @@ module _ (signs : Bool) (b : ℕ) (s : Bytes) (n : ℕ) (long : length (b ∷ s)
       ∙ kept-first signs (b ∷ s) (λ i h w. on i h w (eqb i n) refl)
     where
       on : (i : ℕ) → i < length (b ∷ s) → white (getD (b ∷ s) i 0) ≡ false → (t : Bool) → eqb i n ≡ t → kept signs (getD (b ∷ s) i 0) ≡ true
-      on i h w true e = ap (λ (j : ℕ). kept signs (getD (b ∷ s) j 0)) (eqb-true i n e) ∙ last
+      on i h w true e =
+          let z = eqb-true i n e in
+          ap (λ (j : ℕ). kept signs (getD (b ∷ s) j 0)) z
+          ∙ black-kept signs (getD (b ∷ s) n 0) (eqb (getD (b ∷ s) n 0) 32) (λ k. k) last (subst (λ (j : ℕ). white (getD (b ∷ s) j 0) ≡ false) z w)
       on i h w false e =
           let ne = eqb-false i n e in
-          plain-black signs (getD (b ∷ s) i 0) (getD (b ∷ s) (i + 1) 0) (f .each i (omega arith) .adds-itself) w
-
-  black-end : def.endsWithWhite (b ∷ s) ≡ false
-  unfolding def.endsWithWhite «trim_ascii_end»
-  black-end =
-      let e : n ≡ suc n - 1 = omega arith in
-      let w = subst (λ (k : ℕ). white (getD (b ∷ s) k 0) ≡ false) e (kept-black signs (getD (b ∷ s) n 0) last) in
-      let q = take-all (suc n) (b ∷ s) (omega arith) in
-      ap (λ (x : Bytes). not (same x (b ∷ s))) (ap («trim_end_matches» (one white)) (sym q) ∙ trim-here white (b ∷ s) (suc n) (omega arith) (omega arith) w ∙ q)
-      ∙ ap not (same-self (b ∷ s))
+          let x = getD (b ∷ s) i 0 in
+          let y = not (white (getD (b ∷ s) (i + 1) 0)) in
+          black-kept signs x (eqb x 32 && y) (λ k. and-eq-true-iff (eqb x 32) y .0 k .0) (f .each i (omega arith) .adds-itself) w
 
   no-dot : MayStart first → same first (ascii ".") || same first (ascii ")") ≡ false
   unfolding same
   no-dot m = rw (ne-eqb b 46 (λ q. omega (arith, m .above-dot)), ne-eqb b 41 (λ q. omega (arith, m .above-dot)))
 
   module _ (escape : Bool) (only : escape ≡ true → signs ≡ true) where
-    -- each byte adds itself
-    flow-is : flow escape (b ∷ s) ≡ b ∷ s
-    unfolding flow
+    -- each byte adds itself, and a blank the one behind the words
+    flow-is : flow escape (b ∷ s) ++ cond (def.endsWithWhite (b ∷ s)) (ascii " ") [] ≡ b ∷ s
     flow-is =
         let x = getD (b ∷ s) n 0 in
         let q : drop n (b ∷ s) ≡ x ∷ [] = drop-cons (b ∷ s) n 0 (omega arith) ∙ ap (λ (r : Bytes). x ∷ r) (drop-of-length-le (b ∷ s) {i = suc n} (omega arith)) in
-        flows-flow escape only f ∙ ap (λ (r : Bytes). take n (b ∷ s) ++ flow escape r) q
-        ∙ ap (λ (r : Bytes). take n (b ∷ s) ++ (r ++ [])) (added-kept signs escape x [] only last)
+        ap₂ (λ (r : Bytes) (t : Bool). r ++ cond t (ascii " ") []) (flows-flow escape only f ∙ ap (λ (r : Bytes). take n (b ∷ s) ++ flow escape r) q) (ends-last (b ∷ s) n long)
+        ∙ append-assoc (take n (b ∷ s)) (flow escape (x ∷ [])) (cond (white x) (ascii " ") [])
+        ∙ ap (λ (r : Bytes). take n (b ∷ s) ++ r) (last-flow signs escape x only last)
         ∙ sym (take-suc (b ∷ s) n 0 (omega arith)) ∙ take-all (suc n) (b ∷ s) (omega arith)
 
     first-bare : (start : Bool) → def.escapedChunk first escape start ≡ first
     first-bare start =
         bare-chunk first escape start (λ e. subst (λ (t : Bool). every (kept t) first ≡ true) (only e) first-kept) (λ e h k. starts (only e))
 
-    words-back : first ++ def.moreWords escape more ≡ b ∷ s
-    words-back =
+    words-flow-is : first ++ def.moreWords escape more ≡ flow escape (b ∷ s)
+    words-flow-is =
         ap (λ (x : Bytes). x ++ def.moreWords escape more) (sym (first-bare false) ∙ inner-chunk first escape)
         ∙ ap (λ (r : Bytes × List Bytes). marks escape false false false (r .0) ++ def.moreWords escape (filled (r .1))) (sym parts-are)
-        ∙ sym (parted escape (b ∷ s)) ∙ flow-is
+        ∙ sym (parted escape (b ∷ s))
+
+    words-back : first ++ (def.moreWords escape more ++ cond (def.endsWithWhite (b ∷ s)) (ascii " ") []) ≡ b ∷ s
+    words-back =
+        sym (append-assoc first (def.moreWords escape more) (cond (def.endsWithWhite (b ∷ s)) (ascii " ") []))
+        ∙ ap (λ (x : Bytes). x ++ cond (def.endsWithWhite (b ∷ s)) (ascii " ") []) words-flow-is ∙ flow-is
 
   bare-from : (opts : Opts.FormatOpts) (text : List ℕ) → (not (opts .«skip_escape») ≡ true → signs ≡ true) → def.normalized opts text (b ∷ s) ≡ b ∷ s
   unfolding def.normalized def.startsWithWhite isBlank every null
   bare-from opts text only =
       let escape = not (opts .«skip_escape») in
       rw (black, and-false, words-are)
-      (normal-words opts text (b ∷ s) first more black (λ e. no-dot (starts (only e))) (first-bare escape only) black-end ∙ words-back escape only)
+      (normal-words opts text (b ∷ s) first more black (λ e. no-dot (starts (only e))) (first-bare escape only) ∙ words-back escape only)
 
--- a text of plain bytes is appended as it is: where signs are escaped, if its first word may start a line
-pub bare-flow : {signs : Bool} {s : Bytes} {n : ℕ} → length s ≡ n + 1 → white (getD s 0 0) ≡ false → (signs ≡ true → MayStart (parts white s .0)) → Flows signs s n → kept signs (getD s n 0) ≡ true
+-- a text of plain bytes, of which the last may be a blank, is appended as it is: where signs are escaped, if its first word
+-- may start a line
+pub bare-flow : {signs : Bool} {s : Bytes} {n : ℕ} → length s ≡ n + 1 → white (getD s 0 0) ≡ false → (signs ≡ true → MayStart (parts white s .0)) → Flows signs s n → kept signs (getD s n 0) || eqb (getD s n 0) 32 ≡ true
     → (opts : Opts.FormatOpts) (text : List ℕ) → (not (opts .«skip_escape») ≡ true → signs ≡ true) → def.normalized opts text s ≡ s
 unfolding parts cutAt
 bare-flow {signs} {s} {n} = on s n
   where
-    on : (s : Bytes) (n : ℕ) → length s ≡ n + 1 → white (getD s 0 0) ≡ false → (signs ≡ true → MayStart (parts white s .0)) → Flows signs s n → kept signs (getD s n 0) ≡ true
+    on : (s : Bytes) (n : ℕ) → length s ≡ n + 1 → white (getD s 0 0) ≡ false → (signs ≡ true → MayStart (parts white s .0)) → Flows signs s n → kept signs (getD s n 0) || eqb (getD s n 0) 32 ≡ true
         → (opts : Opts.FormatOpts) (text : List ℕ) → (not (opts .«skip_escape») ≡ true → signs ≡ true) → def.normalized opts text s ≡ s
     on [] n long black starts f last = absurd (omega arith)
     on (b ∷ s) n long black starts f last =

@@ -1,20 +1,24 @@
 -- The parts of a normalized text. Assumes nothing.
 use Prim.Native.Nat.{ℕ, _≤_}
-use mathlib.Core.Path.{_≡_, refl, sym, ap, _∙_}
+use mathlib.Core.Path.{_≡_, refl, sym, ap, subst₂, _∙_}
 use mathlib.Core.Bool.{Bool, true, false, cond, not, _&&_, _||_, and-false, and-true, and-assoc}
 use mathlib.Core.List.{List, [], _∷_, _++_}
 use native.Mathlib.Omega.{arith}
-use lib.ListN.{length}
+use lib.ListN.{length, take}
 use lib.Dec.{eqb}
-use lib.Seq.{slice, length-slice}
+use lib.Seq.{slice, length-slice, take-length}
 use borrow.Author.Tests.{eq-eqb, ne-eqb, eqb-true, eqb-false}
 use Rattle.spec.specs.Bytes.{ascii, null, endsWith, isBlank, words, split, parts, filled}
 use Rattle.spec.specs.Out.{push}
 use Rattle.spec.specs.Md.TextUtils.{«ends_with_marker_digits», «push_normalized_text», normalized, normalizedWords, startsWithWhite, endsWithWhite, escapedChunk, moreWords}
 use Rattle.spec.specs.declared.ctx.FormatOpts.{FormatOpts}
 use Rattle.text.specs.Marks.{leadOf, dotWord, leadText, blankText, lineStart}
+use Rattle.text.specs.Source.{WritesIn}
 use Rattle.text.specs.Words.{WordAt}
-use Rattle.text.proofs.Sourcing.{part-none}
+use Rattle.text.specs.Writes.{Writes}
+use Rattle.text.specs.declared.buffer.Wrote.{Wrote}
+use Rattle.text.proofs.Sourcing.{part-none, whole-writes}
+use Rattle.text.proofs.Writing.{alike}
 use Rattle.tree.proofs.Rules.{null-length}
 
 module _ (opts : FormatOpts) (text : List ℕ) (white dot e : Bool) (q : e ≡ endsWith (10 ∷ []) text || endsWith (32 ∷ []) text) where
@@ -35,6 +39,27 @@ module _ (opts : FormatOpts) (text : List ℕ) (white dot e : Bool) (q : e ≡ e
 
   pub lead-plain : (m : Bool) → tested ≡ false → not (opts .«skip_escape») && dot ≡ true → m ≡ «ends_with_marker_digits» text → m ≡ false → [] ≡ leadText opts text white dot
   lead-plain m h k z w = sym (lead-tested ∙ rw (h, k, sym z, w))
+
+-- ---- the options
+
+words-opts : (o p : FormatOpts) (text s : List ℕ) (ws : List (List ℕ)) → o .inline ≡ p .inline → o .«skip_escape» ≡ p .«skip_escape» → o .«list_item» ≡ p .«list_item» → normalizedWords o text s ws ≡ normalizedWords p text s ws
+unfolding normalizedWords
+words-opts o p text s [] a b c = refl
+words-opts o p text s (w ∷ ws) a b c = rw (a, b, c)
+
+-- three of them matter
+pub normal-opts : (o p : FormatOpts) (s text : List ℕ) → o .inline ≡ p .inline → o .«skip_escape» ≡ p .«skip_escape» → o .«list_item» ≡ p .«list_item» → «push_normalized_text» s o text ≡ «push_normalized_text» s p text
+unfolding «push_normalized_text» normalized
+normal-opts o p s text a b c = rw (words-opts o p text s (words s) a b c)
+
+-- a part of a slice that is lent anew, where the room is the whole memory
+pub normal-part : (src : List ℕ) (from to : ℕ) (o p : FormatOpts) (t : List ℕ) {text after : List ℕ} {r w : Wrote} → o .inline ≡ p .inline → o .«skip_escape» ≡ p .«skip_escape» → o .«list_item» ≡ p .«list_item» → r ≡ w
+    → WritesIn (length text) text after w («push_normalized_text» (slice from to (take (length src) src)) p t) → Writes (length text) after r («push_normalized_text» (slice from to src) o t)
+normal-part src from to o p t {text} {after} a b c e w =
+    subst₂ (λ (x : List ℕ) (v : Wrote). Writes (length text) after v («push_normalized_text» (slice from to x) o t)) (take-length src) (sym e)
+    (alike (normal-opts o p (slice from to (take (length src) src)) t a b c) (whole-writes w))
+
+-- ---- the text
 
 -- a text of white bytes
 pub normal-blank : (opts : FormatOpts) (text s : List ℕ) (i to r : ℕ) (some : Bool) → WordAt s i to r → r ≡ to → to ≤ length s → some ≡ not (eqb i to) → «push_normalized_text» (slice i to s) opts text ≡ push (blankText text some) text

@@ -6,7 +6,7 @@ use mathlib.Core.List.{List, [], _∷_, _++_, append-assoc}
 use native.Mathlib.Omega.{arith}
 use native.Mathlib.Numerals.{add-one}
 use lib.ListN.{length, take, drop, getD, length-append, length-take, length-drop, drop-of-length-le}
-use lib.Seq.{length-take-le, take-take, getD-drop, drop-drop, slice, slice-cons, take-at, drop-at, take-all, take-length, paste, length-paste, take-paste, drop-paste}
+use lib.Seq.{length-take-le, take-take, getD-drop, getD-take, drop-drop, slice, slice-cons, take-at, drop-at, take-all, paste, length-paste, take-paste, drop-paste}
 use lib.Dec.{eqb}
 use Rattle.spec.specs.Bytes.{ascii, startsWith, every}
 use Rattle.spec.specs.Out.{Out, Step, andThen, push}
@@ -24,6 +24,9 @@ use Rattle.text.proofs.Writing.{alike, done, full, Owes, owes-all, owes
 -- `&s[from..to]` lends it
 pub part-is : (from to : ℕ) (s : List ℕ) → take (to - from) (drop from s) ≡ slice from to s
 part-is from to s = sym (drop-take from to s)
+
+pub part-byte : (s : List ℕ) (from to i : ℕ) → from + i < to → getD (slice from to s) i 0 ≡ getD s (from + i) 0
+part-byte s from to i h = getD-drop from (take to s) i 0 ∙ getD-take to s (from + i) 0 h
 
 pub part-none : (i to : ℕ) (s : List ℕ) → to ≤ i → slice i to s ≡ []
 part-none i to s h = let q : length (take to s) ≤ i = omega (arith, length-take to s) in drop-of-length-le (take to s) q
@@ -181,12 +184,11 @@ unfolding «push_escaped_chunk» escapedChunk
 chunk-is s escape start m u t e f = rw (e, f)
 
 -- the room is the whole memory, and the source another slice
-pub whole-apart : (text src : List ℕ) → Apart false text src (length text) 0 (length src)
-whole-apart text src = record { inside = omega arith; ordered = omega arith; within = omega arith; behind = λ e. absurd (false≢true e) }
+pub whole-apart : (text src : List ℕ) (from to : ℕ) → from ≤ to → to ≤ length src → Apart false text src (length text) from to
+whole-apart text src from to h k = record { inside = omega arith; ordered = h; within = k; behind = λ e. absurd (false≢true e) }
 
-pub whole-writes : (src : List ℕ) (f : List ℕ → Out) {text after : List ℕ} {r : Wrote} → WritesIn (length text) text after r (f (slice 0 (length src) src)) → Writes (length text) after r (f src)
-whole-writes src f {text} {after} {r} w =
-    subst₂ (λ (x y : List ℕ). Writes (length text) x r (f y)) (take-all (length text) after (omega (arith, w .long))) (take-length src) (w .writes)
+pub whole-writes : {text after : List ℕ} {r : Wrote} {o : Out} → WritesIn (length text) text after r o → Writes (length text) after r o
+whole-writes {text} {after} {r} {o} w = subst (λ (x : List ℕ). Writes (length text) x r o) (take-all (length text) after (omega (arith, w .long))) (w .writes)
 
 -- ---- bytes behind the room, copied before it: i of them so far
 

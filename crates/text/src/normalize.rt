@@ -5,7 +5,7 @@ ghost use mathlib.Core.Bool.{Bool, cond, true, false, _||_};
 ghost use mathlib.Core.List.{List, [], _∷_, _++_};
 ghost use Prim.Native.Nat.{ℕ, _+_, _≤_, _<_};
 ghost use lib.ListN.{length, take, drop, getD};
-ghost use lib.Seq.{slice};
+ghost use lib.Seq.{slice, paste};
 ghost use lib.Dec.{eqb};
 ghost use Rattle.spec.specs.Bytes.{ascii, startsWith, isin, every, white, digit, words, parts, same, «trim_start_matches»};
 ghost use Rattle.spec.specs.Out.{push};
@@ -19,6 +19,7 @@ ghost use Rattle.text.specs.Words.{WordAt, WordEnd};
 ghost use Rattle.text.specs.Flow.{startsBlack, lastDot, MayStart, added, flow, flowBefore, plain, Plain, Flows};
 ghost use Rattle.text.specs.Blocks.{signed, BlockAt, Appends};
 ghost use Rattle.text.specs.Source.{store, Apart, WritesIn};
+ghost use Rattle.text.specs.Writes.{Writes};
 use crate::buffer::Class;
 use crate::buffer::Wrote;
 use crate::buffer::all_in;
@@ -33,6 +34,7 @@ use crate::text_utils::ends_with_marker_digits;
 use crate::text_utils::is_ordered_list_marker;
 use spec::ctx::FormatOpts;
 use tree::fields::is_same;
+use tree::fields::wide;
 
 // The byte at i of what is read.
 fn byte_at(src: &[u8], text: &[u8], own: bool, i: usize) -> u8
@@ -315,21 +317,6 @@ fn begins_bare(s: &[u8]) -> bool
     !begins_marker(s)
 }
 
-// Whether a text is known to be appended as it is, whatever stands before it: ordinary words with one blank between them, the
-// first of which begins with no sign and is no marker. Only short texts are looked at, for which the steps of any text cost
-// most.
-fn is_bare_text(s: &[u8]) -> bool
-    ensures { λ r. ⌜ (r ≡ true → (opts : Opts.FormatOpts) (text : List ℕ) → def.normalized opts text (now (s .entry)) ≡ now (s .entry)) ⌝ }
-{
-    if (s.len() == 0) | (128 < s.len()) {
-        return false;
-    }
-    if !begins_bare(s) {
-        return false;
-    }
-    is_plain_text(s) & is_in(Class::Ordinary, s[s.len() - 1])
-}
-
 // Whether b stands in a text as it is where nothing is escaped, `next` behind it: a byte that is not white, or a blank before
 // no white byte. Other bytes below the blank are left out, so that few ranges of bytes are left.
 fn is_spaced(b: u8, next: u8) -> bool
@@ -401,15 +388,112 @@ fn is_spaced_text(s: &[u8]) -> bool
     }
 }
 
-// Whether a text is known to be appended as it is; `raw` says that nothing is escaped.
-pub fn is_kept_text(s: &[u8], raw: bool) -> bool
-    ensures { λ r. ⌜ (r ≡ true → (opts : Opts.FormatOpts) (text : List ℕ) → (raw ≡ true → opts .«skip_escape» ≡ true) → def.normalized opts text (now (s .entry)) ≡ now (s .entry)) ⌝ }
+// Whether the first n of the 16 bytes at `at` are plain. The count is a byte, so that it is compared with 16 places at once.
+fn is_plain_front(s: &[u8], at: usize, n: u8) -> bool
+    requires { ⌜ at + 17 ≤ length (now s) ⌝ }
+    ensures { λ r. ⌜ (r ≡ true → (i : ℕ) → at ≤ i → i < at + 16 → i < at + n → Plain true (now (s .entry)) i) ⌝ }
+{
+    let mut all = true;
+    let mut i = 0;
+    let mut k = 0u8;
+    while i < 16 {
+        all = all & ((n <= k) | is_plain(s[at + i], s[at + i + 1]));
+        i += 1;
+        k += 1;
+    }
+    all
+}
+
+// Whether the bytes of a part before its last are plain. The byte before a text of a sheet is the low byte of its length.
+fn is_plain_part(src: &[u8], from: usize, to: usize) -> bool
+    requires { ⌜ (from < to) × (to ≤ length (now src)) ⌝ }
+    ensures { λ r. ⌜ (r ≡ true → (n : ℕ) → to ≡ from + n + 1 → Flows true (slice from to (now (src .entry))) n) ⌝ }
+{
+    let n = to - from;
+    if (16 < n) | ((src.len() - from < 17) | (from == 0)) {
+        return is_plain_text(&src[from..to]);
+    }
+    let short = src[from - 1];
+    if wide(short) != n {
+        return is_plain_text(&src[from..to]);
+    }
+    is_plain_front(src, from, short - 1)
+}
+
+// Whether a part is known to be appended as it is, whatever stands before it: ordinary words with one blank between them, the
+// first of which begins with no sign and is no marker, and perhaps a blank behind them. Only short parts are looked at, for
+// which the steps of any text cost most.
+fn is_bare_part(src: &[u8], from: usize, to: usize) -> bool
+    requires { ⌜ (from ≤ to) × (to ≤ length (now src)) ⌝ }
+    ensures { λ r. ⌜ (r ≡ true → (opts : Opts.FormatOpts) (text : List ℕ) → def.normalized opts text (slice from to (now (src .entry))) ≡ slice from to (now (src .entry))) ⌝ }
+{
+    let n = to - from;
+    if (n == 0) | (128 < n) {
+        return false;
+    }
+    if !begins_bare(&src[from..to]) {
+        return false;
+    }
+    is_plain_part(src, from, to) & ((src[to - 1] == 32) | is_in(Class::Ordinary, src[to - 1]))
+}
+
+// Whether a part is known to be appended as it is; `raw` says that nothing is escaped.
+pub fn is_kept_part(src: &[u8], from: usize, to: usize, raw: bool) -> bool
+    requires { ⌜ (from ≤ to) × (to ≤ length (now src)) ⌝ }
+    ensures { λ r. ⌜ (r ≡ true → (opts : Opts.FormatOpts) (text : List ℕ) → (raw ≡ true → opts .«skip_escape» ≡ true) → def.normalized opts text (slice from to (now (src .entry))) ≡ slice from to (now (src .entry))) ⌝ }
 {
     if raw {
-        is_spaced_text(s)
+        is_spaced_text(&src[from..to])
     } else {
-        is_bare_text(s)
+        is_bare_part(src, from, to)
     }
+}
+
+fn bytes_at(s: &[u8], at: usize) -> [u8; 16]
+    requires { ⌜ at + 16 ≤ length (now s) ⌝ }
+    ensures { λ r. ⌜ r ≡ slice at (at + 16) (now (s .entry)) ⌝ }
+{
+    let mut b = [0u8; 16];
+    let mut i = 0;
+    while i < 16 {
+        b[i] = s[at + i];
+        i += 1;
+    }
+    b
+}
+
+fn put_bytes(text: &mut [u8], len: usize, b: [u8; 16])
+    requires { ⌜ len + 16 ≤ length (now text) ⌝ }
+    ensures { λ _. ⌜ now (text .exit) ≡ paste (now (text .entry)) len b 16 ⌝ }
+{
+    let mut i = 0;
+    while i < 16 {
+        text[len + i] = b[i];
+        i += 1;
+    }
+}
+
+// Appends a part as it is, in blocks of 16 bytes, the last of which may reach behind it: bytes behind the text are left to the
+// program. A block is read whole before it is stored, so that both are one step.
+pub fn push_part(text: &mut [u8], len: usize, src: &[u8], from: usize, to: usize) -> Wrote
+    requires { ⌜ (len ≤ length (now text)) × (from ≤ to) × (to ≤ length (now src)) ⌝ }
+    ensures { λ r. ⌜ Writes (length (now (text .entry))) (now (text .exit)) r (push (slice from to (now (src .entry))) (take len (now (text .entry)))) ⌝ }
+{
+    let n = to - from;
+    let left = text.len() - len;
+    if left < n {
+        return Wrote::Full;
+    }
+    if (left - n < 16) | (src.len() - to < 16) {
+        return push_all(text, len, &src[from..to]);
+    }
+    let mut i = 0;
+    while i < n {
+        let b = bytes_at(src, from + i);
+        put_bytes(text, len + i, b);
+        i += 16;
+    }
+    Wrote::Done(len + n)
 }
 
 // The plain bytes that a part of what is read begins with.

@@ -3,10 +3,12 @@ ghost use mathlib.Core.Path.{_≡_};
 ghost use mathlib.Core.Bool.{_||_};
 ghost use Prim.Native.Nat.{_+_, _≤_, _<_};
 ghost use lib.ListN.{length, take, drop};
+ghost use lib.Seq.{slice};
 ghost use Rattle.spec.specs.Bytes.{ascii, endsWith, same};
 ghost use Rattle.spec.specs.Md.LineBreak.{linebreak, «double_linebreak»};
 ghost use Rattle.spec.specs.Out.{push};
 ghost use Rattle.spec.specs.Md.TextUtils as def;
+ghost use Rattle.spec.specs.declared.ctx.FormatOpts as Opts;
 ghost use Rattle.text.specs.Trimmed.{Trimmed};
 ghost use Rattle.text.specs.Writes.{Writes, Written};
 use crate::buffer::Class;
@@ -19,10 +21,12 @@ use crate::buffer::ends_with_either;
 use crate::buffer::ends_with_white;
 use crate::buffer::push_all;
 use crate::buffer::push_byte;
+use crate::buffer::reread;
 use crate::buffer::trim_end_matches;
 use crate::buffer::trim_start_matches;
-use crate::normalize::is_kept_text;
+use crate::normalize::is_kept_part;
 use crate::normalize::push_normalized;
+use crate::normalize::push_part;
 use spec::ctx::FormatOpts;
 use tree::fields::is_same;
 
@@ -88,13 +92,47 @@ pub fn push_normalized_text(
     requires { ⌜ len ≤ length (now text) ⌝ }
     ensures { λ r. ⌜ Writes (length (now (text .entry))) (now (text .exit)) r (def.«push_normalized_text» (now («new_text» .entry)) «f_opts» (take len (now (text .entry)))) ⌝ }
 {
-    if is_kept_text(new_text, f_opts.skip_escape) {
-        return push_all(text, len, new_text);
+    let n = new_text.len();
+    let inline = f_opts.inline;
+    let skip_escape = f_opts.skip_escape;
+    let list_item = f_opts.list_item;
+    push_text_part(
+        text,
+        len,
+        &new_text[..n],
+        0,
+        n,
+        inline,
+        skip_escape,
+        list_item,
+    )
+}
+
+// The same for a part of a slice, with the options that matter one by one: a record would be copied through memory.
+pub fn push_text_part(
+    text: &mut [u8],
+    len: usize,
+    src: &[u8],
+    from: usize,
+    to: usize,
+    inline: bool,
+    skip_escape: bool,
+    list_item: bool,
+) -> Wrote
+    requires { ⌜ (len ≤ length (now text)) × (from ≤ to) × (to ≤ length (now src)) ⌝ }
+    ensures { λ r. ⌜ ((opts : Opts.FormatOpts) → opts .inline ≡ inline → opts .«skip_escape» ≡ «skip_escape» → opts .«list_item» ≡ «list_item» → Writes (length (now (text .entry))) (now (text .exit)) r (def.«push_normalized_text» (slice from to (now (src .entry))) opts (take len (now (text .entry))))) ⌝ }
+{
+    if is_kept_part(src, from, to, skip_escape) {
+        return push_part(text, len, src, from, to);
     }
     let room = text.len();
-    let n = new_text.len();
-    // a new slice: the address of `new_text` itself would keep it in memory
-    push_normalized(&new_text[..n], text, false, 0, n, room, len, f_opts)
+    let n = src.len();
+    let mut opts = FormatOpts::new();
+    opts.inline = inline;
+    opts.skip_escape = skip_escape;
+    opts.list_item = list_item;
+    // a new slice: the address of `src` itself would keep it in memory
+    reread(push_normalized(&src[..n], text, false, from, to, room, len, opts))
 }
 
 // Whether the text ends with one to nine digits that begin a line or an item.

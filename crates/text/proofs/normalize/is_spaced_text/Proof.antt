@@ -1,9 +1,9 @@
 -- `text::normalize::is_spaced_text` meets its contract. Assumes nothing.
 use Prim.Native.Nat.{ℕ, _+_, _-_, _<_}
 use mathlib.Core.Path.{_≡_, sym, ap, _∙_}
-use mathlib.Core.Bool.{true, false, not, _||_, false≢true}
+use mathlib.Core.Bool.{Bool, true, false, not, _||_, false≢true}
 use lib.ListN.{length, getD}
-use lib.Dec.{ltb}
+use lib.Dec.{eqb, ltb}
 use native.Mathlib.Omega.{arith}
 use borrow.Author.Tests.{ltb-false}
 use Rattle.spec.specs.Bytes.{Bytes}
@@ -46,7 +46,7 @@ spaced s h ends f opts text raw =
     let n = length s - 1 in
     let q = neither (ltb (getD s 0 0) 33) (ltb (getD s n 0) 33) ends in
     bare-flow {signs = false} {s = s} {n = n} (omega arith) (not-white (getD s 0 0) (ltb-false (getD s 0 0) 33 (q .0))) (λ e. absurd (false≢true e)) (f n (omega arith))
-    (ap not (not-white (getD s n 0) (ltb-false (getD s n 0) 33 (q .1)))) opts text (λ e. ap not (sym raw) ∙ e)
+    (ap (λ (t : Bool). not t || eqb (getD s n 0) 32) (not-white (getD s n 0) (ltb-false (getD s n 0) 33 (q .1)))) opts text (λ e. ap not (sym raw) ∙ e)
 
 returns-3 : tie.Need-returns-3
 returns-3 c =
