@@ -21,7 +21,7 @@ use crate::white_space::white_state;
 use spec::ctx::FormatOpts;
 use text::buffer::Wrote;
 use text::buffer::push_all;
-use text::text_utils::push_normalized_text;
+use text::text_utils::push_text_part;
 use tree::names::is_skipped;
 use tree::nodes::node_number;
 use tree::nodes::node_place;
@@ -115,7 +115,16 @@ pub fn write_text_node(
     let part = text_at(sheet, place);
     let start = part.start;
     let end = part.end;
-    push_normalized_text(text, len, &sheet[start..end], opts)
+    push_text_part(
+        text,
+        len,
+        sheet,
+        start,
+        end,
+        opts.inline,
+        opts.skip_escape,
+        opts.list_item,
+    )
 }
 
 // write_text of the nodes from number `from` up to `to`: it knows no skip list.
