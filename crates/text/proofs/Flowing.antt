@@ -308,7 +308,7 @@ module _ (signs : Bool) (b : ℕ) (s : Bytes) (n : ℕ) (long : length (b ∷ s)
   no-dot m = rw (ne-eqb b 46 (λ q. omega (arith, m .above-dot)), ne-eqb b 41 (λ q. omega (arith, m .above-dot)))
 
   module _ (escape : Bool) (only : escape ≡ true → signs ≡ true) where
-    -- each byte adds itself, and a blank the one behind the words
+    -- each byte adds itself, but a last blank, which is added behind the words
     flow-is : flow escape (b ∷ s) ++ cond (def.endsWithWhite (b ∷ s)) (ascii " ") [] ≡ b ∷ s
     flow-is =
         let x = getD (b ∷ s) n 0 in

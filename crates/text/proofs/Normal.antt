@@ -48,7 +48,7 @@ words-opts o p text s [] a b c = refl
 words-opts o p text s (w ∷ ws) a b c = rw (a, b, c)
 
 -- three of them matter
-pub normal-opts : (o p : FormatOpts) (s text : List ℕ) → o .inline ≡ p .inline → o .«skip_escape» ≡ p .«skip_escape» → o .«list_item» ≡ p .«list_item» → «push_normalized_text» s o text ≡ «push_normalized_text» s p text
+normal-opts : (o p : FormatOpts) (s text : List ℕ) → o .inline ≡ p .inline → o .«skip_escape» ≡ p .«skip_escape» → o .«list_item» ≡ p .«list_item» → «push_normalized_text» s o text ≡ «push_normalized_text» s p text
 unfolding «push_normalized_text» normalized
 normal-opts o p s text a b c = rw (words-opts o p text s (words s) a b c)
 

@@ -15,16 +15,6 @@ unfolding «trim_end_matches» one unless
 trim-snoc p [] b e = rw e
 trim-snoc p (a ∷ s) b e = ap (λ (r : List ℕ). unless (one p (a ∷ r)) (a ∷ r)) (trim-snoc p s b e)
 
--- no byte comes
-pub trim-long : (q : List ℕ → Bool) (s : List ℕ) → length («trim_end_matches» q s) ≤ length s
-unfolding «trim_end_matches» unless
-trim-long q [] = omega arith
-trim-long q (b ∷ s) = on (q (b ∷ «trim_end_matches» q s)) (trim-long q s)
-  where
-    on : (t : Bool) → length («trim_end_matches» q s) ≤ length s → length (unless t (b ∷ «trim_end_matches» q s)) ≤ length (b ∷ s)
-    on true h = omega arith
-    on false h = omega arith
-
 -- another stays
 pub trim-stays : (p : ℕ → Bool) (s : List ℕ) (b : ℕ) → p b ≡ false → «trim_end_matches» (one p) (s ++ (b ∷ [])) ≡ s ++ (b ∷ [])
 unfolding «trim_end_matches» one unless
@@ -34,6 +24,16 @@ trim-stays p (a ∷ s) b e = ap (λ (r : List ℕ). unless (one p (a ∷ r)) (a 
     long : (s : List ℕ) → unless (one p (a ∷ (s ++ (b ∷ [])))) (a ∷ (s ++ (b ∷ []))) ≡ a ∷ (s ++ (b ∷ []))
     long [] = refl
     long (x ∷ s) = refl
+
+-- a trim makes no text longer
+pub trim-long : (q : List ℕ → Bool) (s : List ℕ) → length («trim_end_matches» q s) ≤ length s
+unfolding «trim_end_matches» unless
+trim-long q [] = omega arith
+trim-long q (b ∷ s) = on (q (b ∷ «trim_end_matches» q s)) (trim-long q s)
+  where
+    on : (t : Bool) → length («trim_end_matches» q s) ≤ length s → length (unless t (b ∷ «trim_end_matches» q s)) ≤ length (b ∷ s)
+    on true h = omega arith
+    on false h = omega arith
 
 last-of : (s : List ℕ) (n : ℕ) → 0 < n → n ≤ length s → take n s ≡ take (n - 1) s ++ (getD s (n - 1) 0 ∷ [])
 last-of s n h k = let q : n ≡ suc (n - 1) = omega arith in ap (λ (j : ℕ). take j s) q ∙ take-suc s (n - 1) 0 (omega arith)

@@ -5,7 +5,7 @@ use mathlib.Core.Bool.{Bool, true, false, cond, not, _&&_}
 use mathlib.Core.List.{List, [], _∷_, _++_}
 use native.Mathlib.Omega.{arith}
 use lib.ListN.{length, take, drop, getD, length-drop}
-use lib.Seq.{slice, length-slice, drop-drop, getD-drop, getD-take, length-take-le, take-take, take-nil, drop-nil}
+use lib.Seq.{slice, length-slice, drop-drop, length-take-le, take-take, take-nil, drop-nil}
 use lib.Dec.{eqb}
 use borrow.Author.Tests.{eq-eqb, ne-eqb, eqb-true, eqb-false}
 use Rattle.spec.specs.Bytes.{white, null, every, isBlank, words, split, parts, cutAt, filled, «trim_start_matches»}
@@ -15,7 +15,7 @@ use Rattle.spec.specs.Md.TextUtils.{startsWithWhite, moreWords, escapedChunk}
 use Rattle.text.specs.Marks.{leadOf, firstAndMore}
 use Rattle.text.specs.Source.{store, Apart}
 use Rattle.tree.proofs.Rules.{null-length}
-use Rattle.text.proofs.Sourcing.{Still, slice-kept, part-none}
+use Rattle.text.proofs.Sourcing.{Still, slice-kept, part-byte, part-none}
 use Rattle.text.specs.Trimmed.{Skipped}
 use Rattle.text.specs.Words.{WordAt, WordEnd}
 use Rattle.text.proofs.Reading.{drop-take, null-some}
@@ -87,7 +87,7 @@ module _ (s : List ℕ) (i to k : ℕ) (h : i ≤ to) (l : to ≤ length s) wher
         within = w;
         black = λ q.
             let z : i + k + 0 ≡ i + k = omega arith in
-            ap white (sym (getD-drop (i + k) (take to s) 0 0 ∙ ap (λ (j : ℕ). getD (take to s) j 0) z ∙ getD-take to s (i + k) 0 q) ∙ ap (λ (x : List ℕ). getD x 0 0) e)
+            ap white (sym (part-byte s (i + k) to 0 (omega arith) ∙ ap (λ (j : ℕ). getD s j 0) z) ∙ ap (λ (x : List ℕ). getD x 0 0) e)
             ∙ first-black (slice i to s) (omega (arith, ap length e, length-slice (i + k) to s l));
         same-words = words-white (slice i to s) ∙ ap words (sym e);
         begins-white = starts-white (slice i to s) k p ∙ ap not (both (eqb k 0) (λ z. eq-eqb (i + k) i (omega arith)) (λ z. ne-eqb (i + k) i (λ q. z (omega arith))) refl);
@@ -149,7 +149,7 @@ pub word-end : (s : List ℕ) (i to k : ℕ) → i < to → to ≤ length s → 
 word-end s i to k h l b p =
     let m : length (slice i to s) ≡ to - i = length-slice i to s l in
     let z : i + 0 ≡ i = omega arith in
-    let f : getD (slice i to s) 0 0 ≡ getD s i 0 = getD-drop i (take to s) 0 0 ∙ ap (λ (j : ℕ). getD (take to s) j 0) z ∙ getD-take to s i 0 h in
+    let f : getD (slice i to s) 0 0 ≡ getD s i 0 = part-byte s i to 0 (omega arith) ∙ ap (λ (j : ℕ). getD s j 0) z in
     let pos : 0 < k = black-some (slice i to s) k (omega arith) (ap white f ∙ b) p in
     let w : i + k ≤ to = omega (arith, p .within) in
     record {
