@@ -4,13 +4,13 @@ use native.Mathlib.Omega.{arith}
 use mathlib.Core.Path.{_≡_, refl, ap, _∙_, sym, subst}
 use mathlib.Core.Bool.{Bool, true, false, cond, _&&_, _||_, false≢true, or-false, and-eq-true-iff}
 use borrow.Author.Tests.{eqb-true, ne-eqb}
-use mathlib.Core.List.{[], _∷_}
+use mathlib.Core.List.{List, [], _∷_}
 use mathlib.Core.Option.{Option, some}
 use lib.ListN.{length, drop}
 use lib.Dec.{eqb}
 use Rattle.spec.specs.Bytes.{Bytes, same, isin}
 use Rattle.spec.specs.Fields.{Field, fields}
-use Rattle.spec.specs.Tree.{Tail, text, comment, nodeThen, openThen, nameThen, valueThen, closeThen, fieldThen, tail}
+use Rattle.spec.specs.Tree.{Attr, Tail, text, comment, nodeThen, openThen, nameThen, valueThen, closeThen, fieldThen, tail}
 use Rattle.tree.specs.Spans.{spanAt, fieldOf}
 use Rattle.tree.specs.Attributes.{endsAttrs, eitherAttr, Valued}
 use Rattle.tree.specs.declared.fields.Span.{Span}
@@ -80,10 +80,29 @@ pub value-none : (s : Bytes) (p : ℕ) → p ≤ length s → length s - p < 3 �
 unfolding tail
 value-none s p h k = empty-at s p (tail (fields (drop p s)) .value) h (rw (none-left s p k))
 
+-- ---- no attributes from p on
+
+pub attrs-none : (s : Bytes) (p : ℕ) → length s - p < 3 → tail (fields (drop p s)) .attrs ≡ []
+unfolding tail
+attrs-none s p h = rw (none-left s p h)
+
+pub either-missing : (s a b : Bytes) {attrs : List Attr} {v : Option Bytes} → attrs ≡ [] → v ≡ eitherAttr a b attrs → Valued s Missing v
+unfolding eitherAttr
+either-missing s a b none-there so-far = record { inside = tt; value-is = so-far ∙ ap (eitherAttr a b) none-there }
+
+pub either-none : (s : Bytes) (p : ℕ) (a b : Bytes) (v : Option Bytes) → v ≡ eitherAttr a b (tail (fields (drop p s)) .attrs)
+    → length s - p < 3 → Valued s Missing v
+either-none s p a b v so-far h = either-missing s a b (attrs-none s p h) so-far
+
+-- ---- the field at p
+
 module _ (s : Bytes) (p : ℕ) (r : Span) (h : p + 3 ≤ length s) (r-is : r ≡ spanAt s p) where
   tail-at : tail (fields (drop p s)) ≡ fieldThen (fieldOf s r) (tail (fields (drop (r .end) s)))
   unfolding tail
   tail-at = rw (r-is, span-fields s p h)
+
+  pub attrs-end : endsAttrs (r .tag) ≡ true → tail (fields (drop p s)) .attrs ≡ []
+  attrs-end e = ap (λ (t : Tail). t .attrs) tail-at ∙ ends-then (fieldOf s r) _ e .0
 
   pub value-ends : endsAttrs (r .tag) ≡ true → Valued s (At p p) (some (tail (fields (drop p s)) .value))
   value-ends e = empty-at s p _ (omega arith) (ap (λ (t : Tail). t .value) tail-at ∙ ends-then (fieldOf s r) _ e .1)
@@ -103,9 +122,7 @@ module _ (s : Bytes) (p : ℕ) (r : Span) (h : p + 3 ≤ length s) (r-is : r ≡
     here = so-far ∙ ap (λ (t : Tail). eitherAttr a b (t .attrs)) tail-at
 
     pub either-ends : endsAttrs (r .tag) ≡ true → Valued s Missing v
-    unfolding eitherAttr
-    either-ends e =
-        record { inside = tt; value-is = here ∙ ap (eitherAttr a b) (ends-then (fieldOf s r) _ e .0) }
+    either-ends e = either-missing s a b (attrs-end e) so-far
 
     pub either-found : (eqb (r .tag) 2 && (same a (fieldOf s r .body) || same b (fieldOf s r .body))) ≡ true
         → v ≡ some (tail (fields (drop (r .end) s)) .value)
@@ -126,8 +143,3 @@ module _ (s : Bytes) (p : ℕ) (r : Span) (h : p + 3 ≤ length s) (r-is : r ≡
             ≡ eitherAttr a b (tail (fields (drop (r .end) s)) .attrs)
         go true q k = ap (eitherAttr a b) (name-then (fieldOf s r) _ (eqb-true (r .tag) 2 q) .0) ∙ rw k
         go false q k = ap (eitherAttr a b) (other-then (fieldOf s r) _ e q .0)
-
-pub either-none : (s : Bytes) (p : ℕ) (a b : Bytes) (v : Option Bytes) → v ≡ eitherAttr a b (tail (fields (drop p s)) .attrs)
-    → length s - p < 3 → Valued s Missing v
-unfolding eitherAttr tail
-either-none s p a b v so-far h = record { inside = tt; value-is = so-far ∙ rw (none-left s p h) }

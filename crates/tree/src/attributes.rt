@@ -1,7 +1,8 @@
 // The attributes of an element: those that the fields behind its opening say.
 ghost use mathlib.Core.Path.{_≡_};
 ghost use mathlib.Core.Option.{some};
-ghost use mathlib.Core.Bool.{_&&_, _||_};
+ghost use mathlib.Core.Bool.{true, _&&_, _||_};
+ghost use mathlib.Core.List.{[]};
 ghost use Prim.Native.Nat.{_+_, _≤_};
 ghost use lib.ListN.{length, drop};
 ghost use lib.Dec.{eqb};
@@ -92,12 +93,30 @@ fn either_attribute(s: &[u8], place: usize, a: &[u8], b: &[u8]) -> Value
     Value::Missing
 }
 
+// Whether the element that opens at `place` is known to have no attributes.
+fn has_none(s: &[u8], place: usize) -> bool
+    requires { ⌜ place + 3 ≤ length (now s) ⌝ }
+    ensures { λ r. ⌜ (r ≡ true → attrsBehind (now (s .entry)) place ≡ []) ⌝ }
+{
+    let e = span_at(s, place);
+    let p = e.end;
+    if s.len() - p < 3 {
+        return true;
+    }
+    ends_attributes(s[p])
+}
+
 // The value of an attribute of the element that opens at `place`: the first, where its name is repeated.
 pub fn attribute(sheet: &[u8], place: usize, name: &[u8]) -> Value
     requires { ⌜ place + 3 ≤ length (now sheet) ⌝ }
     ensures { λ r. ⌜ Valued (now (sheet .entry)) r (attr (now (name .entry)) (attrsBehind (now (sheet .entry)) place)) ⌝ }
 {
-    either_attribute(sheet, place, name, name)
+    if has_none(sheet, place) {
+        return Value::Missing;
+    }
+    // new slices: the address of `name` itself would keep it in memory
+    let n = name.len();
+    either_attribute(sheet, place, &name[..n], &name[..n])
 }
 
 // The value of the first of the attributes of that element that say a language.
