@@ -2,7 +2,7 @@
 ghost use mathlib.Core.Path.{_≡_};
 ghost use mathlib.Core.Bool.{_||_};
 ghost use Prim.Native.Nat.{_+_, _≤_, _<_};
-ghost use lib.ListN.{length, take, drop};
+ghost use lib.ListN.{length, take};
 ghost use lib.Seq.{slice};
 ghost use Rattle.spec.specs.Bytes.{ascii, endsWith, same};
 ghost use Rattle.spec.specs.Md.LineBreak.{linebreak, «double_linebreak»};
