@@ -53,7 +53,6 @@ fn write_inside(
         first,
         end,
         packed(opts),
-        opts.offset,
         101,
     ) {
         Wrote::Done(n) => Wrote::Done(trim_space(text, n)),
@@ -88,7 +87,6 @@ fn write_whole(
         start,
         to,
         packed(opts),
-        opts.offset,
         101,
     )
 }

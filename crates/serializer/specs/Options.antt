@@ -1,4 +1,4 @@
--- The options as two numbers. Assumes nothing.
+-- The options as one number. Assumes nothing.
 use Prim.Native.Nat.{ℕ, _/_, _%_}
 use mathlib.Core.Bool.{Bool, not}
 use lib.Dec.{eqb}
@@ -8,9 +8,10 @@ use Rattle.spec.specs.declared.ctx.FormatOpts.{FormatOpts}
 abbrev pub odd : ℕ → Bool
 odd n = not (eqb (n % 2) 0)
 
--- the flags are the binary digits of `bits` from the lowest on, in the order of the fields, and the scope is the byte behind them
-unfoldable pub unpacked : ℕ → ℕ → FormatOpts
-unpacked bits offset =
+-- the flags are the binary digits of `bits` from the lowest on, in the order of the fields; the scope is the byte behind them, and the
+-- offset all that is left
+unfoldable pub unpacked : ℕ → FormatOpts
+unpacked bits =
     record {
       «include_node» = odd bits;
       «skip_escape» = odd (bits / 2);
@@ -19,6 +20,6 @@ unpacked bits offset =
       «table_cell» = odd (bits / 16);
       «list_item» = odd (bits / 32);
       «link_body» = odd (bits / 64);
-      offset = offset;
+      offset = bits / 32768;
       «emphasis_scope» = record { 0 = bits / 128 % 256 };
     }

@@ -32,12 +32,12 @@ selfAt own run levels = serializer (skipTags (skipList own run)) levels
 abbrev pub Ready : Bytes → Bytes → ℕ → Type 0
 Ready sh text len = (len ≤ length text) × (length sh ≤ 1048576)
 
--- the offsets of lists within so many levels fit a machine word: each list steps 12 at most
+-- the offsets of lists within so many levels fit beside the flags in a machine word: each list steps 12 at most
 abbrev pub Fits : FormatOpts → ℕ → Type 0
-Fits opts levels = opts .offset + levels * 12 + 24 < 2 ^ 64
+Fits opts levels = opts .offset + levels * 12 + 24 < 2 ^ 48
 
 abbrev pub FitsIn : ListContext → ℕ → Type 0
-FitsIn ctx levels = Fits (ctx .opts) levels × (ctx .«list_indent» + levels * 12 + 36 < 2 ^ 64)
+FitsIn ctx levels = Fits (ctx .opts) levels × (ctx .«list_indent» + levels * 12 + 36 < 2 ^ 48)
 
 -- whatever forest the nodes from number i up to e are, and whatever stands around them, it is written by the step
 pub record WritesForest (sh ns : Bytes) (i e : ℕ) (step : Ancestors → Forest → Step) (t : Bytes) (room : ℕ) (after : Bytes) (r : Wrote) : Type 0 where

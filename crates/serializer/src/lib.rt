@@ -107,12 +107,11 @@ pub fn write(
     from: usize,
     to: usize,
     bits: usize,
-    offset: usize,
     levels: usize,
 ) -> Wrote
-    requires { ⌜ Placeds (now sheet) (now nodes) from to × Ready (now sheet) (now text) len × Fits (def.unpacked bits offset) levels ⌝ }
+    requires { ⌜ Placeds (now sheet) (now nodes) from to × Ready (now sheet) (now text) len × Fits (def.unpacked bits) levels ⌝ }
     ensures kept { λ r. ⌜ Kept from to (now (nodes .entry)) (now (nodes .exit)) ⌝ }
-    ensures { λ r. ⌜ WritesForest (now (sheet .entry)) (now (nodes .entry)) from to (λ anc f. writeAt (skipTags (skipList own (now (run .entry)))) levels anc (def.unpacked bits offset) f) (take len (now (text .entry))) (length (now (text .entry))) (now (text .exit)) r ⌝ }
+    ensures { λ r. ⌜ WritesForest (now (sheet .entry)) (now (nodes .entry)) from to (λ anc f. writeAt (skipTags (skipList own (now (run .entry)))) levels anc (def.unpacked bits) f) (take len (now (text .entry))) (length (now (text .entry))) (now (text .exit)) r ⌝ }
 {
     if levels == 0 {
         return Wrote::Done(len);
@@ -120,18 +119,7 @@ pub fn write(
     let mut at = from;
     let mut end = len;
     while at < to {
-        match node(
-            sheet,
-            own,
-            run,
-            nodes,
-            text,
-            end,
-            at,
-            bits,
-            offset,
-            levels - 1,
-        ) {
+        match node(sheet, own, run, nodes, text, end, at, bits, levels - 1) {
             Wrote::Done(n) => {
                 end = n;
             }
@@ -155,30 +143,17 @@ fn siblings(
     from: usize,
     to: usize,
     bits: usize,
-    offset: usize,
     levels: usize,
 ) -> Wrote
-    requires { ⌜ Placeds (now sheet) (now nodes) from to × Ready (now sheet) (now text) len × Fits (def.unpacked bits offset) levels ⌝ }
+    requires { ⌜ Placeds (now sheet) (now nodes) from to × Ready (now sheet) (now text) len × Fits (def.unpacked bits) levels ⌝ }
     ensures kept { λ r. ⌜ Kept from to (now (nodes .entry)) (now (nodes .exit)) ⌝ }
-    ensures { λ r. ⌜ WritesForest (now (sheet .entry)) (now (nodes .entry)) from to (λ anc f. writeAt (skipTags (skipList own (now (run .entry)))) levels anc (def.unpacked bits offset) f) (take len (now (text .entry))) (length (now (text .entry))) (now (text .exit)) r ⌝ }
+    ensures { λ r. ⌜ WritesForest (now (sheet .entry)) (now (nodes .entry)) from to (λ anc f. writeAt (skipTags (skipList own (now (run .entry)))) levels anc (def.unpacked bits) f) (take len (now (text .entry))) (length (now (text .entry))) (now (text .exit)) r ⌝ }
 {
     if (levels != 0) & is_one_text(sheet, nodes, from, to) {
-        let opts = unpacked(bits, offset);
+        let opts = unpacked(bits);
         return write_text_node(sheet, nodes, text, len, from, opts);
     }
-    write(
-        sheet,
-        own,
-        run,
-        nodes,
-        text,
-        len,
-        from,
-        to,
-        bits,
-        offset,
-        levels,
-    )
+    write(sheet, own, run, nodes, text, len, from, to, bits, levels)
 }
 
 // One node, with itself.
@@ -191,24 +166,23 @@ fn node(
     len: usize,
     at: usize,
     bits: usize,
-    offset: usize,
     levels: usize,
 ) -> Wrote
-    requires { ⌜ PlacedNode (now sheet) (now nodes) at × Ready (now sheet) (now text) len × Fits (def.unpacked bits offset) (levels + 1) ⌝ }
+    requires { ⌜ PlacedNode (now sheet) (now nodes) at × Ready (now sheet) (now text) len × Fits (def.unpacked bits) (levels + 1) ⌝ }
     ensures kept { λ r. ⌜ Kept at (endAt (now (nodes .entry)) at) (now (nodes .entry)) (now (nodes .exit)) ⌝ }
-    ensures { λ r. ⌜ WritesForest (now (sheet .entry)) (now (nodes .entry)) at (endAt (now (nodes .entry)) at) (λ anc f. writeNodes (selfAt own (now (run .entry)) levels) anc (def.unpacked bits offset) f) (take len (now (text .entry))) (length (now (text .entry))) (now (text .exit)) r ⌝ }
+    ensures { λ r. ⌜ WritesForest (now (sheet .entry)) (now (nodes .entry)) at (endAt (now (nodes .entry)) at) (λ anc f. writeNodes (selfAt own (now (run .entry)) levels) anc (def.unpacked bits) f) (take len (now (text .entry))) (length (now (text .entry))) (now (text .exit)) r ⌝ }
 {
     let place = node_place(nodes, at);
     if tag_at(sheet, place) != 1 {
-        let opts = unpacked(bits, offset);
+        let opts = unpacked(bits);
         return write_text_node(sheet, nodes, text, len, at, opts);
     }
     if node_is_skipped(sheet, own, run, nodes, at) {
         return Wrote::Done(len);
     }
-    let opts = unpacked(bits, offset);
+    let opts = unpacked(bits);
     match opened(sheet, nodes, text, len, at, opts) {
-        Wrote::Done(n) => inside(sheet, own, run, nodes, text, n, at, bits, offset, levels),
+        Wrote::Done(n) => inside(sheet, own, run, nodes, text, n, at, bits, levels),
         Wrote::Full => Wrote::Full,
     }
 }
@@ -223,62 +197,25 @@ fn inside(
     len: usize,
     at: usize,
     bits: usize,
-    offset: usize,
     levels: usize,
 ) -> Wrote
-    requires { ⌜ Placed (now sheet) (now nodes) at × Ready (now sheet) (now text) len × Fits (def.unpacked bits offset) (levels + 1) ⌝ }
+    requires { ⌜ Placed (now sheet) (now nodes) at × Ready (now sheet) (now text) len × Fits (def.unpacked bits) (levels + 1) ⌝ }
     ensures kept { λ r. ⌜ Kept at (endAt (now (nodes .entry)) at) (now (nodes .entry)) (now (nodes .exit)) ⌝ }
-    ensures { λ r. ⌜ WritesElement (now (sheet .entry)) (now (nodes .entry)) at (λ anc name attrs kids. inElement (selfAt own (now (run .entry)) levels) anc (def.unpacked bits offset) name attrs kids) (take len (now (text .entry))) (length (now (text .entry))) (now (text .exit)) r ⌝ }
+    ensures { λ r. ⌜ WritesElement (now (sheet .entry)) (now (nodes .entry)) at (λ anc name attrs kids. inElement (selfAt own (now (run .entry)) levels) anc (def.unpacked bits) name attrs kids) (take len (now (text .entry))) (length (now (text .entry))) (now (text .exit)) r ⌝ }
 {
     let name = node_name(sheet, nodes, at);
-    let flags = unpacked(bits, offset);
+    let flags = unpacked(bits);
     if !flags.skip_md & has_writer(name, flags) {
         // lists and tables, and the others: of two calls the compiler takes none into `write`, so that a level without a
         // writer needs no frame for them
         if name < 21 {
-            return write_element(
-                sheet,
-                own,
-                run,
-                nodes,
-                text,
-                len,
-                at,
-                name,
-                bits,
-                offset,
-                levels,
-            );
+            return write_element(sheet, own, run, nodes, text, len, at, name, bits, levels);
         }
-        return write_element(
-            sheet,
-            own,
-            run,
-            nodes,
-            text,
-            len,
-            at,
-            name,
-            bits,
-            offset,
-            levels,
-        );
+        return write_element(sheet, own, run, nodes, text, len, at, name, bits, levels);
     }
     let to = node_end(nodes, at);
-    match siblings(
-        sheet,
-        own,
-        run,
-        nodes,
-        text,
-        len,
-        at + 1,
-        to,
-        bits,
-        offset,
-        levels,
-    ) {
-        Wrote::Done(n) => closed(text, n, name, unpacked(bits, offset)),
+    match siblings(sheet, own, run, nodes, text, len, at + 1, to, bits, levels) {
+        Wrote::Done(n) => closed(text, n, name, unpacked(bits)),
         Wrote::Full => Wrote::Full,
     }
 }
@@ -294,14 +231,13 @@ fn write_element(
     at: usize,
     name: usize,
     bits: usize,
-    offset: usize,
     levels: usize,
 ) -> Wrote
-    requires { ⌜ Placed (now sheet) (now nodes) at × (name ≡ nameAt (now sheet) (placeAt (now nodes) at)) × Ready (now sheet) (now text) len × Fits (def.unpacked bits offset) (levels + 1) ⌝ }
+    requires { ⌜ Placed (now sheet) (now nodes) at × (name ≡ nameAt (now sheet) (placeAt (now nodes) at)) × Ready (now sheet) (now text) len × Fits (def.unpacked bits) (levels + 1) ⌝ }
     ensures kept { λ r. ⌜ Kept at (endAt (now (nodes .entry)) at) (now (nodes .entry)) (now (nodes .exit)) ⌝ }
-    ensures { λ r. ⌜ WritesElement (now (sheet .entry)) (now (nodes .entry)) at (λ anc name attrs kids. «write_element» (selfAt own (now (run .entry)) levels) anc (def.unpacked bits offset) name attrs kids) (take len (now (text .entry))) (length (now (text .entry))) (now (text .exit)) r ⌝ }
+    ensures { λ r. ⌜ WritesElement (now (sheet .entry)) (now (nodes .entry)) at (λ anc name attrs kids. «write_element» (selfAt own (now (run .entry)) levels) anc (def.unpacked bits) name attrs kids) (take len (now (text .entry))) (length (now (text .entry))) (now (text .exit)) r ⌝ }
 {
-    let opts = unpacked(bits, offset);
+    let opts = unpacked(bits);
     if is_list(name) {
         return write_list(sheet, own, run, nodes, text, len, at, name, opts, levels);
     }
@@ -334,31 +270,18 @@ fn kids(
     len: usize,
     at: usize,
     bits: usize,
-    offset: usize,
     levels: usize,
 ) -> Wrote
-    requires { ⌜ Placed (now sheet) (now nodes) at × Ready (now sheet) (now text) len × Fits (def.unpacked bits offset) levels ⌝ }
+    requires { ⌜ Placed (now sheet) (now nodes) at × Ready (now sheet) (now text) len × Fits (def.unpacked bits) levels ⌝ }
     ensures kept { λ r. ⌜ Kept at (endAt (now (nodes .entry)) at) (now (nodes .entry)) (now (nodes .exit)) ⌝ }
-    ensures { λ r. ⌜ WritesElement (now (sheet .entry)) (now (nodes .entry)) at (λ anc name attrs kids. writeKids (selfAt own (now (run .entry)) levels) anc (def.unpacked bits offset) (element name attrs kids nothing)) (take len (now (text .entry))) (length (now (text .entry))) (now (text .exit)) r ⌝ }
+    ensures { λ r. ⌜ WritesElement (now (sheet .entry)) (now (nodes .entry)) at (λ anc name attrs kids. writeKids (selfAt own (now (run .entry)) levels) anc (def.unpacked bits) (element name attrs kids nothing)) (take len (now (text .entry))) (length (now (text .entry))) (now (text .exit)) r ⌝ }
 {
     let to = node_end(nodes, at);
     if (levels != 0) & is_one_text(sheet, nodes, at + 1, to) {
-        let opts = unpacked(bits, offset);
+        let opts = unpacked(bits);
         return trim_behind_text(sheet, nodes, text, len, at + 1, opts);
     }
-    match write(
-        sheet,
-        own,
-        run,
-        nodes,
-        text,
-        len,
-        at + 1,
-        to,
-        bits,
-        offset,
-        levels,
-    ) {
+    match write(sheet, own, run, nodes, text, len, at + 1, to, bits, levels) {
         Wrote::Done(n) => Wrote::Done(trim_space(text, n)),
         Wrote::Full => Wrote::Full,
     }
@@ -393,7 +316,6 @@ fn write_emphasis(
         at + 1,
         to,
         packed(inner),
-        inner.offset,
         levels,
     ) {
         Wrote::Done(n) => push_emphasis_by(text, len, n, name, opts),
@@ -435,18 +357,7 @@ fn write_link(
         ),
         Value::Missing => {
             let bits = packed(fresh);
-            kids(
-                sheet,
-                own,
-                run,
-                nodes,
-                text,
-                len,
-                at,
-                bits,
-                fresh.offset,
-                levels,
-            )
+            kids(sheet, own, run, nodes, text, len, at, bits, levels)
         }
     }
 }
@@ -541,7 +452,6 @@ fn body(
         0,
         at,
         bits,
-        opts.offset,
         levels,
     ) {
         Wrote::Done(n) => push_link(sheet, text, len, n, place, from, to, false, opts),
@@ -645,7 +555,6 @@ fn item(
             c,
             to,
             packed(inner),
-            inner.offset,
             levels,
         );
     }
@@ -678,18 +587,7 @@ fn flat(
         Wrote::Done(n) => {
             let inner = opts.list_item();
             let bits = packed(inner);
-            match kids(
-                sheet,
-                own,
-                run,
-                nodes,
-                text,
-                n,
-                c,
-                bits,
-                inner.offset,
-                levels,
-            ) {
+            match kids(sheet, own, run, nodes, text, n, c, bits, levels) {
                 Wrote::Done(m) => push_linebreak(text, m, opts.table_cell),
                 Wrote::Full => Wrote::Full,
             }
@@ -950,7 +848,6 @@ fn inline(
             c,
             to,
             packed(inner),
-            inner.offset,
             levels,
         ),
         Wrote::Full => Wrote::Full,
@@ -1050,18 +947,7 @@ fn flow(
         Wrote::Done(n) => {
             let inner = opts.list_item();
             let bits = packed(inner);
-            match kids(
-                sheet,
-                own,
-                run,
-                nodes,
-                text,
-                n,
-                c,
-                bits,
-                inner.offset,
-                levels,
-            ) {
+            match kids(sheet, own, run, nodes, text, n, c, bits, levels) {
                 Wrote::Done(m) => end_flow(text, m, name, item),
                 Wrote::Full => Wrote::Full,
             }
@@ -1099,7 +985,6 @@ fn indented(
         c,
         to,
         packed(inner),
-        inner.offset,
         levels,
     ) {
         Wrote::Done(n) => push_indented(text, len, n, item),
@@ -1128,18 +1013,7 @@ fn write_table(
     let fresh = opts.fresh();
     if !is_table_node_writable(sheet, nodes, at + 1, to, first) {
         let bits = packed(fresh);
-        return kids(
-            sheet,
-            own,
-            run,
-            nodes,
-            text,
-            len,
-            at,
-            bits,
-            fresh.offset,
-            levels,
-        );
+        return kids(sheet, own, run, nodes, text, len, at, bits, levels);
     }
     match cells(sheet, own, run, nodes, text, len, first, to, opts, levels) {
         Wrote::Done(end) => push_table(sheet, nodes, text, len, end - len, first, to),
@@ -1232,18 +1106,7 @@ fn cell(
 {
     let inner = opts.fresh().table_cell();
     let bits = packed(inner);
-    match kids(
-        sheet,
-        own,
-        run,
-        nodes,
-        text,
-        0,
-        c,
-        bits,
-        inner.offset,
-        levels,
-    ) {
+    match kids(sheet, own, run, nodes, text, 0, c, bits, levels) {
         Wrote::Done(n) => {
             let k = trim_trailing_cell_break(&text[..n]);
             escape_table_cell_inplace(text, k)

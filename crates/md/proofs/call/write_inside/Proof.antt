@@ -1,4 +1,5 @@
 -- `md::call::write_inside` meets its contract. Assumes nothing.
+use Prim.Native.Nat.{_<_, _^_}
 use mathlib.Core.Path.{sym, subst, _∙_}
 use lib.Dec.{lit<}
 use native.Mathlib.Omega.{arith}
@@ -32,7 +33,8 @@ new-requires : tie.Need-new-requires
 new-requires c κs = search needs
 
 packed-requires : tie.Need-packed-requires
-packed-requires c κs = search needs
+packed-requires c κs =
+    subst (λ (o : FormatOpts). o .offset < 2 ^ 48) (sym (c .before .before .new .ensures)) (lit< tt)
 
 write-requires : tie.Need-write-requires
 write-requires c κs =

@@ -1,4 +1,5 @@
 -- `md::call::write_whole` meets its contract. Assumes nothing.
+use Prim.Native.Nat.{_<_, _^_}
 use mathlib.Core.Path.{refl, sym, ap, subst, _∙_}
 use lib.Dec.{lit<}
 use native.Mathlib.Nat.{pos-of-ne-zero}
@@ -28,7 +29,8 @@ include-node-requires : tie.Need-include-node-requires
 include-node-requires c κs = search needs
 
 packed-requires : tie.Need-packed-requires
-packed-requires c κs = search needs
+packed-requires c κs =
+    subst (λ (o : FormatOpts). o .offset < 2 ^ 48) (sym (c .before .before .include-node .ensures ∙ ap «include_node» (c .before .before .before .new .ensures))) (lit< tt)
 
 write-requires : tie.Need-write-requires
 write-requires c κs =

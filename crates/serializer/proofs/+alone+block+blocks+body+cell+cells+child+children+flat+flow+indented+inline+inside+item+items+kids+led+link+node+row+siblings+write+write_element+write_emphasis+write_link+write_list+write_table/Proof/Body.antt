@@ -37,7 +37,8 @@ node-place-requires t c κs =
     placed-node (s .args .sheet .now) (s .args .nodes .now) (s .args .at) (s .pre .1 .0) .inside
 
 packed-requires : (t : ℕ) → lts.Need-packed-requires (claims t) (body-at t) body.Post
-packed-requires t c κs = search needs
+packed-requires t c κs =
+    let s = c .before .before .before .before .before .before in omega (arith, s .pre .1 .2)
 
 kids-requires : (t : ℕ) → lts.Need-kids-requires (claims t) (body-at t) body.Post
 kids-requires t c κs =

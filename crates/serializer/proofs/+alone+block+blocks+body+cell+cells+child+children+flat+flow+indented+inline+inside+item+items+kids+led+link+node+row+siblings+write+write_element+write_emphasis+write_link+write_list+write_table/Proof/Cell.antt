@@ -37,7 +37,8 @@ abbrev claims : ℕ → lts.Claims
 claims t = (fresh-reads.Asked, fresh-reads.Learnt, table-cell-reads.Asked, table-cell-reads.Learnt, packed-reads.Asked, packed-reads.Learnt, kids-below t, kids.Post, trim-trailing-cell-break-reads.Asked, trim-trailing-cell-break-reads.Learnt, escape-table-cell-inplace-reads.Asked, escape-table-cell-inplace-reads.Learnt)
 
 packed-requires : (t : ℕ) → lts.Need-packed-requires (claims t) (cell-at t) cell.Post
-packed-requires t c κs = search needs
+packed-requires t c κs =
+    let s = c .before .before .before .before .before .before in omega (arith, subst (λ (o : FormatOpts). Fits o (s .args .levels)) (sym (c .table-cell .ensures ∙ ap «table_cell» (c .before .fresh .ensures))) (omega (arith, s .pre .1 .2)))
 
 kids-requires : (t : ℕ) → lts.Need-kids-requires (claims t) (cell-at t) cell.Post
 kids-requires t c κs =

@@ -17,6 +17,7 @@ use Rattle.serializer.proofs.Lists.{fits-in, fits-item, item-parts}
 use Rattle.serializer.specs.Options.{unpacked}
 use Rattle.serializer.proofs.Answers.{written-reaches, both-full}
 use borrow.Author.Needs.{needs}
+use native.Mathlib.Omega.{arith}
 use Rattle.serializer.proofs.+alone+block+blocks+body+cell+cells+child+children+flat+flow+indented+inline+inside+item+items+kids+led+link+node+row+siblings+write+write_element+write_emphasis+write_link+write_list+write_table.Lts-flat as lts
 use Rattle.serializer.proofs.flat.Reads as flat
 use Rattle.list_items.proofs.start_item.Reads as start-item-reads
@@ -34,25 +35,26 @@ start-item-requires t c κs =
     (c .before .before .before .before .before .pre .1 .1 .0, fits-in (c .before .before .before .before .before .args .levels) (c .before .before .before .before .before .args .ctx) (c .before .before .before .before .before .pre .1 .2))
 
 packed-requires : (t : ℕ) → lts.Need-packed-requires (claims t) (flat-at t) flat.Post
-packed-requires t c κs = search needs
+packed-requires t c κs =
+    let s = c .before .before .before .before .before .before .before .before .before .before .before .before .before in omega (arith, fits-item (s .args .levels) (s .args .ctx) (c .before .before .before .before .before .before .before .start-item .result .ctx) (c .list-item .result) (c .before .before .before .before .before .before .before .start-item .ensures .1) (c .list-item .ensures) (s .pre .1 .2))
 
 kids-requires : (t : ℕ) → lts.Need-kids-requires (claims t) (flat-at t) flat.Post
 kids-requires t c κs =
     let s = c .before .before .before .before .before .before .before .before .before .before .before .before .before .before .before .before in
-    (falls-in (s .args .levels) (s .pre .0) (lit< tt), (s .pre .1 .0, (reaches (done (c .before .before .before .before .before .wrote .given .1) (c .before .before .before .before .before .before .before .before .before .before .start-item .ensures .0)), s .pre .1 .1 .1), fits-item (s .args .levels) (s .args .ctx) (c .before .before .before .before .before .before .before .before .before .before .start-item .result .ctx) (unpacked (c .before .before .packed .result) (c .before .before .before .list-item .result .offset)) (c .before .before .before .before .before .before .before .before .before .before .start-item .ensures .1) (c .before .before .packed .ensures ∙ c .before .before .before .list-item .ensures) (s .pre .1 .2)))
+    (falls-in (s .args .levels) (s .pre .0) (lit< tt), (s .pre .1 .0, (reaches (done (c .before .before .before .before .before .wrote .given .1) (c .before .before .before .before .before .before .before .before .before .before .start-item .ensures .0)), s .pre .1 .1 .1), fits-item (s .args .levels) (s .args .ctx) (c .before .before .before .before .before .before .before .before .before .before .start-item .result .ctx) (unpacked (c .before .before .packed .result)) (c .before .before .before .before .before .before .before .before .before .before .start-item .ensures .1) (c .before .before .packed .ensures ∙ c .before .before .before .list-item .ensures) (s .pre .1 .2)))
 
 -- behind the beginning of the item
 begun : (t : ℕ) (c : lts.After-kids (claims t) (flat-at t) flat.Post) (anc : Ancestors) (node : Forest) →
     let s = c .before .before .before .before .before .before .before .before .before .before .before .before .before .before .before .before .before in
     let self = selfAt (s .args .own) (s .args .run .now) (s .args .levels) in
-    Owes (length (s .args .text .now)) (c .before .before .before .before .before .before .before .before .before .before .before .start-item .last .0) (c .before .before .before .before .before .before .wrote .given .0 .0) (λ u. andThen (writeKids self anc (unpacked (c .before .before .before .packed .result) (c .before .before .before .before .list-item .result .offset)) node u) (push (breakOf (c .before .before .before .before .before .before .before .before .before .before .before .start-item .result .ctx)))) («write_list_item» self anc node (s .args .ctx) (take (s .args .len) (s .args .text .now)))
+    Owes (length (s .args .text .now)) (c .before .before .before .before .before .before .before .before .before .before .before .start-item .last .0) (c .before .before .before .before .before .before .wrote .given .0 .0) (λ u. andThen (writeKids self anc (unpacked (c .before .before .before .packed .result)) node u) (push (breakOf (c .before .before .before .before .before .before .before .before .before .before .before .start-item .result .ctx)))) («write_list_item» self anc node (s .args .ctx) (take (s .args .len) (s .args .text .now)))
 begun t c anc node =
     let s = c .before .before .before .before .before .before .before .before .before .before .before .before .before .before .before .before .before in
     let self = selfAt (s .args .own) (s .args .run .now) (s .args .levels) in
     owes-step (owes-all (s .args .text .now) (s .args .len) («write_list_item» self anc node (s .args .ctx)) (s .pre .1 .1 .0) refl)
     (beginItem false (s .args .ctx))
-    (λ u. andThen (writeKids self anc (unpacked (c .before .before .before .packed .result) (c .before .before .before .before .list-item .result .offset)) node u) (push (breakOf (c .before .before .before .before .before .before .before .before .before .before .before .start-item .result .ctx))))
-    (item-parts self anc node (s .args .ctx) (c .before .before .before .before .before .before .before .before .before .before .before .start-item .result .ctx) (unpacked (c .before .before .before .packed .result) (c .before .before .before .before .list-item .result .offset)) (take (s .args .len) (s .args .text .now)) (c .before .before .before .before .before .before .before .before .before .before .before .start-item .ensures .1) (c .before .before .before .packed .ensures ∙ c .before .before .before .before .list-item .ensures)) (c .before .before .before .before .before .before .wrote .given .1) (c .before .before .before .before .before .before .before .before .before .before .before .start-item .ensures .0)
+    (λ u. andThen (writeKids self anc (unpacked (c .before .before .before .packed .result)) node u) (push (breakOf (c .before .before .before .before .before .before .before .before .before .before .before .start-item .result .ctx))))
+    (item-parts self anc node (s .args .ctx) (c .before .before .before .before .before .before .before .before .before .before .before .start-item .result .ctx) (unpacked (c .before .before .before .packed .result)) (take (s .args .len) (s .args .text .now)) (c .before .before .before .before .before .before .before .before .before .before .before .start-item .ensures .1) (c .before .before .before .packed .ensures ∙ c .before .before .before .before .list-item .ensures)) (c .before .before .before .before .before .before .wrote .given .1) (c .before .before .before .before .before .before .before .before .before .before .before .start-item .ensures .0)
 
 push-linebreak-requires : (t : ℕ) → lts.Need-push-linebreak-requires (claims t) (flat-at t) flat.Post
 push-linebreak-requires t c κs =
@@ -62,13 +64,13 @@ returns : (t : ℕ) → lts.Need-returns (claims t) (flat-at t) flat.Post
 returns t c =
     let s = c .before .before .before .before .before .before .before .before .before .before .before .before .before .before .before .before .before .before .before .before .before .before .before .before .before .before .before .before in
     let self = selfAt (s .args .own) (s .args .run .now) (s .args .levels) in
-    (c .before .before .before .before .before .before .before .before .before .before .before .kids .ensures .0, record { for = λ name attrs kids anc x a. owes-last (owes-step (begun t (c .before .before .before .before .before .before .before .before .before .before .before) anc (element name attrs kids nothing)) (writeKids self anc (unpacked (c .before .before .before .before .before .before .before .before .before .before .before .before .before .before .packed .result) (c .before .before .before .before .before .before .before .before .before .before .before .before .before .before .before .list-item .result .offset)) (element name attrs kids nothing)) (push (breakOf (c .before .before .before .before .before .before .before .before .before .before .before .before .before .before .before .before .before .before .before .before .before .before .start-item .result .ctx))) refl (c .before .before .before .before .before .m .given .1) (c .before .before .before .before .before .before .before .before .before .before .before .kids .ensures .1 .for name attrs kids anc x a)) (c .before .before .push-linebreak .ensures) })
+    (c .before .before .before .before .before .before .before .before .before .before .before .kids .ensures .0, record { for = λ name attrs kids anc x a. owes-last (owes-step (begun t (c .before .before .before .before .before .before .before .before .before .before .before) anc (element name attrs kids nothing)) (writeKids self anc (unpacked (c .before .before .before .before .before .before .before .before .before .before .before .before .before .before .packed .result)) (element name attrs kids nothing)) (push (breakOf (c .before .before .before .before .before .before .before .before .before .before .before .before .before .before .before .before .before .before .before .before .before .before .start-item .result .ctx))) refl (c .before .before .before .before .before .m .given .1) (c .before .before .before .before .before .before .before .before .before .before .before .kids .ensures .1 .for name attrs kids anc x a)) (c .before .before .push-linebreak .ensures) })
 
 returns-2 : (t : ℕ) → lts.Need-returns-2 (claims t) (flat-at t) flat.Post
 returns-2 t c =
     let s = c .before .before .before .before .before .before .before .before .before .before .before .before .before .before .before .before .before .before .before .before .before .before .before in
     let self = selfAt (s .args .own) (s .args .run .now) (s .args .levels) in
-    (c .before .before .before .before .before .before .kids .ensures .0, record { for = λ name attrs kids anc x a. owes-stop (begun t (c .before .before .before .before .before .before) anc (element name attrs kids nothing)) (writeKids self anc (unpacked (c .before .before .before .before .before .before .before .before .before .packed .result) (c .before .before .before .before .before .before .before .before .before .before .list-item .result .offset)) (element name attrs kids nothing)) (push (breakOf (c .before .before .before .before .before .before .before .before .before .before .before .before .before .before .before .before .before .start-item .result .ctx))) refl (c .enum-told .given .1) (c .before .before .before .before .before .before .kids .ensures .1 .for name attrs kids anc x a) })
+    (c .before .before .before .before .before .before .kids .ensures .0, record { for = λ name attrs kids anc x a. owes-stop (begun t (c .before .before .before .before .before .before) anc (element name attrs kids nothing)) (writeKids self anc (unpacked (c .before .before .before .before .before .before .before .before .before .packed .result)) (element name attrs kids nothing)) (push (breakOf (c .before .before .before .before .before .before .before .before .before .before .before .before .before .before .before .before .before .start-item .result .ctx))) refl (c .enum-told .given .1) (c .before .before .before .before .before .before .kids .ensures .1 .for name attrs kids anc x a) })
 
 returns-3 : (t : ℕ) → lts.Need-returns-3 (claims t) (flat-at t) flat.Post
 returns-3 t c =

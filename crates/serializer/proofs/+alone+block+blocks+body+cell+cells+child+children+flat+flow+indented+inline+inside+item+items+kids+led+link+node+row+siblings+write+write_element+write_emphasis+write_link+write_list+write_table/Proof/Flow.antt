@@ -11,6 +11,7 @@ use Rattle.serializer.specs.Options.{unpacked}
 use Rattle.serializer.proofs.Falls.{falls-in}
 use Rattle.serializer.proofs.ItemBlocks.{fits-alike, element-reaches, body-pre, flow-none, flow-full, flow-done}
 use borrow.Author.Needs.{needs}
+use native.Mathlib.Omega.{arith}
 use Rattle.serializer.proofs.+alone+block+blocks+body+cell+cells+child+children+flat+flow+indented+inline+inside+item+items+kids+led+link+node+row+siblings+write+write_element+write_emphasis+write_link+write_list+write_table.Lts-flow as lts
 use Rattle.serializer.proofs.flow.Reads as flow
 use Rattle.serializer.proofs.indented.Reads as indented
@@ -29,7 +30,8 @@ indented-requires t c κs =
     let s = c .before .before .before .before .before .before .before in (falls-in (s .args .levels) (s .pre .0) (lit< tt), (s .pre .1 .0, s .pre .1 .2, s .pre .1 .3))
 
 packed-requires : (t : ℕ) → lts.Need-packed-requires (claims t) (flow-at t) flow.Post
-packed-requires t c κs = search needs
+packed-requires t c κs =
+    let s = c .before .before .before .before .before .before .before .before .before .before .before .before .before .before in omega (arith, fits-alike (c .list-item .result) (s .args .item .ctx .opts) (s .args .levels) (ap (λ (o : FormatOpts). o .offset) (c .list-item .ensures)) (s .pre .1 .3 .0))
 
 kids-requires : (t : ℕ) → lts.Need-kids-requires (claims t) (flow-at t) flow.Post
 kids-requires t c κs =
@@ -38,7 +40,7 @@ kids-requires t c κs =
       (
         s .pre .1 .0,
         (reaches (done (c .before .before .before .before .before .n .given .1) (c .before .before .before .before .before .before .before .before .before .push-heading-prefix .ensures)), s .pre .1 .2 .1),
-        fits-alike (unpacked (c .before .before .packed .result) (c .before .before .before .list-item .result .offset)) (s .args .item .ctx .opts) (s .args .levels) (ap (λ (o : FormatOpts). o .offset) (c .before .before .packed .ensures ∙ c .before .before .before .list-item .ensures)) (s .pre .1 .3 .0),
+        fits-alike (unpacked (c .before .before .packed .result)) (s .args .item .ctx .opts) (s .args .levels) (ap (λ (o : FormatOpts). o .offset) (c .before .before .packed .ensures ∙ c .before .before .before .list-item .ensures)) (s .pre .1 .3 .0),
       ),
     )
 

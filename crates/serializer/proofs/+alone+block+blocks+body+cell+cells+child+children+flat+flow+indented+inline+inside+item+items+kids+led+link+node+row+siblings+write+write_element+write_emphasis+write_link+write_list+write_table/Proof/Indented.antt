@@ -30,7 +30,8 @@ node-end-requires t c κs =
     let s = c .before .before .before .before .before in placed-node (s .args .sheet .now) (s .args .nodes .now) (s .args .c) (s .pre .1 .0) .inside
 
 packed-requires : (t : ℕ) → lts.Need-packed-requires (claims t) (indented-at t) indented.Post
-packed-requires t c κs = search needs
+packed-requires t c κs =
+    let s = c .before .before .before .before .before .before .before .before .before .before in omega (arith, fits-alike (c .before .before .include-node .result) (s .args .item .ctx .opts) (s .args .levels) (ap (λ (o : FormatOpts). o .offset) (c .before .before .include-node .ensures)) (s .pre .1 .2 .0))
 
 write-requires : (t : ℕ) → lts.Need-write-requires (claims t) (indented-at t) indented.Post
 write-requires t c κs =
@@ -39,7 +40,7 @@ write-requires t c κs =
       (
         node-range (c .before .before .before .before .before .node-end .ensures) (placed-alone (s .args .sheet .now) (s .args .nodes .now) (s .args .c) (s .pre .1 .0)),
         (omega arith, s .pre .1 .1 .1),
-        fits-alike (unpacked (c .packed .result) (c .before .before .before .include-node .result .offset)) (s .args .item .ctx .opts) (s .args .levels) (ap (λ (o : FormatOpts). o .offset) (c .packed .ensures ∙ c .before .before .before .include-node .ensures)) (s .pre .1 .2 .0),
+        fits-alike (unpacked (c .packed .result)) (s .args .item .ctx .opts) (s .args .levels) (ap (λ (o : FormatOpts). o .offset) (c .packed .ensures ∙ c .before .before .before .include-node .ensures)) (s .pre .1 .2 .0),
       ),
     )
 

@@ -14,6 +14,7 @@ use Rattle.serializer.proofs.Falls.{falls-in}
 use Rattle.serializer.proofs.ItemBlocks.{fits-alike, child-offset, node-range, inline-none, inline-done}
 use Rattle.serializer.proofs.Placing.{placeds-at}
 use borrow.Author.Needs.{needs}
+use native.Mathlib.Omega.{arith}
 use Rattle.serializer.proofs.+alone+block+blocks+body+cell+cells+child+children+flat+flow+indented+inline+inside+item+items+kids+led+link+node+row+siblings+write+write_element+write_emphasis+write_link+write_list+write_table.Lts-inline as lts
 use Rattle.serializer.proofs.inline.Reads as inline
 use Rattle.tree.proofs.nodes.node_end.Reads as node-end-reads
@@ -31,7 +32,8 @@ node-end-requires t c κs =
     placeds-at (c .before .before .before .before .before .pre .1 .0 .alone) (c .before .before .before .before .before .pre .1 .0 .later) .inside
 
 packed-requires : (t : ℕ) → lts.Need-packed-requires (claims t) (inline-at t) inline.Post
-packed-requires t c κs = search needs
+packed-requires t c κs =
+    let s = c .before .before .before .before .before .before .before .before .before .before .before .before .before .before .before .before .before in omega (arith, fits-alike (c .before .before .before .before .before .before .before .before .before .child-opts .result) (s .args .item .ctx .opts) (s .args .levels) (ap (λ (o : FormatOpts). o .offset) (c .before .before .before .before .before .before .before .before .before .child-opts .ensures) ∙ child-offset (s .args .name) (s .args .item .ctx .opts)) (s .pre .1 .3 .0))
 
 write-requires : (t : ℕ) → lts.Need-write-requires (claims t) (inline-at t) inline.Post
 write-requires t c κs =
@@ -40,7 +42,7 @@ write-requires t c κs =
       (
         node-range (c .before .before .before .before .before .before .before .before .before .before .before .before .node-end .ensures) (s .pre .1 .0),
         (reaches (done (c .before .before .before .before .n .given .1) (c .before .before .before .before .before .before .before .before .push-inline-lead .ensures)), s .pre .1 .2 .1),
-        fits-alike (unpacked (c .packed .result) (c .before .before .before .before .before .before .before .before .before .before .child-opts .result .offset)) (s .args .item .ctx .opts) (s .args .levels) (ap (λ (o : FormatOpts). o .offset) (c .packed .ensures ∙ c .before .before .before .before .before .before .before .before .before .before .child-opts .ensures) ∙ child-offset (s .args .name) (s .args .item .ctx .opts)) (s .pre .1 .3 .0),
+        fits-alike (unpacked (c .packed .result)) (s .args .item .ctx .opts) (s .args .levels) (ap (λ (o : FormatOpts). o .offset) (c .packed .ensures ∙ c .before .before .before .before .before .before .before .before .before .before .child-opts .ensures) ∙ child-offset (s .args .name) (s .args .item .ctx .opts)) (s .pre .1 .3 .0),
       ),
     )
 

@@ -56,8 +56,8 @@ write-element-requires-2 t c κs =
 
 -- the element has a writer of its own
 by-writer : (t : ℕ) (c : lts.Then1 (claims t) (inside-at t) inside.Post) {name : Bytes} {attrs : List Attr} {kids : Forest} (anc : Ancestors) → ElementAt (c .before .before .before .before .before .before .before .before .before .before .args .sheet .now) (c .before .before .before .before .before .before .before .before .before .before .args .nodes .now) (c .before .before .before .before .before .before .before .before .before .before .args .at) name attrs kids
-    → inElement (selfAt (c .before .before .before .before .before .before .before .before .before .before .args .own) (c .before .before .before .before .before .before .before .before .before .before .args .run .now) (c .before .before .before .before .before .before .before .before .before .before .args .levels)) anc (unpacked (c .before .before .before .before .before .before .before .before .before .before .args .bits) (c .before .before .before .before .before .before .before .before .before .before .args .offset)) name attrs kids (take (c .before .before .before .before .before .before .before .before .before .before .args .len) (c .before .before .before .before .before .before .before .before .before .before .args .text .now))
-    ≡ «write_element» (selfAt (c .before .before .before .before .before .before .before .before .before .before .args .own) (c .before .before .before .before .before .before .before .before .before .before .args .run .now) (c .before .before .before .before .before .before .before .before .before .before .args .levels)) anc (unpacked (c .before .before .before .before .before .before .before .before .before .before .args .bits) (c .before .before .before .before .before .before .before .before .before .before .args .offset)) name attrs kids (take (c .before .before .before .before .before .before .before .before .before .before .args .len) (c .before .before .before .before .before .before .before .before .before .before .args .text .now))
+    → inElement (selfAt (c .before .before .before .before .before .before .before .before .before .before .args .own) (c .before .before .before .before .before .before .before .before .before .before .args .run .now) (c .before .before .before .before .before .before .before .before .before .before .args .levels)) anc (unpacked (c .before .before .before .before .before .before .before .before .before .before .args .bits)) name attrs kids (take (c .before .before .before .before .before .before .before .before .before .before .args .len) (c .before .before .before .before .before .before .before .before .before .before .args .text .now))
+    ≡ «write_element» (selfAt (c .before .before .before .before .before .before .before .before .before .before .args .own) (c .before .before .before .before .before .before .before .before .before .before .args .run .now) (c .before .before .before .before .before .before .before .before .before .before .args .levels)) anc (unpacked (c .before .before .before .before .before .before .before .before .before .before .args .bits)) name attrs kids (take (c .before .before .before .before .before .before .before .before .before .before .args .len) (c .before .before .before .before .before .before .before .before .before .before .args .text .now))
 by-writer t c {name} {attrs} {kids} anc x =
     let a = c .before .before .before .before .before .before .before .before .before .before .args in
     let u = c .before .before .before .unpacked in
@@ -95,8 +95,8 @@ closed-requires t c κs =
 
 -- the element has no writer of its own
 plain : (t : ℕ) (c : lts.Else1 (claims t) (inside-at t) inside.Post) {name : Bytes} {attrs : List Attr} {kids : Forest} (anc : Ancestors) → ElementAt (c .before .before .before .before .before .before .before .before .before .before .args .sheet .now) (c .before .before .before .before .before .before .before .before .before .before .args .nodes .now) (c .before .before .before .before .before .before .before .before .before .before .args .at) name attrs kids
-    → inElement (selfAt (c .before .before .before .before .before .before .before .before .before .before .args .own) (c .before .before .before .before .before .before .before .before .before .before .args .run .now) (c .before .before .before .before .before .before .before .before .before .before .args .levels)) anc (unpacked (c .before .before .before .before .before .before .before .before .before .before .args .bits) (c .before .before .before .before .before .before .before .before .before .before .args .offset)) name attrs kids (take (c .before .before .before .before .before .before .before .before .before .before .args .len) (c .before .before .before .before .before .before .before .before .before .before .args .text .now))
-    ≡ andThen (selfAt (c .before .before .before .before .before .before .before .before .before .before .args .own) (c .before .before .before .before .before .before .before .before .before .before .args .run .now) (c .before .before .before .before .before .before .before .before .before .before .args .levels) .below (attrs ∷ anc) (unpacked (c .before .before .before .before .before .before .before .before .before .before .args .bits) (c .before .before .before .before .before .before .before .before .before .before .args .offset)) kids (take (c .before .before .before .before .before .before .before .before .before .before .args .len) (c .before .before .before .before .before .before .before .before .before .before .args .text .now))) (closed (unpacked (c .before .before .before .before .before .before .before .before .before .before .args .bits) (c .before .before .before .before .before .before .before .before .before .before .args .offset)) (tagOf name))
+    → inElement (selfAt (c .before .before .before .before .before .before .before .before .before .before .args .own) (c .before .before .before .before .before .before .before .before .before .before .args .run .now) (c .before .before .before .before .before .before .before .before .before .before .args .levels)) anc (unpacked (c .before .before .before .before .before .before .before .before .before .before .args .bits)) name attrs kids (take (c .before .before .before .before .before .before .before .before .before .before .args .len) (c .before .before .before .before .before .before .before .before .before .before .args .text .now))
+    ≡ andThen (selfAt (c .before .before .before .before .before .before .before .before .before .before .args .own) (c .before .before .before .before .before .before .before .before .before .before .args .run .now) (c .before .before .before .before .before .before .before .before .before .before .args .levels) .below (attrs ∷ anc) (unpacked (c .before .before .before .before .before .before .before .before .before .before .args .bits)) kids (take (c .before .before .before .before .before .before .before .before .before .before .args .len) (c .before .before .before .before .before .before .before .before .before .before .args .text .now))) (closed (unpacked (c .before .before .before .before .before .before .before .before .before .before .args .bits)) (tagOf name))
 plain t c {name} {attrs} {kids} anc x =
     let a = c .before .before .before .before .before .before .before .before .before .before .args in
     let u = c .before .before .before .unpacked in
@@ -109,7 +109,7 @@ returns-4 t c =
     let s = c .before .before .before .before .before .before .before .before .before .before .before .before .before .before .before .before .before .before .before .before .before in
     let a = s .args in (
       kept-in (omega arith) (omega (arith, c .before .before .before .before .before .before .before .before .before .node-end .ensures)) (c .before .before .before .before .before .before .siblings .ensures .0),
-      record { for = λ name attrs kids anc x h. both-full (a .text .now) (a .len) (s .pre .1 .1 .0) (inElement (selfAt (a .own) (a .run .now) (a .levels)) anc (unpacked (a .bits) (a .offset)) name attrs kids) (selfAt (a .own) (a .run .now) (a .levels) .below (attrs ∷ anc) (unpacked (a .bits) (a .offset)) kids) (closed (unpacked (a .bits) (a .offset)) (tagOf name)) (plain t (c .before .before .before .before .before .before .before .before .before .before .before) anc x) (below-wrote (a .own) (a .run .now) (a .levels) (unpacked (a .bits) (a .offset)) anc x h (c .before .before .before .before .before .before .before .before .before .node-end .ensures) (c .before .before .before .before .before .before .siblings .ensures .1)) (c .enum-told .given .1) },
+      record { for = λ name attrs kids anc x h. both-full (a .text .now) (a .len) (s .pre .1 .1 .0) (inElement (selfAt (a .own) (a .run .now) (a .levels)) anc (unpacked (a .bits)) name attrs kids) (selfAt (a .own) (a .run .now) (a .levels) .below (attrs ∷ anc) (unpacked (a .bits)) kids) (closed (unpacked (a .bits)) (tagOf name)) (plain t (c .before .before .before .before .before .before .before .before .before .before .before) anc x) (below-wrote (a .own) (a .run .now) (a .levels) (unpacked (a .bits)) anc x h (c .before .before .before .before .before .before .before .before .before .node-end .ensures) (c .before .before .before .before .before .before .siblings .ensures .1)) (c .enum-told .given .1) },
     )
 
 returns-3 : (t : ℕ) → lts.Need-returns-3 (claims t) (inside-at t) inside.Post
@@ -118,7 +118,7 @@ returns-3 t c =
     let a = s .args in (
       kept-in (omega arith) (omega (arith, c .before .before .before .before .before .before .before .before .before .before .before .before .before .before .before .node-end .ensures)) (c .before .before .before .before .before .before .before .before .before .before .before .before .siblings .ensures .0),
       record {
-        for = λ name attrs kids anc x h. both-done (a .text .now) (a .len) (s .pre .1 .1 .0) (inElement (selfAt (a .own) (a .run .now) (a .levels)) anc (unpacked (a .bits) (a .offset)) name attrs kids) (selfAt (a .own) (a .run .now) (a .levels) .below (attrs ∷ anc) (unpacked (a .bits) (a .offset)) kids) (closed (unpacked (a .bits) (a .offset)) (tagOf name)) (plain t (c .before .before .before .before .before .before .before .before .before .before .before .before .before .before .before .before .before) anc x) (below-wrote (a .own) (a .run .now) (a .levels) (unpacked (a .bits) (a .offset)) anc x h (c .before .before .before .before .before .before .before .before .before .before .before .before .before .before .before .node-end .ensures) (c .before .before .before .before .before .before .before .before .before .before .before .before .siblings .ensures .1)) (c .before .before .before .before .before .before .n .given .1)
+        for = λ name attrs kids anc x h. both-done (a .text .now) (a .len) (s .pre .1 .1 .0) (inElement (selfAt (a .own) (a .run .now) (a .levels)) anc (unpacked (a .bits)) name attrs kids) (selfAt (a .own) (a .run .now) (a .levels) .below (attrs ∷ anc) (unpacked (a .bits)) kids) (closed (unpacked (a .bits)) (tagOf name)) (plain t (c .before .before .before .before .before .before .before .before .before .before .before .before .before .before .before .before .before) anc x) (below-wrote (a .own) (a .run .now) (a .levels) (unpacked (a .bits)) anc x h (c .before .before .before .before .before .before .before .before .before .before .before .before .before .before .before .node-end .ensures) (c .before .before .before .before .before .before .before .before .before .before .before .before .siblings .ensures .1)) (c .before .before .before .before .before .before .n .given .1)
             (subst (λ (o : FormatOpts). Writes (length (c .before .before .before .before .before .before .before .before .before .before .before .before .siblings .last .1 .1 .1 .1 .0)) (c .before .before .closed .last .0) (c .before .before .closed .result) (closed o (tagOf name) (take (c .before .before .before .before .before .before .n .given .0 .0) (c .before .before .before .before .before .before .before .before .before .before .before .before .siblings .last .1 .1 .1 .1 .0)))) (c .before .before .before .unpacked2 .ensures)
             (subst (λ (k : ℕ). Writes (length (c .before .before .before .before .before .before .before .before .before .before .before .before .siblings .last .1 .1 .1 .1 .0)) (c .before .before .closed .last .0) (c .before .before .closed .result) (closed (c .before .before .before .unpacked2 .result) k (take (c .before .before .before .before .before .before .n .given .0 .0) (c .before .before .before .before .before .before .before .before .before .before .before .before .siblings .last .1 .1 .1 .1 .0)))) (c .before .before .before .before .before .before .before .before .before .before .before .before .before .before .before .before .before .before .before .before .before .node-name .ensures ∙ element-name x) (c .before .before .closed .ensures)));
       },

@@ -49,12 +49,13 @@ inner : (t : ℕ) (c : lts.After-include-node (claims t) (item-at t) item.Post) 
 inner t c = c .include-node .ensures ∙ ap «include_node» (c .before .fresh .ensures)
 
 packed-requires : (t : ℕ) → lts.Need-packed-requires (claims t) (item-at t) item.Post
-packed-requires t c κs = search needs
+packed-requires t c κs =
+    let s = c .before .before .before .before .before .before .before .before .before .before .before .before in omega (arith, fits-plain (s .args .levels) (s .args .ctx) (c .before .before .include-node .result) (inner t (c .before .before)) (s .pre .1 .3))
 
 write-requires : (t : ℕ) → lts.Need-write-requires (claims t) (item-at t) item.Post
 write-requires t c κs =
     let s = c .before .before .before .before .before .before .before .before .before .before .before .before .before in
-    (falls-in (s .args .levels) (s .pre .0) (lit< tt), (subst (λ (e : ℕ). Placeds (s .args .sheet .now) (s .args .nodes .now) (s .args .c) e) (sym (c .before .before .before .before .before .before .before .node-end .ensures)) (s .pre .1 .0 .alone), s .pre .1 .2, fits-plain (s .args .levels) (s .args .ctx) (unpacked (c .packed .result) (c .before .before .before .include-node .result .offset)) (c .packed .ensures ∙ inner t (c .before .before .before)) (s .pre .1 .3)))
+    (falls-in (s .args .levels) (s .pre .0) (lit< tt), (subst (λ (e : ℕ). Placeds (s .args .sheet .now) (s .args .nodes .now) (s .args .c) e) (sym (c .before .before .before .before .before .before .before .node-end .ensures)) (s .pre .1 .0 .alone), s .pre .1 .2, fits-plain (s .args .levels) (s .args .ctx) (unpacked (c .packed .result)) (c .packed .ensures ∙ inner t (c .before .before .before)) (s .pre .1 .3)))
 
 returns : (t : ℕ) → lts.Need-returns (claims t) (item-at t) item.Post
 returns t c =

@@ -106,7 +106,7 @@ returns-3 t c =
     let s = c .before .before .before .before .before .before .before .before .before .before .before .before .before .before .before .before .before .before in
     let a = s .args in (
       kept-in (omega arith) (omega (arith, c .before .before .before .before .before .before .before .before .before .before .before .before .node-end .ensures)) (c .before .before .before .before .before .before .write .ensures .0),
-      record { for = λ name attrs kids anc x h. both-full (a .text .now) (a .len) (s .pre .1 .1 .0) (writeKids (selfAt (a .own) (a .run .now) (a .levels)) anc (unpacked (a .bits) (a .offset)) (element name attrs kids nothing)) (selfAt (a .own) (a .run .now) (a .levels) .below (attrs ∷ anc) (unpacked (a .bits) (a .offset)) kids) «trim_space» (kids-is (selfAt (a .own) (a .run .now) (a .levels)) anc (unpacked (a .bits) (a .offset)) name attrs kids (take (a .len) (a .text .now))) (below-wrote (a .own) (a .run .now) (a .levels) (unpacked (a .bits) (a .offset)) anc x h (c .before .before .before .before .before .before .before .before .before .before .before .before .node-end .ensures) (c .before .before .before .before .before .before .write .ensures .1)) (c .enum-told .given .1) },
+      record { for = λ name attrs kids anc x h. both-full (a .text .now) (a .len) (s .pre .1 .1 .0) (writeKids (selfAt (a .own) (a .run .now) (a .levels)) anc (unpacked (a .bits)) (element name attrs kids nothing)) (selfAt (a .own) (a .run .now) (a .levels) .below (attrs ∷ anc) (unpacked (a .bits)) kids) «trim_space» (kids-is (selfAt (a .own) (a .run .now) (a .levels)) anc (unpacked (a .bits)) name attrs kids (take (a .len) (a .text .now))) (below-wrote (a .own) (a .run .now) (a .levels) (unpacked (a .bits)) anc x h (c .before .before .before .before .before .before .before .before .before .before .before .before .node-end .ensures) (c .before .before .before .before .before .before .write .ensures .1)) (c .enum-told .given .1) },
     )
 
 returns-2 : (t : ℕ) → lts.Need-returns-2 (claims t) (kids-at t) kids.Post
@@ -114,7 +114,7 @@ returns-2 t c =
     let s = c .before .before .before .before .before .before .before .before .before .before .before .before .before .before .before .before .before .before .before .before .before .before .before in
     let a = s .args in (
       kept-in (omega arith) (omega (arith, c .before .before .before .before .before .before .before .before .before .before .before .before .before .before .before .before .before .node-end .ensures)) (c .before .before .before .before .before .before .before .before .before .before .before .write .ensures .0),
-      record { for = λ name attrs kids anc x h. both-done (a .text .now) (a .len) (s .pre .1 .1 .0) (writeKids (selfAt (a .own) (a .run .now) (a .levels)) anc (unpacked (a .bits) (a .offset)) (element name attrs kids nothing)) (selfAt (a .own) (a .run .now) (a .levels) .below (attrs ∷ anc) (unpacked (a .bits) (a .offset)) kids) «trim_space» (kids-is (selfAt (a .own) (a .run .now) (a .levels)) anc (unpacked (a .bits) (a .offset)) name attrs kids (take (a .len) (a .text .now))) (below-wrote (a .own) (a .run .now) (a .levels) (unpacked (a .bits) (a .offset)) anc x h (c .before .before .before .before .before .before .before .before .before .before .before .before .before .before .before .before .before .node-end .ensures) (c .before .before .before .before .before .before .before .before .before .before .before .write .ensures .1)) (c .before .before .before .before .before .n .given .1) (record { says = c .before .before .trim-space .ensures }) },
+      record { for = λ name attrs kids anc x h. both-done (a .text .now) (a .len) (s .pre .1 .1 .0) (writeKids (selfAt (a .own) (a .run .now) (a .levels)) anc (unpacked (a .bits)) (element name attrs kids nothing)) (selfAt (a .own) (a .run .now) (a .levels) .below (attrs ∷ anc) (unpacked (a .bits)) kids) «trim_space» (kids-is (selfAt (a .own) (a .run .now) (a .levels)) anc (unpacked (a .bits)) name attrs kids (take (a .len) (a .text .now))) (below-wrote (a .own) (a .run .now) (a .levels) (unpacked (a .bits)) anc x h (c .before .before .before .before .before .before .before .before .before .before .before .before .before .before .before .before .before .node-end .ensures) (c .before .before .before .before .before .before .before .before .before .before .before .write .ensures .1)) (c .before .before .before .before .before .n .given .1) (record { says = c .before .before .trim-space .ensures }) },
     )
 
 enum-known-n : (t : ℕ) → lts.Need-enum-known-n (claims t) (kids-at t) kids.Post

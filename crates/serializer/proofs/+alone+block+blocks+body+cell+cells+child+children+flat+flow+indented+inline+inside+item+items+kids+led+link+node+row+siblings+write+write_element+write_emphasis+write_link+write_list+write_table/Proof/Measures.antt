@@ -166,7 +166,7 @@ abbrev pub inline-below : ℕ → In 4 inline-kinds.ps
 inline-below t = and 4 inline-kinds.ps (falls 4 inline-kinds.ps _<_ μ-inline t) inline.Pre
 
 abbrev pub μ-inside : Measures 4 inside-kinds.ps ℕ
-μ-inside κs a = a .1 .1 .1 .1 .1 .1 .1 .1 .1 .0 * 147573952589676412928 + 73786976294838206469
+μ-inside κs a = a .1 .1 .1 .1 .1 .1 .1 .1 .0 * 147573952589676412928 + 73786976294838206469
 
 abbrev pub inside-at : ℕ → In 4 inside-kinds.ps
 inside-at t = and 4 inside-kinds.ps (is 4 inside-kinds.ps μ-inside t) inside.Pre
@@ -193,7 +193,7 @@ abbrev pub items-below : ℕ → In 4 items-kinds.ps
 items-below t = and 4 items-kinds.ps (falls 4 items-kinds.ps _<_ μ-items t) items.Pre
 
 abbrev pub μ-kids : Measures 4 kids-kinds.ps ℕ
-μ-kids κs a = a .1 .1 .1 .1 .1 .1 .1 .1 .1 .0 * 147573952589676412928 + 2
+μ-kids κs a = a .1 .1 .1 .1 .1 .1 .1 .1 .0 * 147573952589676412928 + 2
 
 abbrev pub kids-at : ℕ → In 4 kids-kinds.ps
 kids-at t = and 4 kids-kinds.ps (is 4 kids-kinds.ps μ-kids t) kids.Pre
@@ -220,7 +220,7 @@ abbrev pub link-below : ℕ → In 4 link-kinds.ps
 link-below t = and 4 link-kinds.ps (falls 4 link-kinds.ps _<_ μ-link t) link.Pre
 
 abbrev pub μ-node : Measures 4 node-kinds.ps ℕ
-μ-node κs a = a .1 .1 .1 .1 .1 .1 .1 .1 .1 .0 * 147573952589676412928 + 73786976294838206470
+μ-node κs a = a .1 .1 .1 .1 .1 .1 .1 .1 .0 * 147573952589676412928 + 73786976294838206470
 
 abbrev pub node-at : ℕ → In 4 node-kinds.ps
 node-at t = and 4 node-kinds.ps (is 4 node-kinds.ps μ-node t) node.Pre
@@ -238,7 +238,7 @@ abbrev pub row-below : ℕ → In 4 row-kinds.ps
 row-below t = and 4 row-kinds.ps (falls 4 row-kinds.ps _<_ μ-row t) row.Pre
 
 abbrev pub μ-siblings : Measures 4 siblings-kinds.ps ℕ
-μ-siblings κs a = a .1 .1 .1 .1 .1 .1 .1 .1 .1 .1 .0 * 147573952589676412928 + 1
+μ-siblings κs a = a .1 .1 .1 .1 .1 .1 .1 .1 .1 .0 * 147573952589676412928 + 1
 
 abbrev pub siblings-at : ℕ → In 4 siblings-kinds.ps
 siblings-at t = and 4 siblings-kinds.ps (is 4 siblings-kinds.ps μ-siblings t) siblings.Pre
@@ -247,7 +247,7 @@ abbrev pub siblings-below : ℕ → In 4 siblings-kinds.ps
 siblings-below t = and 4 siblings-kinds.ps (falls 4 siblings-kinds.ps _<_ μ-siblings t) siblings.Pre
 
 abbrev pub μ-write : Measures 4 write-kinds.ps ℕ
-μ-write κs a = a .1 .1 .1 .1 .1 .1 .1 .1 .1 .1 .0 * 147573952589676412928 + 0
+μ-write κs a = a .1 .1 .1 .1 .1 .1 .1 .1 .1 .0 * 147573952589676412928 + 0
 
 abbrev pub write-at : ℕ → In 4 write-kinds.ps
 write-at t = and 4 write-kinds.ps (is 4 write-kinds.ps μ-write t) write.Pre
@@ -256,7 +256,7 @@ abbrev pub write-below : ℕ → In 4 write-kinds.ps
 write-below t = and 4 write-kinds.ps (falls 4 write-kinds.ps _<_ μ-write t) write.Pre
 
 abbrev pub μ-write-element : Measures 4 write-element-kinds.ps ℕ
-μ-write-element κs a = a .1 .1 .1 .1 .1 .1 .1 .1 .1 .1 .0 * 147573952589676412928 + 73786976294838206468
+μ-write-element κs a = a .1 .1 .1 .1 .1 .1 .1 .1 .1 .0 * 147573952589676412928 + 73786976294838206468
 
 abbrev pub write-element-at : ℕ → In 4 write-element-kinds.ps
 write-element-at t = and 4 write-element-kinds.ps (is 4 write-element-kinds.ps μ-write-element t) write-element.Pre

@@ -92,8 +92,8 @@ returns-2 t c =
       kept-none (a .nodes .now),
       record {
         for = λ parent f anc h q.
-            alike (ap (λ (g : Forest). writeNodes (selfAt (a .own) (a .run .now) (a .levels)) anc (unpacked (a .bits) (a .offset)) g (take (a .len) (a .text .now))) (alone-element (a .sheet .now) (a .nodes .now) parent (a .at) (s .pre .1 .0 .later) f h (tagged t (c .before .before .before)))
-            ∙ element-skipped (selfAt (a .own) (a .run .now) (a .levels)) anc (unpacked (a .bits) (a .offset)) (bodyAt (a .sheet .now) (placeAt (a .nodes .now) (a .at))) (attrsBehind (a .sheet .now) (placeAt (a .nodes .now) (a .at))) (kidsOf f) (take (a .len) (a .text .now)) (skips t (c .before) ∙ c .if2 .taken))
+            alike (ap (λ (g : Forest). writeNodes (selfAt (a .own) (a .run .now) (a .levels)) anc (unpacked (a .bits)) g (take (a .len) (a .text .now))) (alone-element (a .sheet .now) (a .nodes .now) parent (a .at) (s .pre .1 .0 .later) f h (tagged t (c .before .before .before)))
+            ∙ element-skipped (selfAt (a .own) (a .run .now) (a .levels)) anc (unpacked (a .bits)) (bodyAt (a .sheet .now) (placeAt (a .nodes .now) (a .at))) (attrsBehind (a .sheet .now) (placeAt (a .nodes .now) (a .at))) (kidsOf f) (take (a .len) (a .text .now)) (skips t (c .before) ∙ c .if2 .taken))
             (record { says = keeps (a .text .now) (a .len) (s .pre .1 .1 .0) });
       },
     )
@@ -113,19 +113,19 @@ inside-requires t c κs =
 
 -- the element is opened, and what stands in it follows
 goes : (t : ℕ) (c : lts.Else2 (claims t) (node-at t) node.Post) (parent : ℕ) (f : Forest) (anc : Ancestors) → Rep (c .before .before .before .before .before .before .before .before .before .before .before .args .sheet .now) (c .before .before .before .before .before .before .before .before .before .before .before .args .nodes .now) parent (c .before .before .before .before .before .before .before .before .before .before .before .args .at) (endAt (c .before .before .before .before .before .before .before .before .before .before .before .args .nodes .now) (c .before .before .before .before .before .before .before .before .before .before .before .args .at)) f
-    → writeNodes (selfAt (c .before .before .before .before .before .before .before .before .before .before .before .args .own) (c .before .before .before .before .before .before .before .before .before .before .before .args .run .now) (c .before .before .before .before .before .before .before .before .before .before .before .args .levels)) anc (unpacked (c .before .before .before .before .before .before .before .before .before .before .before .args .bits) (c .before .before .before .before .before .before .before .before .before .before .before .args .offset)) f (take (c .before .before .before .before .before .before .before .before .before .before .before .args .len) (c .before .before .before .before .before .before .before .before .before .before .before .args .text .now))
-    ≡ andThen (opened (unpacked (c .before .before .before .before .before .before .before .before .before .before .before .args .bits) (c .before .before .before .before .before .before .before .before .before .before .before .args .offset)) (tagOf (bodyAt (c .before .before .before .before .before .before .before .before .before .before .before .args .sheet .now) (placeAt (c .before .before .before .before .before .before .before .before .before .before .before .args .nodes .now) (c .before .before .before .before .before .before .before .before .before .before .before .args .at)))) (attrsBehind (c .before .before .before .before .before .before .before .before .before .before .before .args .sheet .now) (placeAt (c .before .before .before .before .before .before .before .before .before .before .before .args .nodes .now) (c .before .before .before .before .before .before .before .before .before .before .before .args .at))) (kidsOf f) (take (c .before .before .before .before .before .before .before .before .before .before .before .args .len) (c .before .before .before .before .before .before .before .before .before .before .before .args .text .now)))
-    (inElement (selfAt (c .before .before .before .before .before .before .before .before .before .before .before .args .own) (c .before .before .before .before .before .before .before .before .before .before .before .args .run .now) (c .before .before .before .before .before .before .before .before .before .before .before .args .levels)) anc (unpacked (c .before .before .before .before .before .before .before .before .before .before .before .args .bits) (c .before .before .before .before .before .before .before .before .before .before .before .args .offset)) (bodyAt (c .before .before .before .before .before .before .before .before .before .before .before .args .sheet .now) (placeAt (c .before .before .before .before .before .before .before .before .before .before .before .args .nodes .now) (c .before .before .before .before .before .before .before .before .before .before .before .args .at))) (attrsBehind (c .before .before .before .before .before .before .before .before .before .before .before .args .sheet .now) (placeAt (c .before .before .before .before .before .before .before .before .before .before .before .args .nodes .now) (c .before .before .before .before .before .before .before .before .before .before .before .args .at))) (kidsOf f))
+    → writeNodes (selfAt (c .before .before .before .before .before .before .before .before .before .before .before .args .own) (c .before .before .before .before .before .before .before .before .before .before .before .args .run .now) (c .before .before .before .before .before .before .before .before .before .before .before .args .levels)) anc (unpacked (c .before .before .before .before .before .before .before .before .before .before .before .args .bits)) f (take (c .before .before .before .before .before .before .before .before .before .before .before .args .len) (c .before .before .before .before .before .before .before .before .before .before .before .args .text .now))
+    ≡ andThen (opened (unpacked (c .before .before .before .before .before .before .before .before .before .before .before .args .bits)) (tagOf (bodyAt (c .before .before .before .before .before .before .before .before .before .before .before .args .sheet .now) (placeAt (c .before .before .before .before .before .before .before .before .before .before .before .args .nodes .now) (c .before .before .before .before .before .before .before .before .before .before .before .args .at)))) (attrsBehind (c .before .before .before .before .before .before .before .before .before .before .before .args .sheet .now) (placeAt (c .before .before .before .before .before .before .before .before .before .before .before .args .nodes .now) (c .before .before .before .before .before .before .before .before .before .before .before .args .at))) (kidsOf f) (take (c .before .before .before .before .before .before .before .before .before .before .before .args .len) (c .before .before .before .before .before .before .before .before .before .before .before .args .text .now)))
+    (inElement (selfAt (c .before .before .before .before .before .before .before .before .before .before .before .args .own) (c .before .before .before .before .before .before .before .before .before .before .before .args .run .now) (c .before .before .before .before .before .before .before .before .before .before .before .args .levels)) anc (unpacked (c .before .before .before .before .before .before .before .before .before .before .before .args .bits)) (bodyAt (c .before .before .before .before .before .before .before .before .before .before .before .args .sheet .now) (placeAt (c .before .before .before .before .before .before .before .before .before .before .before .args .nodes .now) (c .before .before .before .before .before .before .before .before .before .before .before .args .at))) (attrsBehind (c .before .before .before .before .before .before .before .before .before .before .before .args .sheet .now) (placeAt (c .before .before .before .before .before .before .before .before .before .before .before .args .nodes .now) (c .before .before .before .before .before .before .before .before .before .before .before .args .at))) (kidsOf f))
 unfolding serializer
 goes t c parent f anc h =
     let s = c .before .before .before .before .before .before .before .before .before .before .before in
     let a = s .args in
-    ap (λ (g : Forest). writeNodes (selfAt (a .own) (a .run .now) (a .levels)) anc (unpacked (a .bits) (a .offset)) g (take (a .len) (a .text .now))) (alone-element (a .sheet .now) (a .nodes .now) parent (a .at) (s .pre .1 .0 .later) f h (tagged t (c .before .before .before)))
-    ∙ element-opened (selfAt (a .own) (a .run .now) (a .levels)) anc (unpacked (a .bits) (a .offset)) (bodyAt (a .sheet .now) (placeAt (a .nodes .now) (a .at))) (attrsBehind (a .sheet .now) (placeAt (a .nodes .now) (a .at))) (kidsOf f) (take (a .len) (a .text .now)) (skips t (c .before) ∙ c .if2 .left)
+    ap (λ (g : Forest). writeNodes (selfAt (a .own) (a .run .now) (a .levels)) anc (unpacked (a .bits)) g (take (a .len) (a .text .now))) (alone-element (a .sheet .now) (a .nodes .now) parent (a .at) (s .pre .1 .0 .later) f h (tagged t (c .before .before .before)))
+    ∙ element-opened (selfAt (a .own) (a .run .now) (a .levels)) anc (unpacked (a .bits)) (bodyAt (a .sheet .now) (placeAt (a .nodes .now) (a .at))) (attrsBehind (a .sheet .now) (placeAt (a .nodes .now) (a .at))) (kidsOf f) (take (a .len) (a .text .now)) (skips t (c .before) ∙ c .if2 .left)
 
 -- what opened it
 opens : (t : ℕ) (c : lts.After-opened (claims t) (node-at t) node.Post) (parent : ℕ) (f : Forest) → Rep (c .before .before .before .before .before .before .before .before .before .before .before .before .before .before .before .args .sheet .now) (c .before .before .before .before .before .before .before .before .before .before .before .before .before .before .before .args .nodes .now) parent (c .before .before .before .before .before .before .before .before .before .before .before .before .before .before .before .args .at) (endAt (c .before .before .before .before .before .before .before .before .before .before .before .before .before .before .before .args .nodes .now) (c .before .before .before .before .before .before .before .before .before .before .before .before .before .before .before .args .at)) f
-    → Writes (length (c .before .before .before .before .before .before .before .before .before .before .before .before .before .before .before .args .text .now)) (c .opened .last .1 .1 .0) (c .opened .result) (opened (unpacked (c .before .before .before .before .before .before .before .before .before .before .before .before .before .before .before .args .bits) (c .before .before .before .before .before .before .before .before .before .before .before .before .before .before .before .args .offset)) (tagOf (bodyAt (c .before .before .before .before .before .before .before .before .before .before .before .before .before .before .before .args .sheet .now) (placeAt (c .before .before .before .before .before .before .before .before .before .before .before .before .before .before .before .args .nodes .now) (c .before .before .before .before .before .before .before .before .before .before .before .before .before .before .before .args .at)))) (attrsBehind (c .before .before .before .before .before .before .before .before .before .before .before .before .before .before .before .args .sheet .now) (placeAt (c .before .before .before .before .before .before .before .before .before .before .before .before .before .before .before .args .nodes .now) (c .before .before .before .before .before .before .before .before .before .before .before .before .before .before .before .args .at))) (kidsOf f) (take (c .before .before .before .before .before .before .before .before .before .before .before .before .before .before .before .args .len) (c .before .before .before .before .before .before .before .before .before .before .before .before .before .before .before .args .text .now)))
+    → Writes (length (c .before .before .before .before .before .before .before .before .before .before .before .before .before .before .before .args .text .now)) (c .opened .last .1 .1 .0) (c .opened .result) (opened (unpacked (c .before .before .before .before .before .before .before .before .before .before .before .before .before .before .before .args .bits)) (tagOf (bodyAt (c .before .before .before .before .before .before .before .before .before .before .before .before .before .before .before .args .sheet .now) (placeAt (c .before .before .before .before .before .before .before .before .before .before .before .before .before .before .before .args .nodes .now) (c .before .before .before .before .before .before .before .before .before .before .before .before .before .before .before .args .at)))) (attrsBehind (c .before .before .before .before .before .before .before .before .before .before .before .before .before .before .before .args .sheet .now) (placeAt (c .before .before .before .before .before .before .before .before .before .before .before .before .before .before .before .args .nodes .now) (c .before .before .before .before .before .before .before .before .before .before .before .before .before .before .before .args .at))) (kidsOf f) (take (c .before .before .before .before .before .before .before .before .before .before .before .before .before .before .before .args .len) (c .before .before .before .before .before .before .before .before .before .before .before .before .before .before .before .args .text .now)))
 opens t c parent f h =
     let s = c .before .before .before .before .before .before .before .before .before .before .before .before .before .before .before in
     let a = s .args in
@@ -140,8 +140,8 @@ returns-3 t c =
       c .before .before .before .before .inside .ensures .0,
       record {
         for = λ parent f anc h q.
-            both-done (a .text .now) (a .len) (s .pre .1 .1 .0) (writeNodes (selfAt (a .own) (a .run .now) (a .levels)) anc (unpacked (a .bits) (a .offset)) f) (opened (unpacked (a .bits) (a .offset)) (tagOf (bodyAt (a .sheet .now) (placeAt (a .nodes .now) (a .at)))) (attrsBehind (a .sheet .now) (placeAt (a .nodes .now) (a .at))) (kidsOf f))
-            (inElement (selfAt (a .own) (a .run .now) (a .levels)) anc (unpacked (a .bits) (a .offset)) (bodyAt (a .sheet .now) (placeAt (a .nodes .now) (a .at))) (attrsBehind (a .sheet .now) (placeAt (a .nodes .now) (a .at))) (kidsOf f)) (goes t (c .before .before .before .before .before .before .before .before .before .before .before .before .before .before .before .before) parent f anc h) (opens t (c .before .before .before .before .before .before .before .before .before .before .before .before) parent f h) (c .before .before .before .before .before .before .before .before .n .given .1)
+            both-done (a .text .now) (a .len) (s .pre .1 .1 .0) (writeNodes (selfAt (a .own) (a .run .now) (a .levels)) anc (unpacked (a .bits)) f) (opened (unpacked (a .bits)) (tagOf (bodyAt (a .sheet .now) (placeAt (a .nodes .now) (a .at)))) (attrsBehind (a .sheet .now) (placeAt (a .nodes .now) (a .at))) (kidsOf f))
+            (inElement (selfAt (a .own) (a .run .now) (a .levels)) anc (unpacked (a .bits)) (bodyAt (a .sheet .now) (placeAt (a .nodes .now) (a .at))) (attrsBehind (a .sheet .now) (placeAt (a .nodes .now) (a .at))) (kidsOf f)) (goes t (c .before .before .before .before .before .before .before .before .before .before .before .before .before .before .before .before) parent f anc h) (opens t (c .before .before .before .before .before .before .before .before .before .before .before .before) parent f h) (c .before .before .before .before .before .before .before .before .n .given .1)
             (alone-writes (s .pre .1 .0) (tagged t (c .before .before .before .before .before .before .before .before .before .before .before .before .before .before .before .before .before .before .before)) (c .before .before .before .before .inside .ensures .1) parent f anc h q);
       },
     )
@@ -153,8 +153,8 @@ returns-4 t c =
       kept-none (a .nodes .now),
       record {
         for = λ parent f anc h q.
-            both-full (a .text .now) (a .len) (s .pre .1 .1 .0) (writeNodes (selfAt (a .own) (a .run .now) (a .levels)) anc (unpacked (a .bits) (a .offset)) f) (opened (unpacked (a .bits) (a .offset)) (tagOf (bodyAt (a .sheet .now) (placeAt (a .nodes .now) (a .at)))) (attrsBehind (a .sheet .now) (placeAt (a .nodes .now) (a .at))) (kidsOf f))
-            (inElement (selfAt (a .own) (a .run .now) (a .levels)) anc (unpacked (a .bits) (a .offset)) (bodyAt (a .sheet .now) (placeAt (a .nodes .now) (a .at))) (attrsBehind (a .sheet .now) (placeAt (a .nodes .now) (a .at))) (kidsOf f)) (goes t (c .before .before .before .before .before .before .before .before) parent f anc h) (opens t (c .before .before .before .before) parent f h) (c .enum-told .given .1);
+            both-full (a .text .now) (a .len) (s .pre .1 .1 .0) (writeNodes (selfAt (a .own) (a .run .now) (a .levels)) anc (unpacked (a .bits)) f) (opened (unpacked (a .bits)) (tagOf (bodyAt (a .sheet .now) (placeAt (a .nodes .now) (a .at)))) (attrsBehind (a .sheet .now) (placeAt (a .nodes .now) (a .at))) (kidsOf f))
+            (inElement (selfAt (a .own) (a .run .now) (a .levels)) anc (unpacked (a .bits)) (bodyAt (a .sheet .now) (placeAt (a .nodes .now) (a .at))) (attrsBehind (a .sheet .now) (placeAt (a .nodes .now) (a .at))) (kidsOf f)) (goes t (c .before .before .before .before .before .before .before .before) parent f anc h) (opens t (c .before .before .before .before) parent f h) (c .enum-told .given .1);
       },
     )
 

@@ -28,17 +28,17 @@ abbrev claims : ℕ → lts.Claims
 claims t = (node-below t, node.Post, node-end-reads.Asked, node-end-reads.Learnt)
 
 abbrev Inv-loop : lts.InvT-loop
-Inv-loop sheet own run nodes₀ text₀ len from to bits offset levels at₀ end₀ nodes text at end =
+Inv-loop sheet own run nodes₀ text₀ len from to bits levels at₀ end₀ nodes text at end =
     (end ≤ length text) × (length text ≡ length text₀) × Kept from to nodes₀ nodes × (from ≤ at) × Placeds sheet nodes₀ at to
-    × Turn sheet nodes₀ from to (λ anc f. writeNodes (selfAt own run (levels - 1)) anc (unpacked bits offset) f (take len text₀)) (length text₀) (λ anc f. writeNodes (selfAt own run (levels - 1)) anc (unpacked bits offset) f) text at end
+    × Turn sheet nodes₀ from to (λ anc f. writeNodes (selfAt own run (levels - 1)) anc (unpacked bits) f (take len text₀)) (length text₀) (λ anc f. writeNodes (selfAt own run (levels - 1)) anc (unpacked bits) f) text at end
 
 abbrev μ-loop : lts.MeasureT-loop
-μ-loop sheet own run nodes₀ text₀ len from to bits offset levels at₀ end₀ nodes text at end = to - at
+μ-loop sheet own run nodes₀ text₀ len from to bits levels at₀ end₀ nodes text at end = to - at
 
 returns : (t : ℕ) → lts.Need-returns (claims t) (write-at t) write.Post Inv-loop μ-loop
 returns t c =
     let s = c .before .before .before .before .before in
-    (kept-none (s .args .nodes .now), record { for = λ parent f anc h a. alike (write-none (skipTags (skipList (s .args .own) (s .args .run .now))) (s .args .levels) anc (unpacked (s .args .bits) (s .args .offset)) f (take (s .args .len) (s .args .text .now)) (c .if1 .taken)) (record { says = keeps (s .args .text .now) (s .args .len) (s .pre .1 .1 .0) }) })
+    (kept-none (s .args .nodes .now), record { for = λ parent f anc h a. alike (write-none (skipTags (skipList (s .args .own) (s .args .run .now))) (s .args .levels) anc (unpacked (s .args .bits)) f (take (s .args .len) (s .args .text .now)) (c .if1 .taken)) (record { says = keeps (s .args .text .now) (s .args .len) (s .pre .1 .1 .0) }) })
 
 loop-holds : (t : ℕ) → lts.Need-loop-holds (claims t) (write-at t) write.Post Inv-loop μ-loop
 loop-holds t c =
@@ -48,7 +48,7 @@ loop-holds t c =
       kept-none (s .args .nodes .now),
       omega arith,
       s .pre .1 .0,
-      turn-first (s .args .sheet .now) (s .args .nodes .now) (s .args .from) (s .args .to) (λ anc f. writeNodes (selfAt (s .args .own) (s .args .run .now) (s .args .levels - 1)) anc (unpacked (s .args .bits) (s .args .offset)) f) (s .args .text .now) (s .args .len) (s .pre .1 .1 .0),
+      turn-first (s .args .sheet .now) (s .args .nodes .now) (s .args .from) (s .args .to) (λ anc f. writeNodes (selfAt (s .args .own) (s .args .run .now) (s .args .levels - 1)) anc (unpacked (s .args .bits)) f) (s .args .text .now) (s .args .len) (s .pre .1 .1 .0),
     )
 
 -- node memory as the node left it
@@ -59,7 +59,7 @@ kept t c =
     kept-then (l .inv .2) (kept-in (l .inv .3) (omega (arith, end-kept (l .inv .2) (l .at), placeds-within (l .inv .4) lt)) (c .node .ensures .0))
 
 -- what the node wrote, of the nodes as they were at the beginning
-wrote : (t : ℕ) (c : lts.After-node (claims t) (write-at t) write.Post Inv-loop μ-loop) → WritesForest (c .before .before .before .before .before .before .before .before .before .before .args .sheet .now) (c .before .before .before .before .before .before .before .before .before .before .args .nodes .now) (c .before .before .before .before .loop .at) (endAt (c .before .before .before .before .before .before .before .before .before .before .args .nodes .now) (c .before .before .before .before .loop .at)) (λ anc f. writeNodes (selfAt (c .before .before .before .before .before .before .before .before .before .before .args .own) (c .before .before .before .before .before .before .before .before .before .before .args .run .now) (c .before .before .before .before .before .before .before .before .before .before .args .levels - 1)) anc (unpacked (c .before .before .before .before .before .before .before .before .before .before .args .bits) (c .before .before .before .before .before .before .before .before .before .before .args .offset)) f) (take (c .before .before .before .before .loop .end) (c .before .before .before .before .loop .text)) (length (c .before .before .before .before .loop .text)) (c .node .last .1 .1 .1 .1 .0) (c .node .result)
+wrote : (t : ℕ) (c : lts.After-node (claims t) (write-at t) write.Post Inv-loop μ-loop) → WritesForest (c .before .before .before .before .before .before .before .before .before .before .args .sheet .now) (c .before .before .before .before .before .before .before .before .before .before .args .nodes .now) (c .before .before .before .before .loop .at) (endAt (c .before .before .before .before .before .before .before .before .before .before .args .nodes .now) (c .before .before .before .before .loop .at)) (λ anc f. writeNodes (selfAt (c .before .before .before .before .before .before .before .before .before .before .args .own) (c .before .before .before .before .before .before .before .before .before .before .args .run .now) (c .before .before .before .before .before .before .before .before .before .before .args .levels - 1)) anc (unpacked (c .before .before .before .before .before .before .before .before .before .before .args .bits)) f) (take (c .before .before .before .before .loop .end) (c .before .before .before .before .loop .text)) (length (c .before .before .before .before .loop .text)) (c .node .last .1 .1 .1 .1 .0) (c .node .result)
 wrote t c = writes-before (c .before .before .before .before .loop .inv .2) (c .node .ensures .1)
 
 sub-node : (t : ℕ) → lts.Need-sub-node (claims t) (write-at t) write.Post Inv-loop μ-loop
@@ -78,8 +78,8 @@ returns-2 t c =
     let s = c .before .before .before .before .before .before .before .before .before .before .before .before .before .before .before .before in (
       kept t (c .before .before .before .before .before .before),
       record {
-        for = λ parent f anc h a. alike (write-some (skipTags (skipList (s .args .own) (s .args .run .now))) (s .args .levels) anc (unpacked (s .args .bits) (s .args .offset)) f (take (s .args .len) (s .args .text .now)) (omega (arith, c .before .before .before .before .before .before .before .before .before .before .before .if1 .left)))
-            (turn-stop (c .before .before .before .before .before .before .before .before .before .before .loop .inv .5) (λ anc f. writeNodes (selfAt (s .args .own) (s .args .run .now) (s .args .levels - 1)) anc (unpacked (s .args .bits) (s .args .offset)) f) (λ anc f. writeNodes (selfAt (s .args .own) (s .args .run .now) (s .args .levels - 1)) anc (unpacked (s .args .bits) (s .args .offset)) f) (λ parent anc g h u. nodes-first (selfAt (s .args .own) (s .args .run .now) (s .args .levels - 1)) anc (unpacked (s .args .bits) (s .args .offset)) g u) (c .before .before .before .before .before .before .before .before .before .loop-test .taken) (wrote t (c .before .before .before .before .before .before)) (c .enum-told .given .1) parent f anc h a);
+        for = λ parent f anc h a. alike (write-some (skipTags (skipList (s .args .own) (s .args .run .now))) (s .args .levels) anc (unpacked (s .args .bits)) f (take (s .args .len) (s .args .text .now)) (omega (arith, c .before .before .before .before .before .before .before .before .before .before .before .if1 .left)))
+            (turn-stop (c .before .before .before .before .before .before .before .before .before .before .loop .inv .5) (λ anc f. writeNodes (selfAt (s .args .own) (s .args .run .now) (s .args .levels - 1)) anc (unpacked (s .args .bits)) f) (λ anc f. writeNodes (selfAt (s .args .own) (s .args .run .now) (s .args .levels - 1)) anc (unpacked (s .args .bits)) f) (λ parent anc g h u. nodes-first (selfAt (s .args .own) (s .args .run .now) (s .args .levels - 1)) anc (unpacked (s .args .bits)) g u) (c .before .before .before .before .before .before .before .before .before .loop-test .taken) (wrote t (c .before .before .before .before .before .before)) (c .enum-told .given .1) parent f anc h a);
       },
     )
 
@@ -104,7 +104,7 @@ loop-again t c =
       K,
       omega (arith, placeds-later (l .inv .4) lt, l .inv .3, q),
       subst (λ (k : ℕ). Placeds (s .args .sheet .now) (s .args .nodes .now) k (s .args .to)) (sym q) (placeds-on (l .inv .4) lt),
-      turn-on (l .inv .5) (λ anc f. writeNodes (selfAt (s .args .own) (s .args .run .now) (s .args .levels - 1)) anc (unpacked (s .args .bits) (s .args .offset)) f) (λ anc f. writeNodes (selfAt (s .args .own) (s .args .run .now) (s .args .levels - 1)) anc (unpacked (s .args .bits) (s .args .offset)) f) (λ parent anc g h u. nodes-first (selfAt (s .args .own) (s .args .run .now) (s .args .levels - 1)) anc (unpacked (s .args .bits) (s .args .offset)) g u) lt (wrote t (c .before .before .before .before .before .before .before .before .before)) q (c .before .before .before .n .given .1),
+      turn-on (l .inv .5) (λ anc f. writeNodes (selfAt (s .args .own) (s .args .run .now) (s .args .levels - 1)) anc (unpacked (s .args .bits)) f) (λ anc f. writeNodes (selfAt (s .args .own) (s .args .run .now) (s .args .levels - 1)) anc (unpacked (s .args .bits)) f) (λ parent anc g h u. nodes-first (selfAt (s .args .own) (s .args .run .now) (s .args .levels - 1)) anc (unpacked (s .args .bits)) g u) lt (wrote t (c .before .before .before .before .before .before .before .before .before)) q (c .before .before .before .n .given .1),
     )
 
 returns-3 : (t : ℕ) → lts.Need-returns-3 (claims t) (write-at t) write.Post Inv-loop μ-loop
@@ -113,8 +113,8 @@ returns-3 t c =
     let l = c .before .loop in (
       l .inv .2,
       record {
-        for = λ parent f anc h a. alike (write-some (skipTags (skipList (s .args .own) (s .args .run .now))) (s .args .levels) anc (unpacked (s .args .bits) (s .args .offset)) f (take (s .args .len) (s .args .text .now)) (omega (arith, c .before .before .if1 .left)))
-            (turn-last (l .inv .5) (c .loop-test .left) (λ anc u. nodes-none (selfAt (s .args .own) (s .args .run .now) (s .args .levels - 1)) anc (unpacked (s .args .bits) (s .args .offset)) u) parent f anc h a);
+        for = λ parent f anc h a. alike (write-some (skipTags (skipList (s .args .own) (s .args .run .now))) (s .args .levels) anc (unpacked (s .args .bits)) f (take (s .args .len) (s .args .text .now)) (omega (arith, c .before .before .if1 .left)))
+            (turn-last (l .inv .5) (c .loop-test .left) (λ anc u. nodes-none (selfAt (s .args .own) (s .args .run .now) (s .args .levels - 1)) anc (unpacked (s .args .bits)) u) parent f anc h a);
       },
     )
 

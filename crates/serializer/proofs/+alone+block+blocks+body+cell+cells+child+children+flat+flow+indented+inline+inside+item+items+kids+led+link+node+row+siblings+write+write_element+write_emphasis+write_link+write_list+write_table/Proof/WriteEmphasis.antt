@@ -52,7 +52,8 @@ add-write t c =
     omega (arith, placed-node (s .args .sheet .now) (s .args .nodes .now) (s .args .at) (s .pre .1 .0) .inside, s .good)
 
 packed-requires : (t : ℕ) → lts.Need-packed-requires (claims t) (write-emphasis-at t) write-emphasis.Post
-packed-requires t c κs = search needs
+packed-requires t c κs =
+    let s = c .before .before .before .before .before .before .before .before .before in omega (arith, subst (λ (o : FormatOpts). Fits o (s .args .levels)) (sym (c .before .before .emphasis-opts .ensures)) (omega (arith, s .pre .1 .3)))
 
 write-requires : (t : ℕ) → lts.Need-write-requires (claims t) (write-emphasis-at t) write-emphasis.Post
 write-requires t c κs =
@@ -75,7 +76,7 @@ wrote t c {name} {attrs} {kids} anc x h =
     let a = s .args in
     subst (λ (o : FormatOpts). Writes (length (lent (a .text .now) (a .len))) (c .write .last .1 .1 .1 .1 .0) (c .write .result) (selfAt (a .own) (a .run .now) (a .levels) .below (attrs ∷ anc) o kids []))
     (c .before .packed .ensures ∙ c .before .before .before .before .emphasis-opts .ensures ∙ ap (λ (k : ℕ). «emphasis_scope» (scopeOf («md_emphasis» k)) (inline («include_node» (a .opts)))) (s .pre .1 .1 ∙ element-name x))
-    (below-wrote (a .own) (a .run .now) (a .levels) (unpacked (c .before .packed .result) (c .before .before .before .before .emphasis-opts .result .offset)) anc x h (c .before .before .before .before .before .node-end .ensures) (c .write .ensures .1))
+    (below-wrote (a .own) (a .run .now) (a .levels) (unpacked (c .before .packed .result)) anc x h (c .before .before .before .before .before .node-end .ensures) (c .write .ensures .1))
 
 push-emphasis-by-requires : (t : ℕ) → lts.Need-push-emphasis-by-requires (claims t) (write-emphasis-at t) write-emphasis.Post
 push-emphasis-by-requires t c κs =

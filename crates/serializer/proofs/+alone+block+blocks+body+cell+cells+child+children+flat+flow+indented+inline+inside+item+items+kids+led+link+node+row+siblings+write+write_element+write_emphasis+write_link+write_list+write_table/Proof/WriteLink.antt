@@ -60,7 +60,8 @@ returns t c =
     )
 
 packed-requires : (t : ℕ) → lts.Need-packed-requires (claims t) (write-link-at t) write-link.Post
-packed-requires t c κs = search needs
+packed-requires t c κs =
+    let s = c .before .before .before .before .before .before .before .before .before .before .before in omega (arith, subst (λ (o : FormatOpts). Fits o (s .args .levels)) (sym (c .before .before .before .before .fresh .ensures)) (omega (arith, s .pre .1 .2)))
 
 kids-requires : (t : ℕ) → lts.Need-kids-requires (claims t) (write-link-at t) write-link.Post
 kids-requires t c κs =

@@ -97,7 +97,8 @@ writable t c {name} {attrs} {kids} anc x h =
     c .is-table-node-writable .ensures (c .before .before .before .before .before .before .before .before .before .before .before .args .at) kids (fromCells (rowsOf (attrs ∷ anc) kids)) (element-kids x (c .before .before .before .before .before .node-end .ensures)) (filled t (c .before .before .before) anc x h)
 
 packed-requires : (t : ℕ) → lts.Need-packed-requires (claims t) (write-table-at t) write-table.Post
-packed-requires t c κs = search needs
+packed-requires t c κs =
+    let s = c .before .before .before .before .before .before .before .before .before .before .before .before in omega (arith, subst (λ (o : FormatOpts). Fits o (s .args .levels)) (sym (c .before .before .before .fresh .ensures)) (omega (arith, s .pre .1 .2)))
 
 kids-requires : (t : ℕ) → lts.Need-kids-requires (claims t) (write-table-at t) write-table.Post
 kids-requires t c κs =

@@ -7,8 +7,14 @@ use Rattle.serializer.specs.Options.{odd, unpacked}
 use Rattle.serializer.proofs.options.packed.Statement.{statement}
 use Rattle.serializer.proofs.options.packed.Tie as tie
 
-cast-put-flag : tie.Need-cast-put-flag
-cast-put-flag c = search needs
+mul-bits : tie.Need-mul-bits
+mul-bits c = search needs
+
+cast-bits : tie.Need-cast-bits
+cast-bits c = search needs
+
+add-bits : tie.Need-add-bits
+add-bits c = search needs
 
 put-flag-requires : tie.Need-put-flag-requires
 put-flag-requires c κs = search needs
@@ -48,7 +54,9 @@ returns c =
     let e4 : bits / 16 ≡ c .before .before .before .before .put-flag3 .result = omega (arith, e3, md .1) in
     let e5 : bits / 32 ≡ c .before .before .before .before .before .put-flag2 .result = omega (arith, e4, cell .1) in
     let e6 : bits / 64 ≡ c .before .before .before .before .before .before .put-flag .result = omega (arith, e5, item .1) in
-    let e7 : bits / 128 % 256 ≡ c .before .before .before .before .before .before .before .before .args .o .«emphasis_scope» .0 = omega (arith, e6, body .1) in
+    let o = c .before .before .before .before .before .before .before .before .before .args .o in
+    let e7 : bits / 128 % 256 ≡ o .«emphasis_scope» .0 = omega (arith, e6, body .1) in
+    let e8 : bits / 32768 ≡ o .offset = omega (arith, e6, body .1) in
     λ i. record {
       «include_node» = node .0 i;
       «skip_escape» = (ap odd e1 ∙ escape .0) i;
@@ -57,9 +65,11 @@ returns c =
       «table_cell» = (ap odd e4 ∙ cell .0) i;
       «list_item» = (ap odd e5 ∙ item .0) i;
       «link_body» = (ap odd e6 ∙ body .0) i;
-      offset = c .before .before .before .before .before .before .before .before .args .o .offset;
+      offset = e8 i;
       «emphasis_scope» = record { 0 = e7 i };
     }
 
 pub packed-spec : {M : Type 1} → statement M
-packed-spec = tie.close (tie.spec cast-put-flag put-flag-requires put-flag-requires-2 put-flag-requires-3 put-flag-requires-4 put-flag-requires-5 put-flag-requires-6 put-flag-requires-7 returns)
+packed-spec = tie.close (tie.spec mul-bits
+    cast-bits
+    add-bits put-flag-requires put-flag-requires-2 put-flag-requires-3 put-flag-requires-4 put-flag-requires-5 put-flag-requires-6 put-flag-requires-7 returns)
