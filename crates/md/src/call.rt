@@ -77,18 +77,8 @@ fn write_whole(
     }
     let to = node_end(nodes, start);
     let opts = FormatOpts::new().include_node();
-    write(
-        sheet,
-        own,
-        run,
-        nodes,
-        text,
-        0,
-        start,
-        to,
-        packed(opts),
-        101,
-    )
+    let bits = packed(opts);
+    write(sheet, own, run, nodes, text, 0, start, to, bits, 101)
 }
 
 // serializer.rs, `serialize`: the text from the start node.

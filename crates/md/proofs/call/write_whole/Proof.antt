@@ -30,7 +30,7 @@ include-node-requires c κs = search needs
 
 packed-requires : tie.Need-packed-requires
 packed-requires c κs =
-    subst (λ (o : FormatOpts). o .offset < 2 ^ 48) (sym (c .before .before .include-node .ensures ∙ ap «include_node» (c .before .before .before .new .ensures))) (lit< tt)
+    subst (λ (o : FormatOpts). o .offset < 2 ^ 48) (sym (c .include-node .ensures ∙ ap «include_node» (c .before .new .ensures))) (lit< tt)
 
 write-requires : tie.Need-write-requires
 write-requires c κs =
@@ -38,7 +38,7 @@ write-requires c κs =
     let a = s .args in (
       with-node (skipList (a .own) (a .run .now)) (a .sheet .now) (a .nodes .now) (a .start) _ (s .pre) (pos-of-ne-zero (c .before .before .before .before .before .before .before .if1 .left)) (c .before .before .before .before .before .node-end .ensures) .at,
       (omega arith, s .pre .short),
-      subst (λ (o : FormatOpts). Fits o 101) (sym (c .packed .ensures ∙ c .before .before .before .include-node .ensures ∙ ap «include_node» (c .before .before .before .before .new .ensures))) (lit< tt),
+      subst (λ (o : FormatOpts). Fits o 101) (sym (c .before .before .packed .ensures ∙ c .before .before .before .include-node .ensures ∙ ap «include_node» (c .before .before .before .before .new .ensures))) (lit< tt),
     )
 
 same-length : tie.Need-same-length
@@ -52,7 +52,7 @@ returns-2 c =
     let s = c .before .before .before .before .before .before .before .before .before .before .before .before .before .before .before .before .before in
     let a = s .args in
     whole-wrote (skipList (a .own) (a .run .now)) (a .sheet .now) (a .nodes .now) (a .start) _ (s .pre) (pos-of-ne-zero (c .before .before .before .before .before .before .before .before .before .before .before .before .if1 .left)) (c .before .before .before .before .before .before .before .before .before .before .node-end .ensures)
-    (c .before .before .before .before .before .packed .ensures ∙ c .before .before .before .before .before .before .before .before .include-node .ensures ∙ ap «include_node» (c .before .before .before .before .before .before .before .before .before .new .ensures)) refl (c .before .before .before .before .write .ensures .1)
+    (c .before .before .before .before .before .before .before .packed .ensures ∙ c .before .before .before .before .before .before .before .before .include-node .ensures ∙ ap «include_node» (c .before .before .before .before .before .before .before .before .before .new .ensures)) refl (c .before .before .before .before .write .ensures .1)
 
 pub write-whole-spec : {M : Type 1} → statement M
 write-whole-spec =
