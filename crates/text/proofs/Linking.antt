@@ -8,11 +8,11 @@ use native.Mathlib.Numerals.{add-one}
 use lib.ListN.{length, drop, getD, drop-of-length-le}
 use lib.Seq.{drop-cons}
 use lib.Dec.{eqb}
-use borrow.Author.Tests.{ne-eqb, eqb-true}
+use borrow.Author.Tests.{ne-eqb, eqb-true, not-true}
 use Rattle.spec.specs.Bytes.{ascii, isin, every, startsWith, same}
 use Rattle.spec.specs.Out.{andThen, push}
 use Rattle.spec.specs.Md.TextUtils.{wantsWrap, needsWrap, wrappedByte, backslashTwice, eachByte, htmlFrom, entity, isNbsp, «html_escape», destination, «push_md_url»}
-use Rattle.text.specs.Url.{urlByte, pieceOf, itself}
+use Rattle.text.specs.Url.{urlByte, pieceOf, kept, itself}
 use Rattle.text.proofs.Writing.{push-both}
 
 -- ---- parentheses
@@ -131,24 +131,25 @@ url-plain dest t e = rw (html-same dest false (λ q. absurd (false≢true q)) 0 
 
 -- ---- a destination that stands as it is
 
+-- html_escape leaves b as it is, and so does what is done behind it
+record Stays (wrap : Bool) (b : ℕ) : Type 0 where
+  amp : eqb b 38 ≡ false
+  quote : eqb b 34 ≡ false
+  nbsp : eqb b 0xC2 ≡ false
+  alone : urlByte wrap b ≡ b ∷ []
+
 record Parts (b : ℕ) : Type 0 where
   wrap : wantsWrap b ≡ false
   opening : eqb b 40 ≡ false
   closing : eqb b 41 ≡ false
-  amp : eqb b 38 ≡ false
-  quote : eqb b 34 ≡ false
-  backslash : eqb b 92 ≡ false
-  nbsp : eqb b 0xC2 ≡ false
+  stays : Stays false b
 
 neither : (x y : Bool) → not (x || y) ≡ true → (x ≡ false) × (not y ≡ true)
 neither true y h = absurd (false≢true h)
 neither false y h = (refl, h)
 
-none : (x : Bool) → not x ≡ true → x ≡ false
-none true h = absurd (false≢true h)
-none false h = refl
-
 parts : (b : ℕ) → itself b ≡ true → Parts b
+unfolding backslashTwice
 parts b h =
     let w = neither (wantsWrap b) _ h in
     let o = neither (eqb b 40) _ (w .1) in
@@ -156,7 +157,36 @@ parts b h =
     let a = neither (eqb b 38) _ (c .1) in
     let q = neither (eqb b 34) _ (a .1) in
     let s = neither (eqb b 92) (eqb b 0xC2) (q .1) in
-    record { wrap = w .0; opening = o .0; closing = c .0; amp = a .0; quote = q .0; backslash = s .0; nbsp = none (eqb b 0xC2) (s .1) }
+    record { wrap = w .0; opening = o .0; closing = c .0; stays = record { amp = a .0; quote = q .0; nbsp = not-true (eqb b 0xC2) (s .1); alone = rw (s .0) } }
+
+kept-stays : (wrap : Bool) (b : ℕ) → kept b ≡ true → Stays wrap b
+unfolding wrappedByte backslashTwice isin
+kept-stays wrap b h =
+    let q = neither (eqb b 34) _ h in
+    let a = neither (eqb b 38) _ (q .1) in
+    let l = neither (eqb b 60) _ (a .1) in
+    let g = neither (eqb b 62) _ (l .1) in
+    let s = neither (eqb b 92) _ (g .1) in
+    let n = neither (eqb b 0xC2) _ (s .1) in
+    let f = neither (eqb b 10) (eqb b 13) (n .1) in
+    record { amp = a .0; quote = q .0; nbsp = n .0; alone = on wrap (s .0) (l .0) (g .0) (f .0) (not-true (eqb b 13) (f .1)) }
+  where
+    on : (w : Bool) → eqb b 92 ≡ false → eqb b 60 ≡ false → eqb b 62 ≡ false → eqb b 10 ≡ false → eqb b 13 ≡ false → urlByte w b ≡ b ∷ []
+    on true s l g f r = rw (s, l, g, f, r)
+    on false s l g f r = rw s
+
+-- bytes that stay are appended as they are
+pieces-stay : (wrap : Bool) (p : ℕ → Bool) → ((b : ℕ) → p b ≡ true → Stays wrap b) → (s : List ℕ) → every p s ≡ true → eachByte (urlByte wrap) (htmlFrom false s) ≡ s
+unfolding every htmlFrom eachByte entity isNbsp
+pieces-stay wrap p stays [] h = refl
+pieces-stay wrap p stays (b ∷ s) h =
+    let q = and-eq-true-iff (p b) (every p s) .0 h in
+    let t = stays b (q .0) in
+    rw (t .amp, t .quote, t .nbsp, t .alone) (ap (λ (x : List ℕ). b ∷ x) (pieces-stay wrap p stays s (q .1)))
+
+pub kept-pieces : (wrap : Bool) (dest : List ℕ) → every kept dest ≡ true → eachByte (urlByte wrap) («html_escape» dest) ≡ dest
+unfolding «html_escape»
+kept-pieces wrap dest h = pieces-stay wrap kept (kept-stays wrap) dest h
 
 plain-unwrapped : (s : List ℕ) → every itself s ≡ true → needsWrap 0 s ≡ false
 unfolding every needsWrap
@@ -166,17 +196,9 @@ plain-unwrapped (b ∷ s) h =
     let p = parts b (q .0) in
     neutral 0 b s (p .wrap) (p .opening) (p .closing) ∙ plain-unwrapped s (q .1)
 
-plain-pieces : (s : List ℕ) → every itself s ≡ true → eachByte backslashTwice (htmlFrom false s) ≡ s
-unfolding every htmlFrom eachByte backslashTwice entity isNbsp
-plain-pieces [] h = refl
-plain-pieces (b ∷ s) h =
-    let q = and-eq-true-iff (itself b) (every itself s) .0 h in
-    let p = parts b (q .0) in
-    rw (p .amp, p .quote, p .nbsp, p .backslash) (ap (λ (x : List ℕ). b ∷ x) (plain-pieces s (q .1)))
-
 pub url-itself : (dest t : List ℕ) → every itself dest ≡ true → «push_md_url» dest t ≡ push dest t
 unfolding «html_escape»
-url-itself dest t h = url-plain dest t (plain-unwrapped dest h) ∙ ap (λ (x : List ℕ). push x t) (plain-pieces dest h)
+url-itself dest t h = url-plain dest t (plain-unwrapped dest h) ∙ ap (λ (x : List ℕ). push x t) (pieces-stay false itself (λ b e. parts b e .stays) dest h)
 
 -- ---- byte by byte
 

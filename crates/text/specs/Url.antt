@@ -20,6 +20,11 @@ pieceOf wrap second nbsp b =
     cond second []
     (cond (eqb b 38) (ascii "&amp;") (cond (eqb b 34) (ascii "&quot;") (cond nbsp (ascii "&nbsp;") (urlByte wrap b))))
 
+-- b stands as it is where a destination is appended, between `<` and `>` or without them
+abbrev pub kept : ℕ → Bool
+kept b =
+    not (eqb b 34 || (eqb b 38 || (eqb b 60 || (eqb b 62 || (eqb b 92 || (eqb b 0xC2 || (eqb b 10 || eqb b 13)))))))
+
 -- b stands as it is, whatever is around it: it wants no `<`, is no parenthesis, is not replaced, and does not begin U+00A0
 abbrev pub itself : ℕ → Bool
 itself b = not (wantsWrap b || (eqb b 40 || (eqb b 41 || (eqb b 38 || (eqb b 34 || (eqb b 92 || eqb b 0xC2))))))

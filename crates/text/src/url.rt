@@ -10,7 +10,7 @@ ghost use mathlib.Core.List.{_++_};
 ghost use Rattle.spec.specs.Bytes.{ascii, every};
 ghost use Rattle.spec.specs.Out.{push};
 ghost use Rattle.spec.specs.Md.TextUtils as def;
-ghost use Rattle.text.specs.Url.{nextBalance, urlByte, pieceOf, itself};
+ghost use Rattle.text.specs.Url.{nextBalance, urlByte, pieceOf, kept, itself};
 ghost use Rattle.text.specs.Writes.{Writes};
 use crate::buffer::Wrote;
 use crate::buffer::push_all;
@@ -103,10 +103,43 @@ fn push_piece(text: &mut [u8], len: usize, b: u8, wrap: bool, second: bool, nbsp
     push_url_byte(text, len, b, wrap)
 }
 
+// Whether b stands as it is in a destination that is appended, between `<` and `>` or without them.
+fn is_kept(b: u8) -> bool
+    ensures { λ r. ⌜ r ≡ kept b ⌝ }
+{
+    if 92 < b {
+        return b != 194;
+    }
+    if 62 < b {
+        return b != 92;
+    }
+    if 38 < b {
+        return (b != 60) & (b != 62);
+    }
+    ((b != 34) & (b != 38)) & ((b != 10) & (b != 13))
+}
+
+// Whether all bytes do.
+fn is_kept_dest(dest: &[u8]) -> bool
+    ensures { λ r. ⌜ r ≡ every kept (now (dest .entry)) ⌝ }
+{
+    let mut i = 0;
+    while i < dest.len() {
+        if !is_kept(dest[i]) {
+            return false;
+        }
+        i += 1;
+    }
+    true
+}
+
 fn push_dest(text: &mut [u8], len: usize, dest: &[u8], wrap: bool) -> Wrote
     requires { ⌜ len ≤ length (now text) ⌝ }
     ensures { λ r. ⌜ Writes (length (now (text .entry))) (now (text .exit)) r (push (def.eachByte (urlByte wrap) (def.«html_escape» (now (dest .entry)))) (take len (now (text .entry)))) ⌝ }
 {
+    if is_kept_dest(dest) {
+        return push_all(text, len, dest);
+    }
     let mut n = len;
     let mut second = false;
     let mut i = 0;
