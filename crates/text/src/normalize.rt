@@ -34,7 +34,6 @@ use crate::text_utils::ends_with_marker_digits;
 use crate::text_utils::is_ordered_list_marker;
 use spec::ctx::FormatOpts;
 use tree::fields::is_same;
-use tree::fields::wide;
 
 // The byte at i of what is read.
 fn byte_at(src: &[u8], text: &[u8], own: bool, i: usize) -> u8
@@ -404,20 +403,16 @@ fn is_plain_front(s: &[u8], at: usize, n: u8) -> bool
     all
 }
 
-// Whether the bytes of a part before its last are plain. The byte before a text of a sheet is the low byte of its length.
+// Whether the bytes of a part before its last are plain.
 fn is_plain_part(src: &[u8], from: usize, to: usize) -> bool
     requires { ⌜ (from < to) × (to ≤ length (now src)) ⌝ }
     ensures { λ r. ⌜ (r ≡ true → (n : ℕ) → to ≡ from + n + 1 → Flows true (slice from to (now (src .entry))) n) ⌝ }
 {
     let n = to - from;
-    if (16 < n) | ((src.len() - from < 17) | (from == 0)) {
+    if (16 < n) | (src.len() - from < 17) {
         return is_plain_text(&src[from..to]);
     }
-    let short = src[from - 1];
-    if wide(short) != n {
-        return is_plain_text(&src[from..to]);
-    }
-    is_plain_front(src, from, short - 1)
+    is_plain_front(src, from, (n - 1) as u8)
 }
 
 // Whether a part is known to be appended as it is, whatever stands before it: ordinary words with one blank between them, the

@@ -1,9 +1,10 @@
 -- `text::normalize::is_plain_part` meets its contract. Assumes nothing.
 use Prim.Native.Nat.{ℕ, _+_, _-_, _≤_}
-use mathlib.Core.Path.{_≡_, refl, sym, ap, subst}
-use mathlib.Core.Bool.{Bool, true, false, _||_, false≢true}
-use lib.Dec.{eqb, ltb}
-use borrow.Author.Tests.{ltb-false, eqb-false}
+use mathlib.Core.Path.{_≡_, ap, subst}
+use mathlib.Core.Bool.{true, false, _||_}
+use lib.Dec.{ltb}
+use borrow.Author.Tests.{ltb-false}
+use Rattle.text.proofs.Ordinary.{neither}
 use Rattle.text.proofs.Flowing.{plain-part}
 use mathlib.Core.List.{List}
 use lib.ListN.{length}
@@ -15,18 +16,11 @@ use native.Mathlib.Omega.{arith}
 use Rattle.text.proofs.normalize.is_plain_part.Statement.{statement}
 use Rattle.text.proofs.normalize.is_plain_part.Tie as tie
 
--- a short part that is not at the front, with 17 bytes from its beginning on
-near : (n left from : ℕ) → ltb 16 n || (ltb left 17 || eqb from 0) ≡ false → (n ≤ 16) × (17 ≤ left) × (1 ≤ from)
-near n left from e = on (ltb 16 n) (ltb left 17) (eqb from 0) refl refl refl e
-  where
-    some : (m : ℕ) → (m ≡ 0 → ⊥) → 1 ≤ m
-    some m h = omega (arith, h)
-
-    on : (s t u : Bool) → ltb 16 n ≡ s → ltb left 17 ≡ t → eqb from 0 ≡ u → s || (t || u) ≡ false → (n ≤ 16) × (17 ≤ left) × (1 ≤ from)
-    on true t u p q r h = absurd (false≢true (sym h))
-    on false true u p q r h = absurd (false≢true (sym h))
-    on false false true p q r h = absurd (false≢true (sym h))
-    on false false false p q r h = (ltb-false 16 n p, ltb-false left 17 q, some from (eqb-false from 0 r))
+-- a short part, with 17 bytes from its beginning on
+near : (n left : ℕ) → ltb 16 n || ltb left 17 ≡ false → (n ≤ 16) × (17 ≤ left)
+near n left e =
+    let q = neither (ltb 16 n) (ltb left 17) e in
+    (ltb-false 16 n (q .0), ltb-false left 17 (q .1))
 
 sub-n : tie.Need-sub-n
 sub-n c = search needs
@@ -56,59 +50,29 @@ returns c =
     let q = part-is (a .from) (a .to) (a .src .now) in
     λ e n z. subst (λ (x : List ℕ). Flows true x n) q (c .is-plain-text .ensures e n (omega (arith, p .0, ap length q, length-slice (a .from) (a .to) (a .src .now) (p .1))))
 
-sub-short : tie.Need-sub-short
-sub-short c =
-    let a = c .before .before .args in
-    near (a .to - a .from) (length (a .src .now) - a .from) (a .from) (c .if1 .left) .2
-
-shared-slice-read-short : tie.Need-shared-slice-read-short
-shared-slice-read-short c = search needs
-
-wide-requires : tie.Need-wide-requires
-wide-requires c κs = search needs
-
-sub-is-plain-text-2 : tie.Need-sub-is-plain-text-2
-sub-is-plain-text-2 c = search needs
-
-part-is-plain-text-start-2 : tie.Need-part-is-plain-text-start-2
-part-is-plain-text-start-2 c = search needs
-
-part-is-plain-text-end-2 : tie.Need-part-is-plain-text-end-2
-part-is-plain-text-end-2 c = search needs
-
-is-plain-text-requires-2 : tie.Need-is-plain-text-requires-2
-is-plain-text-requires-2 c κs =
-    let a = c .before .before .before .before .before .before .args in
-    let p = c .before .before .before .before .before .before .pre in
-    omega (arith, p .0, ap length (part-is (a .from) (a .to) (a .src .now)), length-slice (a .from) (a .to) (a .src .now) (p .1))
-
-returns-2 : tie.Need-returns-2
-returns-2 c =
-    let a = c .before .before .before .before .before .before .before .args in
-    let p = c .before .before .before .before .before .before .before .pre in
-    let q = part-is (a .from) (a .to) (a .src .now) in
-    λ e n z. subst (λ (x : List ℕ). Flows true x n) q (c .is-plain-text2 .ensures e n (omega (arith, p .0, ap length q, length-slice (a .from) (a .to) (a .src .now) (p .1))))
-
 sub-is-plain-front : tie.Need-sub-is-plain-front
 sub-is-plain-front c = search needs
 
+cast-is-plain-front : tie.Need-cast-is-plain-front
+cast-is-plain-front c =
+    let a = c .before .before .args in
+    record { fits = omega (arith, near (a .to - a .from) (length (a .src .now) - a .from) (c .if1 .left) .0) }
+
 is-plain-front-requires : tie.Need-is-plain-front-requires
 is-plain-front-requires c κs =
-    let a = c .before .before .before .before .before .args in
-    omega (arith, near (a .to - a .from) (length (a .src .now) - a .from) (a .from) (c .before .before .before .if1 .left) .1)
+    let a = c .before .before .args in
+    omega (arith, near (a .to - a .from) (length (a .src .now) - a .from) (c .if1 .left) .1)
 
-returns-3 : tie.Need-returns-3
-returns-3 c =
-    let a = c .before .before .before .before .before .before .args in
-    let p = c .before .before .before .before .before .before .pre in
-    let w = c .before .before .wide in
-    let r = near (a .to - a .from) (length (a .src .now) - a .from) (a .from) (c .before .before .before .before .if1 .left) in
-    let z = c .before .if2 .left in
+returns-2 : tie.Need-returns-2
+returns-2 c =
+    let a = c .before .before .before .args in
+    let p = c .before .before .before .pre in
+    let r = near (a .to - a .from) (length (a .src .now) - a .from) (c .before .if1 .left) in
     λ e n q.
     record {
       within = omega (arith, p .0, length-slice (a .from) (a .to) (a .src .now) (p .1));
-      each = λ i h. plain-part (a .src .now) (a .from) (a .to) i (p .1) (omega arith) (c .is-plain-front .ensures e (a .from + i) (omega arith) (omega (arith, r .0)) (omega (arith, z, w .ensures)));
+      each = λ i h. plain-part (a .src .now) (a .from) (a .to) i (p .1) (omega arith) (c .is-plain-front .ensures e (a .from + i) (omega arith) (omega (arith, r .0)) (omega arith));
     }
 
 pub is-plain-part-spec : {M : Type 1} → statement M
-is-plain-part-spec = tie.close (tie.spec sub-n sub-if1 sub-is-plain-text part-is-plain-text-start part-is-plain-text-end is-plain-text-requires returns sub-short shared-slice-read-short wide-requires sub-is-plain-text-2 part-is-plain-text-start-2 part-is-plain-text-end-2 is-plain-text-requires-2 returns-2 sub-is-plain-front is-plain-front-requires returns-3)
+is-plain-part-spec = tie.close (tie.spec sub-n sub-if1 sub-is-plain-text part-is-plain-text-start part-is-plain-text-end is-plain-text-requires returns sub-is-plain-front cast-is-plain-front is-plain-front-requires returns-2)
