@@ -7,9 +7,9 @@ use mathlib.Core.List.{List, [], _∷_, _++_, append-assoc}
 use native.Mathlib.Omega.{arith}
 use lib.ListN.{length, take, drop, getD, drop-of-length-le}
 use lib.Seq.{drop-cons, take-suc, take-all, length-take-le, slice, length-slice}
-use lib.Dec.{eqb}
+use lib.Dec.{eqb, leb}
 use borrow.Author.Tests.{eqb-true, eqb-false, eq-eqb, ne-eqb, not-true}
-use Rattle.spec.specs.Bytes.{Bytes, ascii, null, same, isin, every, startsWith, white, isBlank, words, split, parts, cutAt, filled, one, «trim_end_matches», «trim_ascii_end»}
+use Rattle.spec.specs.Bytes.{Bytes, ascii, null, same, isin, every, startsWith, endsWith, white, digit, isBlank, words, split, parts, cutAt, filled, one, «trim_end_matches», «trim_ascii_end»}
 use Rattle.spec.specs.Md.Constants.{«ALWAYS_ESCAPED»}
 use Rattle.spec.specs.Md.TextUtils as def
 use Rattle.spec.specs.declared.ctx.FormatOpts as Opts
@@ -272,7 +272,18 @@ unfolding def.normalizedWords
 normal-words opts text s w ws a b c =
     simp (a, no-lead (not (opts .«skip_escape»)) (same w (ascii ".") || same w (ascii ")")) (def.«ends_with_marker_digits» text) b, c, and-false)
 
-module _ (signs : Bool) (b : ℕ) (s : Bytes) (n : ℕ) (long : length (b ∷ s) ≡ n + 1) (black : white b ≡ false) (starts : signs ≡ true → MayStart (b ∷ parts white s .0)) (f : Flows signs (b ∷ s) n) (last : kept signs (getD (b ∷ s) n 0) || eqb (getD (b ∷ s) n 0) 32 ≡ true) where
+-- each byte of a text adds itself, but a last blank, which is added behind the words
+flow-whole : (signs escape : Bool) (s : Bytes) (n : ℕ) → length s ≡ n + 1 → Flows signs s n → kept signs (getD s n 0) || eqb (getD s n 0) 32 ≡ true → (escape ≡ true → signs ≡ true)
+    → flow escape s ++ cond (def.endsWithWhite s) (ascii " ") [] ≡ s
+flow-whole signs escape s n long f last only =
+    let x = getD s n 0 in
+    let q : drop n s ≡ x ∷ [] = drop-cons s n 0 (omega arith) ∙ ap (λ (r : Bytes). x ∷ r) (drop-of-length-le s {i = suc n} (omega arith)) in
+    ap₂ (λ (r : Bytes) (t : Bool). r ++ cond t (ascii " ") []) (flows-flow escape only f ∙ ap (λ (r : Bytes). take n s ++ flow escape r) q) (ends-last s n long)
+    ∙ append-assoc (take n s) (flow escape (x ∷ [])) (cond (white x) (ascii " ") [])
+    ∙ ap (λ (r : Bytes). take n s ++ r) (last-flow signs escape x only last)
+    ∙ sym (take-suc s n 0 (omega arith)) ∙ take-all (suc n) s (omega arith)
+
+module _ (b : ℕ) (s : Bytes) (black : white b ≡ false) where
   abbrev first : Bytes
   first = b ∷ parts white s .0
 
@@ -287,9 +298,17 @@ module _ (signs : Bool) (b : ℕ) (s : Bytes) (n : ℕ) (long : length (b ∷ s)
   unfolding words split filled null
   words-are = rw parts-are
 
-  first-kept : every (kept signs) first ≡ true
+  -- the words, none of which begins a line, are what the bytes add
+  words-flow-is : (escape : Bool) → def.escapedChunk first escape false ++ def.moreWords escape more ≡ flow escape (b ∷ s)
+  words-flow-is escape =
+      ap (λ (x : Bytes). x ++ def.moreWords escape more) (inner-chunk first escape)
+      ∙ ap (λ (r : Bytes × List Bytes). marks escape false false false (r .0) ++ def.moreWords escape (filled (r .1))) (sym parts-are)
+      ∙ sym (parted escape (b ∷ s))
+
+module _ (signs : Bool) (b : ℕ) (s : Bytes) (n : ℕ) (long : length (b ∷ s) ≡ n + 1) (black : white b ≡ false) (starts : signs ≡ true → MayStart (b ∷ parts white s .0)) (f : Flows signs (b ∷ s) n) (last : kept signs (getD (b ∷ s) n 0) || eqb (getD (b ∷ s) n 0) 32 ≡ true) where
+  first-kept : every (kept signs) (first b s black) ≡ true
   first-kept =
-      ap (λ (r : Bytes × List Bytes). every (kept signs) (r .0)) (sym parts-are)
+      ap (λ (r : Bytes × List Bytes). every (kept signs) (r .0)) (sym (parts-are b s black))
       ∙ kept-first signs (b ∷ s) (λ i h w. on i h w (eqb i n) refl)
     where
       on : (i : ℕ) → i < length (b ∷ s) → white (getD (b ∷ s) i 0) ≡ false → (t : Bool) → eqb i n ≡ t → kept signs (getD (b ∷ s) i 0) ≡ true
@@ -303,42 +322,28 @@ module _ (signs : Bool) (b : ℕ) (s : Bytes) (n : ℕ) (long : length (b ∷ s)
           let y = not (white (getD (b ∷ s) (i + 1) 0)) in
           black-kept signs x (eqb x 32 && y) (λ k. and-eq-true-iff (eqb x 32) y .0 k .0) (f .each i (omega arith) .adds-itself) w
 
-  no-dot : MayStart first → same first (ascii ".") || same first (ascii ")") ≡ false
+  no-dot : MayStart (first b s black) → same (first b s black) (ascii ".") || same (first b s black) (ascii ")") ≡ false
   unfolding same
   no-dot m = rw (ne-eqb b 46 (λ q. omega (arith, m .above-dot)), ne-eqb b 41 (λ q. omega (arith, m .above-dot)))
 
   module _ (escape : Bool) (only : escape ≡ true → signs ≡ true) where
-    -- each byte adds itself, but a last blank, which is added behind the words
-    flow-is : flow escape (b ∷ s) ++ cond (def.endsWithWhite (b ∷ s)) (ascii " ") [] ≡ b ∷ s
-    flow-is =
-        let x = getD (b ∷ s) n 0 in
-        let q : drop n (b ∷ s) ≡ x ∷ [] = drop-cons (b ∷ s) n 0 (omega arith) ∙ ap (λ (r : Bytes). x ∷ r) (drop-of-length-le (b ∷ s) {i = suc n} (omega arith)) in
-        ap₂ (λ (r : Bytes) (t : Bool). r ++ cond t (ascii " ") []) (flows-flow escape only f ∙ ap (λ (r : Bytes). take n (b ∷ s) ++ flow escape r) q) (ends-last (b ∷ s) n long)
-        ∙ append-assoc (take n (b ∷ s)) (flow escape (x ∷ [])) (cond (white x) (ascii " ") [])
-        ∙ ap (λ (r : Bytes). take n (b ∷ s) ++ r) (last-flow signs escape x only last)
-        ∙ sym (take-suc (b ∷ s) n 0 (omega arith)) ∙ take-all (suc n) (b ∷ s) (omega arith)
-
-    first-bare : (start : Bool) → def.escapedChunk first escape start ≡ first
+    first-bare : (start : Bool) → def.escapedChunk (first b s black) escape start ≡ first b s black
     first-bare start =
-        bare-chunk first escape start (λ e. subst (λ (t : Bool). every (kept t) first ≡ true) (only e) first-kept) (λ e h k. starts (only e))
+        bare-chunk (first b s black) escape start (λ e. subst (λ (t : Bool). every (kept t) (first b s black) ≡ true) (only e) first-kept) (λ e h k. starts (only e))
 
-    words-flow-is : first ++ def.moreWords escape more ≡ flow escape (b ∷ s)
-    words-flow-is =
-        ap (λ (x : Bytes). x ++ def.moreWords escape more) (sym (first-bare false) ∙ inner-chunk first escape)
-        ∙ ap (λ (r : Bytes × List Bytes). marks escape false false false (r .0) ++ def.moreWords escape (filled (r .1))) (sym parts-are)
-        ∙ sym (parted escape (b ∷ s))
-
-    words-back : first ++ (def.moreWords escape more ++ cond (def.endsWithWhite (b ∷ s)) (ascii " ") []) ≡ b ∷ s
+    words-back : first b s black ++ (def.moreWords escape (more b s black) ++ cond (def.endsWithWhite (b ∷ s)) (ascii " ") []) ≡ b ∷ s
     words-back =
-        sym (append-assoc first (def.moreWords escape more) (cond (def.endsWithWhite (b ∷ s)) (ascii " ") []))
-        ∙ ap (λ (x : Bytes). x ++ cond (def.endsWithWhite (b ∷ s)) (ascii " ") []) words-flow-is ∙ flow-is
+        sym (append-assoc (first b s black) (def.moreWords escape (more b s black)) (cond (def.endsWithWhite (b ∷ s)) (ascii " ") []))
+        ∙ ap (λ (x : Bytes). (x ++ def.moreWords escape (more b s black)) ++ cond (def.endsWithWhite (b ∷ s)) (ascii " ") []) (sym (first-bare false))
+        ∙ ap (λ (x : Bytes). x ++ cond (def.endsWithWhite (b ∷ s)) (ascii " ") []) (words-flow-is b s black escape)
+        ∙ flow-whole signs escape (b ∷ s) n long f last only
 
   bare-from : (opts : Opts.FormatOpts) (text : List ℕ) → (not (opts .«skip_escape») ≡ true → signs ≡ true) → def.normalized opts text (b ∷ s) ≡ b ∷ s
   unfolding def.normalized def.startsWithWhite isBlank every null
   bare-from opts text only =
       let escape = not (opts .«skip_escape») in
-      rw (black, and-false, words-are)
-      (normal-words opts text (b ∷ s) first more black (λ e. no-dot (starts (only e))) (first-bare escape only) ∙ words-back escape only)
+      rw (black, and-false, words-are b s black)
+      (normal-words opts text (b ∷ s) (first b s black) (more b s black) black (λ e. no-dot (starts (only e))) (first-bare escape only) ∙ words-back escape only)
 
 -- a text of plain bytes, of which the last may be a blank, is appended as it is: where signs are escaped, if its first word
 -- may start a line
@@ -362,3 +367,114 @@ start-black (b ∷ s) m = on (white b) m
     on : (t : Bool) → MayStart (cutAt t b (parts white s) .0) → t ≡ false
     on true k = absurd (omega (arith, k .above-dot))
     on false k = refl
+
+-- ---- behind a text that ends inside a line
+
+-- no line begins behind it, and no marker's number ends it
+pub record Inside (text : Bytes) : Type 0 where
+  pub line : endsWith (ascii "\n") text ≡ false
+  pub blank : endsWith (ascii " ") text ≡ false
+  pub some : null text ≡ false
+  pub digits : def.«ends_with_marker_digits» text ≡ false
+
+-- so it is where the last byte is neither white nor a digit
+pub inside-of : (text : Bytes) (n : ℕ) → length text ≡ n + 1 → white (getD text n 0) ≡ false → digit (getD text n 0) ≡ false → Inside text
+unfolding endsWith same null white isin def.«ends_with_marker_digits»
+inside-of text n long black other =
+    let x = getD text n 0 in
+    let z : length text - 1 ≡ n = omega arith in
+    let all : take (suc n) text ≡ text = take-all (suc n) text (omega arith) in
+    let e : n ≡ suc n - 1 = omega arith in
+    let q : drop n text ≡ x ∷ [] = drop-cons text n 0 (omega arith) ∙ ap (λ (r : Bytes). x ∷ r) (drop-of-length-le text {i = suc n} (omega arith)) in
+    let ends : (y : ℕ) → (x ≡ y → ⊥) → same (drop (length text - 1) text) (y ∷ []) ≡ false = λ y h. ap (λ (k : ℕ). same (drop k text) (y ∷ [])) z ∙ ap (λ (r : Bytes). same r (y ∷ [])) q ∙ rw (ne-eqb x y h) in
+    let stem : «trim_end_matches» (one digit) text ≡ text = ap («trim_end_matches» (one digit)) (sym all) ∙ trim-here digit text (suc n) (omega arith) (omega arith) (subst (λ (k : ℕ). digit (getD text k 0) ≡ false) e other) ∙ all in
+    let none : length text - length («trim_end_matches» (one digit) text) ≡ 0 = omega (arith, ap length stem) in
+    record {
+      line = ends 10 (λ h. false≢true (sym black ∙ ap white h));
+      blank = ends 32 (λ h. false≢true (sym black ∙ ap white h));
+      some = not-empty text (omega arith);
+      digits = ap (λ (k : ℕ). (leb 1 k && leb k 9) && def.atIndent (def.beforeMarker («trim_end_matches» (one digit) text))) none;
+    }
+  where
+    not-empty : (t : Bytes) → 0 < length t → null t ≡ false
+    not-empty [] h = absurd (omega arith)
+    not-empty (b ∷ t) h = refl
+
+inner-words : (opts : Opts.FormatOpts) (text s w : Bytes) (ws : List Bytes) → Inside text → opts .«list_item» ≡ false
+    → def.normalizedWords opts text s (w ∷ ws) ≡ cond (def.startsWithWhite s) (ascii " ") [] ++ (def.escapedChunk w (not (opts .«skip_escape»)) false ++ (def.moreWords (not (opts .«skip_escape»)) ws ++ cond (def.endsWithWhite s) (ascii " ") []))
+unfolding def.normalizedWords
+inner-words opts text s w ws h l = simp (h .line, h .blank, h .some, h .digits, l, and-false, or-true)
+
+module _ (opts : Opts.FormatOpts) (text : Bytes) (h : Inside text) (l : opts .«list_item» ≡ false) where
+  abbrev escape : Bool
+  escape = not (opts .«skip_escape»)
+
+  abbrev end : Bytes → Bytes
+  end s = cond (def.endsWithWhite s) (ascii " ") []
+
+  -- the words behind what stands before them
+  inner-from : (t : Bool) (b : ℕ) (s : Bytes) (black : white b ≡ false) (e : Bytes) → cond t (ascii " ") [] ++ (def.escapedChunk (first b s black) escape false ++ (def.moreWords escape (more b s black) ++ e)) ≡ cond t (ascii " ") [] ++ (flow escape (b ∷ s) ++ e)
+  inner-from t b s black e =
+      ap (λ (x : Bytes). cond t (ascii " ") [] ++ x)
+      (sym (append-assoc (def.escapedChunk (first b s black) escape false) (def.moreWords escape (more b s black)) e) ∙ ap (λ (x : Bytes). x ++ e) (words-flow-is b s black escape))
+
+  inner-black : (b : ℕ) (s : Bytes) → white b ≡ false → def.normalized opts text (b ∷ s) ≡ flow escape (b ∷ s) ++ end (b ∷ s)
+  unfolding def.normalized def.startsWithWhite isBlank every null
+  inner-black b s black =
+      rw (black, and-false, words-are b s black)
+      (inner-words opts text (b ∷ s) (first b s black) (more b s black) h l ∙ inner-from (white b) b s black (end (b ∷ s)) ∙ ap (λ (t : Bool). cond t (ascii " ") [] ++ (flow escape (b ∷ s) ++ end (b ∷ s))) black)
+
+  words-blank : (b : ℕ) (s : Bytes) (black : white b ≡ false) → words (32 ∷ b ∷ s) ≡ first b s black ∷ more b s black
+  unfolding words split filled null parts cutAt white isin
+  words-blank b s black = rw black
+
+  flow-blank : (b : ℕ) (s : Bytes) → white b ≡ false → ascii " " ++ flow escape (b ∷ s) ≡ flow escape (32 ∷ b ∷ s)
+  unfolding flow added startsBlack white isin
+  flow-blank b s black = ap (λ (t : Bool). cond (not t) (ascii " ") [] ++ flow escape (b ∷ s)) (sym black)
+
+  inner-blank : (b : ℕ) (s : Bytes) → white b ≡ false → def.normalized opts text (32 ∷ b ∷ s) ≡ flow escape (32 ∷ b ∷ s) ++ end (32 ∷ b ∷ s)
+  unfolding def.normalized def.startsWithWhite isBlank every null white isin
+  inner-blank b s black =
+      rw (black, and-false, words-blank b s black)
+      (inner-words opts text (32 ∷ b ∷ s) (first b s black) (more b s black) h l ∙ inner-from true b s black (end (32 ∷ b ∷ s)) ∙ ap (λ (x : Bytes). x ++ end (32 ∷ b ∷ s)) (flow-blank b s black))
+
+-- a blank that is plain stands before a word
+plain-blank : (b y : ℕ) → white b ≡ true → plain true b y ≡ true → (b ≡ 32) × (white y ≡ false)
+plain-blank b y w h = on (kept true b) refl h
+  where
+    on : (o : Bool) → kept true b ≡ o → o || (eqb b 32 && not (white y)) ≡ true → (b ≡ 32) × (white y ≡ false)
+    on true k h = absurd (false≢true (sym (kept-black true b k) ∙ w))
+    on false k h = let q = and-eq-true-iff (eqb b 32) (not (white y)) .0 h in (eqb-true b 32 (q .0), not-true (white y) (q .1))
+
+-- a text of plain bytes, of which the last may be a blank, is appended as it is behind a text that ends inside a line, unless it is a
+-- blank alone
+pub inner-flow : (s : Bytes) (n : ℕ) → length s ≡ n + 1 → Flows true s n → kept true (getD s n 0) || eqb (getD s n 0) 32 ≡ true → eqb n 0 && eqb (getD s 0 0) 32 ≡ false
+    → (opts : Opts.FormatOpts) (text : Bytes) → Inside text → opts .«list_item» ≡ false → def.normalized opts text s ≡ s
+inner-flow s n long f last more opts text h l = go s n long f last more
+  where
+    whole : (s : Bytes) (n : ℕ) → length s ≡ n + 1 → Flows true s n → kept true (getD s n 0) || eqb (getD s n 0) 32 ≡ true → flow (escape opts text h l) s ++ end opts text h l s ≡ s
+    whole s n long f last = flow-whole true (escape opts text h l) s n long f last (λ e. refl)
+
+    behind : (b c : ℕ) (r : Bytes) (n : ℕ) → b ≡ 32 → white c ≡ false → length (b ∷ c ∷ r) ≡ n + 1 → Flows true (b ∷ c ∷ r) n → kept true (getD (b ∷ c ∷ r) n 0) || eqb (getD (b ∷ c ∷ r) n 0) 32 ≡ true
+        → def.normalized opts text (b ∷ c ∷ r) ≡ b ∷ c ∷ r
+    behind b c r n e w =
+        subst (λ (x : ℕ). length (x ∷ c ∷ r) ≡ n + 1 → Flows true (x ∷ c ∷ r) n → kept true (getD (x ∷ c ∷ r) n 0) || eqb (getD (x ∷ c ∷ r) n 0) 32 ≡ true → def.normalized opts text (x ∷ c ∷ r) ≡ x ∷ c ∷ r) (sym e)
+        (λ long f last. inner-blank opts text h l c r w ∙ whole (32 ∷ c ∷ r) n long f last)
+
+    go : (s : Bytes) (n : ℕ) → length s ≡ n + 1 → Flows true s n → kept true (getD s n 0) || eqb (getD s n 0) 32 ≡ true → eqb n 0 && eqb (getD s 0 0) 32 ≡ false → def.normalized opts text s ≡ s
+    go [] n long f last more = absurd (omega arith)
+    go (b ∷ s) n long f last more = on (white b) refl s n long f last more
+      where
+        on : (t : Bool) → white b ≡ t → (s : Bytes) (n : ℕ) → length (b ∷ s) ≡ n + 1 → Flows true (b ∷ s) n → kept true (getD (b ∷ s) n 0) || eqb (getD (b ∷ s) n 0) 32 ≡ true → eqb n 0 && eqb b 32 ≡ false
+            → def.normalized opts text (b ∷ s) ≡ b ∷ s
+        on false w s n long f last more = inner-black opts text h l b s w ∙ whole (b ∷ s) n long f last
+        on true w [] n long f last more = absurd (alone (kept true b) refl (subst (λ (k : ℕ). kept true (getD (b ∷ []) k 0) || eqb (getD (b ∷ []) k 0) 32 ≡ true) z last))
+          where
+            z : n ≡ 0
+            z = omega arith
+
+            alone : (o : Bool) → kept true b ≡ o → o || eqb b 32 ≡ true → ⊥
+            alone true k e = false≢true (sym (kept-black true b k) ∙ w)
+            alone false k e = false≢true (sym more ∙ ap (λ (t : Bool). t && eqb b 32) (eq-eqb n 0 z) ∙ e)
+        on true w (c ∷ s) n long f last more =
+            let q = plain-blank b c w (f .each 0 (omega arith) .adds-itself) in behind b c s n (q .0) (q .1) long f last

@@ -16,7 +16,7 @@ ghost use Rattle.text.specs.Class.{inClass};
 ghost use Rattle.text.specs.Marks.{marks, leadOf, firstAndMore, dotWord, leadText, blankText, lineStart};
 ghost use Rattle.text.specs.Trimmed.{Skipped};
 ghost use Rattle.text.specs.Words.{WordAt, WordEnd};
-ghost use Rattle.text.specs.Flow.{startsBlack, lastDot, MayStart, added, flow, flowBefore, plain, Plain, Flows};
+ghost use Rattle.text.specs.Flow.{startsBlack, lastDot, MayStart, added, flow, flowBefore, kept, plain, Plain, Flows};
 ghost use Rattle.text.specs.Blocks.{signed, BlockAt, Appends};
 ghost use Rattle.text.specs.Source.{store, Apart, WritesIn};
 ghost use Rattle.text.specs.Writes.{Writes};
@@ -415,6 +415,14 @@ fn is_plain_part(src: &[u8], from: usize, to: usize) -> bool
     is_plain_front(src, from, (n - 1) as u8)
 }
 
+// Whether the bytes of a part are plain, and the last one is ordinary or a blank.
+fn is_flow(src: &[u8], from: usize, to: usize) -> bool
+    requires { ⌜ (from < to) × (to ≤ length (now src)) ⌝ }
+    ensures { λ r. ⌜ (r ≡ true → (n : ℕ) → to ≡ from + n + 1 → Flows true (slice from to (now (src .entry))) n × (kept true (getD (slice from to (now (src .entry))) n 0) || eqb (getD (slice from to (now (src .entry))) n 0) 32 ≡ true)) ⌝ }
+{
+    is_plain_part(src, from, to) & ((src[to - 1] == 32) | is_in(Class::Ordinary, src[to - 1]))
+}
+
 // Whether a part is known to be appended as it is, whatever stands before it: ordinary words with one blank between them, the
 // first of which begins with no sign and is no marker, and perhaps a blank behind them. Only short parts are looked at, for
 // which the steps of any text cost most.
@@ -429,7 +437,27 @@ fn is_bare_part(src: &[u8], from: usize, to: usize) -> bool
     if !begins_bare(&src[from..to]) {
         return false;
     }
-    is_plain_part(src, from, to) & ((src[to - 1] == 32) | is_in(Class::Ordinary, src[to - 1]))
+    is_flow(src, from, to)
+}
+
+// Whether a part is known to be appended as it is behind a text that ends inside a line, neither with a white byte nor with a
+// digit: no word of it begins a line or ends a marker. A blank alone is left out.
+pub fn is_inner_part(text: &[u8], src: &[u8], from: usize, to: usize) -> bool
+    requires { ⌜ (from ≤ to) × (to ≤ length (now src)) ⌝ }
+    ensures { λ r. ⌜ (r ≡ true → (opts : Opts.FormatOpts) → opts .«list_item» ≡ false → def.normalized opts (now (text .entry)) (slice from to (now (src .entry))) ≡ slice from to (now (src .entry))) ⌝ }
+{
+    let n = to - from;
+    if ((n == 0) | (128 < n)) | (text.len() == 0) {
+        return false;
+    }
+    let before = text[text.len() - 1];
+    if (before <= 32) | is_in(Class::Digit, before) {
+        return false;
+    }
+    if (n == 1) & (src[from] == 32) {
+        return false;
+    }
+    is_flow(src, from, to)
 }
 
 // Whether a part is known to be appended as it is; `raw` says that nothing is escaped.

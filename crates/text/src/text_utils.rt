@@ -24,6 +24,7 @@ use crate::buffer::push_byte;
 use crate::buffer::reread;
 use crate::buffer::trim_end_matches;
 use crate::buffer::trim_start_matches;
+use crate::normalize::is_inner_part;
 use crate::normalize::is_kept_part;
 use crate::normalize::push_normalized;
 use crate::normalize::push_part;
@@ -123,6 +124,9 @@ pub fn push_text_part(
     ensures { λ r. ⌜ ((opts : Opts.FormatOpts) → opts .inline ≡ inline → opts .«skip_escape» ≡ «skip_escape» → opts .«list_item» ≡ «list_item» → Writes (length (now (text .entry))) (now (text .exit)) r (def.«push_normalized_text» (slice from to (now (src .entry))) opts (take len (now (text .entry))))) ⌝ }
 {
     if is_kept_part(src, from, to, skip_escape) {
+        return push_part(text, len, src, from, to);
+    }
+    if !list_item & is_inner_part(&text[..len], src, from, to) {
         return push_part(text, len, src, from, to);
     }
     let room = text.len();
