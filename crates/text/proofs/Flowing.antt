@@ -19,7 +19,7 @@ use Rattle.text.specs.Marks.{marks}
 use Rattle.tree.proofs.Building.{le-or-lt}
 use Rattle.text.proofs.Reading.{same-self, not-long}
 use Rattle.text.proofs.Sourcing.{part-byte}
-use Rattle.text.proofs.Trimming.{trim-less, trim-here, trim-long}
+use Rattle.text.proofs.Trimming.{trim-less, trim-whole, trim-long}
 use Rattle.text.proofs.Ordinary.{ordinary-parts, not-white, not-escaped, inner-chunk, bare-chunk}
 
 -- ---- plain bytes
@@ -246,20 +246,17 @@ ends-last : (s : Bytes) (n : ℕ) → length s ≡ n + 1 → def.endsWithWhite s
 unfolding def.endsWithWhite «trim_ascii_end»
 ends-last s n long = on (white (getD s n 0)) refl
   where
-    all : take (suc n) s ≡ s
-    all = take-all (suc n) s (omega arith)
-
-    here : (t : Bool) → white (getD s n 0) ≡ t → white (getD s (suc n - 1) 0) ≡ t
-    here t w = let e : n ≡ suc n - 1 = omega arith in subst (λ (k : ℕ). white (getD s k 0) ≡ t) e w
-
     on : (t : Bool) → white (getD s n 0) ≡ t → not (same («trim_end_matches» (one white) s) s) ≡ t
     on true w =
-        let z : suc n - 1 ≡ n = omega arith in
-        let q = ap («trim_end_matches» (one white)) (sym all) ∙ trim-less white s (suc n) (omega arith) (omega arith) (here true w) ∙ ap (λ (k : ℕ). «trim_end_matches» (one white) (take k s)) z in
-        ap not (not-long («trim_end_matches» (one white) s) s (λ e. omega (arith, e, ap length q, trim-long (one white) (take n s), length-take-le n s (omega arith))))
-    on false w =
-        ap (λ (x : Bytes). not (same x s)) (ap («trim_end_matches» (one white)) (sym all) ∙ trim-here white s (suc n) (omega arith) (omega arith) (here false w) ∙ all)
-        ∙ ap not (same-self s)
+        let all : take (suc n) s ≡ s = take-all (suc n) s (omega arith) in
+        let e : n ≡ suc n - 1 = omega arith in
+        let q = ap («trim_end_matches» (one white)) (sym all) ∙ trim-less white s (suc n) (omega arith) (omega arith) (subst (λ (k : ℕ). white (getD s k 0) ≡ true) e w) ∙ ap (λ (k : ℕ). «trim_end_matches» (one white) (take k s)) (sym e) in
+        ap not (not-long («trim_end_matches» (one white) s) s (λ h. omega (arith, h, ap length q, trim-long (one white) (take n s), length-take-le n s (omega arith))))
+    on false w = ap (λ (x : Bytes). not (same x s)) (trim-whole white s n long w) ∙ ap not (same-self s)
+
+-- what stands from the last byte on
+drop-last : (s : Bytes) (n : ℕ) → length s ≡ n + 1 → drop n s ≡ getD s n 0 ∷ []
+drop-last s n long = drop-cons s n 0 (omega arith) ∙ ap (λ (r : Bytes). getD s n 0 ∷ r) (drop-of-length-le s {i = suc n} (omega arith))
 
 -- no backslash stands before the first word
 no-lead : (escape dot digits : Bool) → (escape ≡ true → dot ≡ false) → escape && (dot && digits) ≡ false
@@ -277,8 +274,7 @@ flow-whole : (signs escape : Bool) (s : Bytes) (n : ℕ) → length s ≡ n + 1 
     → flow escape s ++ cond (def.endsWithWhite s) (ascii " ") [] ≡ s
 flow-whole signs escape s n long f last only =
     let x = getD s n 0 in
-    let q : drop n s ≡ x ∷ [] = drop-cons s n 0 (omega arith) ∙ ap (λ (r : Bytes). x ∷ r) (drop-of-length-le s {i = suc n} (omega arith)) in
-    ap₂ (λ (r : Bytes) (t : Bool). r ++ cond t (ascii " ") []) (flows-flow escape only f ∙ ap (λ (r : Bytes). take n s ++ flow escape r) q) (ends-last s n long)
+    ap₂ (λ (r : Bytes) (t : Bool). r ++ cond t (ascii " ") []) (flows-flow escape only f ∙ ap (λ (r : Bytes). take n s ++ flow escape r) (drop-last s n long)) (ends-last s n long)
     ∙ append-assoc (take n s) (flow escape (x ∷ [])) (cond (white x) (ascii " ") [])
     ∙ ap (λ (r : Bytes). take n s ++ r) (last-flow signs escape x only last)
     ∙ sym (take-suc s n 0 (omega arith)) ∙ take-all (suc n) s (omega arith)
@@ -383,11 +379,8 @@ unfolding endsWith same null white isin def.«ends_with_marker_digits»
 inside-of text n long black other =
     let x = getD text n 0 in
     let z : length text - 1 ≡ n = omega arith in
-    let all : take (suc n) text ≡ text = take-all (suc n) text (omega arith) in
-    let e : n ≡ suc n - 1 = omega arith in
-    let q : drop n text ≡ x ∷ [] = drop-cons text n 0 (omega arith) ∙ ap (λ (r : Bytes). x ∷ r) (drop-of-length-le text {i = suc n} (omega arith)) in
-    let ends : (y : ℕ) → (x ≡ y → ⊥) → same (drop (length text - 1) text) (y ∷ []) ≡ false = λ y h. ap (λ (k : ℕ). same (drop k text) (y ∷ [])) z ∙ ap (λ (r : Bytes). same r (y ∷ [])) q ∙ rw (ne-eqb x y h) in
-    let stem : «trim_end_matches» (one digit) text ≡ text = ap («trim_end_matches» (one digit)) (sym all) ∙ trim-here digit text (suc n) (omega arith) (omega arith) (subst (λ (k : ℕ). digit (getD text k 0) ≡ false) e other) ∙ all in
+    let ends : (y : ℕ) → (x ≡ y → ⊥) → same (drop (length text - 1) text) (y ∷ []) ≡ false = λ y h. ap (λ (k : ℕ). same (drop k text) (y ∷ [])) z ∙ ap (λ (r : Bytes). same r (y ∷ [])) (drop-last text n long) ∙ rw (ne-eqb x y h) in
+    let stem = trim-whole digit text n long other in
     let none : length text - length («trim_end_matches» (one digit) text) ≡ 0 = omega (arith, ap length stem) in
     record {
       line = ends 10 (λ h. false≢true (sym black ∙ ap white h));

@@ -1,12 +1,12 @@
 -- Trims, byte by byte from the end or from the front. Assumes nothing.
 use Prim.Native.Nat.{ℕ, zero, suc, _+_, _-_, _≤_, _<_}
-use mathlib.Core.Path.{_≡_, refl, sym, ap, _∙_}
+use mathlib.Core.Path.{_≡_, refl, sym, ap, subst, _∙_}
 use mathlib.Core.Bool.{Bool, true, false}
 use mathlib.Core.List.{List, [], _∷_, _++_}
 use native.Mathlib.Omega.{arith}
 use native.Mathlib.Numerals.{add-one}
 use lib.ListN.{length, take, drop, getD}
-use lib.Seq.{drop-cons, take-suc}
+use lib.Seq.{drop-cons, take-suc, take-all}
 use Rattle.spec.specs.Bytes.{one, unless, «trim_end_matches», «trim_start_matches»}
 
 -- a byte of the class at the end goes
@@ -45,6 +45,13 @@ trim-less p s n h k e = ap («trim_end_matches» (one p)) (last-of s n h k) ∙ 
 pub trim-here : (p : ℕ → Bool) (s : List ℕ) (n : ℕ) → 0 < n → n ≤ length s → p (getD s (n - 1) 0) ≡ false → «trim_end_matches» (one p) (take n s) ≡ take n s
 trim-here p s n h k e =
     ap («trim_end_matches» (one p)) (last-of s n h k) ∙ trim-stays p (take (n - 1) s) (getD s (n - 1) 0) e ∙ sym (last-of s n h k)
+
+-- a text whose last byte stays is not trimmed
+pub trim-whole : (p : ℕ → Bool) (s : List ℕ) (n : ℕ) → length s ≡ n + 1 → p (getD s n 0) ≡ false → «trim_end_matches» (one p) s ≡ s
+trim-whole p s n long h =
+    let all : take (suc n) s ≡ s = take-all (suc n) s (omega arith) in
+    let e : n ≡ suc n - 1 = omega arith in
+    ap («trim_end_matches» (one p)) (sym all) ∙ trim-here p s (suc n) (omega arith) (omega arith) (subst (λ (k : ℕ). p (getD s k 0) ≡ false) e h) ∙ all
 
 pub trim-none : (p : ℕ → Bool) (s : List ℕ) (n : ℕ) → n ≤ 0 → «trim_end_matches» (one p) (take n s) ≡ take n s
 unfolding «trim_end_matches»

@@ -472,6 +472,7 @@ pub fn is_kept_part(src: &[u8], from: usize, to: usize, raw: bool) -> bool
     }
 }
 
+// The 16 bytes at `at`.
 fn bytes_at(s: &[u8], at: usize) -> [u8; 16]
     requires { ⌜ at + 16 ≤ length (now s) ⌝ }
     ensures { λ r. ⌜ r ≡ slice at (at + 16) (now (s .entry)) ⌝ }
@@ -485,6 +486,7 @@ fn bytes_at(s: &[u8], at: usize) -> [u8; 16]
     b
 }
 
+// Stores 16 bytes behind a text of len bytes.
 fn put_bytes(text: &mut [u8], len: usize, b: [u8; 16])
     requires { ⌜ len + 16 ≤ length (now text) ⌝ }
     ensures { λ _. ⌜ now (text .exit) ≡ paste (now (text .entry)) len b 16 ⌝ }

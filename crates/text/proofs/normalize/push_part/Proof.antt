@@ -2,13 +2,14 @@
 use Prim.Native.Nat.{ℕ, _+_, _≤_, _-_}
 use mathlib.Core.Path.{_≡_, refl, sym, ap, _∙_}
 use mathlib.Core.List.{List, _++_, append-nil}
-use mathlib.Core.Bool.{Bool, true, false, _||_, false≢true}
+use mathlib.Core.Bool.{false, _||_}
 use lib.Dec.{ltb}
 use borrow.Author.Tests.{ltb-false}
 use lib.ListN.{length, take}
 use lib.Seq.{slice, slice-empty, length-slice, length-paste}
 use Rattle.spec.specs.Out.{push}
 use Rattle.text.proofs.Blocks.{block-on, part-done}
+use Rattle.text.proofs.Ordinary.{neither}
 use Rattle.text.proofs.Pushing.{push-full}
 use Rattle.text.proofs.Sourcing.{part-is}
 use Rattle.text.proofs.Writing.{alike}
@@ -19,12 +20,7 @@ use Rattle.text.proofs.normalize.push_part.Tie as tie
 
 -- 16 bytes are left on both sides
 enough : (x y : ℕ) → ltb x 16 || ltb y 16 ≡ false → (16 ≤ x) × (16 ≤ y)
-enough x y e = on (ltb x 16) (ltb y 16) refl refl e
-  where
-    on : (s t : Bool) → ltb x 16 ≡ s → ltb y 16 ≡ t → s || t ≡ false → (16 ≤ x) × (16 ≤ y)
-    on true t p q h = absurd (false≢true (sym h))
-    on false true p q h = absurd (false≢true (sym h))
-    on false false p q h = (ltb-false x 16 p, ltb-false y 16 q)
+enough x y e = let q = neither (ltb x 16) (ltb y 16) e in (ltb-false x 16 (q .0), ltb-false y 16 (q .1))
 
 abbrev Inv-loop : tie.InvT-loop
 Inv-loop text₀ len src from to n left i₀ text i =
@@ -81,17 +77,20 @@ add-bytes-at c = search needs
 
 bytes-at-requires : tie.Need-bytes-at-requires Inv-loop μ-loop
 bytes-at-requires c κs =
+    let a = c .before .before .before .before .before .before .args in
+    let p = c .before .before .before .before .before .before .pre in
     let l = c .before .loop in
-    let r = enough (length (c .before .before .before .before .before .before .args .text .now) - c .before .before .before .before .before .before .args .len - (c .before .before .before .before .before .before .args .to - c .before .before .before .before .before .before .args .from)) (length (c .before .before .before .before .before .before .args .src .now) - c .before .before .before .before .before .before .args .to) (c .before .before .if2 .left) in
-    omega (arith, r .1, c .loop-test .taken, c .before .before .before .before .before .before .pre .1, c .before .before .before .before .before .before .pre .2)
+    let r = enough (length (a .text .now) - a .len - (a .to - a .from)) (length (a .src .now) - a .to) (c .before .before .if2 .left) in
+    omega (arith, r .1, c .loop-test .taken, p .1, p .2)
 
 add-put-bytes : tie.Need-add-put-bytes Inv-loop μ-loop
 add-put-bytes c = search needs
 
 put-bytes-requires : tie.Need-put-bytes-requires Inv-loop μ-loop
 put-bytes-requires c κs =
+    let a = c .before .before .before .before .before .before .before .before .args in
     let l = c .before .before .before .loop in
-    let r = enough (length (c .before .before .before .before .before .before .before .before .args .text .now) - c .before .before .before .before .before .before .before .before .args .len - (c .before .before .before .before .before .before .before .before .args .to - c .before .before .before .before .before .before .before .before .args .from)) (length (c .before .before .before .before .before .before .before .before .args .src .now) - c .before .before .before .before .before .before .before .before .args .to) (c .before .before .before .before .if2 .left) in
+    let r = enough (length (a .text .now) - a .len - (a .to - a .from)) (length (a .src .now) - a .to) (c .before .before .before .before .if2 .left) in
     let p = c .before .before .before .before .before .before .before .before .pre in
     omega (arith, r .0, l .inv .1, c .before .before .loop-test .taken, p .0)
 
@@ -107,7 +106,7 @@ loop-again c =
     let p = c .before .before .before .before .before .before .before .before .before .before .before .pre in
     let l = c .before .before .before .before .before .before .loop in
     let t = c .before .before .before .before .before .loop-test .taken in
-    let r = enough (length (c .before .before .before .before .before .before .before .before .before .before .before .args .text .now) - c .before .before .before .before .before .before .before .before .before .before .before .args .len - (c .before .before .before .before .before .before .before .before .before .before .before .args .to - c .before .before .before .before .before .before .before .before .before .before .before .args .from)) (length (c .before .before .before .before .before .before .before .before .before .before .before .args .src .now) - c .before .before .before .before .before .before .before .before .before .before .before .args .to) (c .before .before .before .before .before .before .before .if2 .left) in
+    let r = enough (length (a .text .now) - a .len - (a .to - a .from)) (length (a .src .now) - a .to) (c .before .before .before .before .before .before .before .if2 .left) in
     let e = c .before .before .put-bytes .ensures in
     let b = c .before .before .before .before .bytes-at in
     let k = b .ensures in
@@ -126,7 +125,7 @@ returns-3 c =
     let a = c .before .before .before .before .before .before .args in
     let p = c .before .before .before .before .before .before .pre in
     let l = c .before .loop in
-    let r = enough (length (c .before .before .before .before .before .before .args .text .now) - c .before .before .before .before .before .before .args .len - (c .before .before .before .before .before .before .args .to - c .before .before .before .before .before .before .args .from)) (length (c .before .before .before .before .before .before .args .src .now) - c .before .before .before .before .before .before .args .to) (c .before .before .if2 .left) in
+    let r = enough (length (a .text .now) - a .len - (a .to - a .from)) (length (a .src .now) - a .to) (c .before .before .if2 .left) in
     record { says = part-done (a .text .now) (l .text) (a .src .now) (a .len) (a .from) (a .to) (l .i) (p .1) (p .2) (omega (arith, r .0, p .0)) (l .inv .1) (omega (arith, c .loop-test .left)) (l .inv .2) }
 
 pub push-part-spec : {M : Type 1} → statement M
