@@ -19,7 +19,7 @@ use Rattle.tree.proofs.Ranges.{text-pieces}
 use Rattle.text.specs.Trimmed.{Trimmed, Skipped}
 use Rattle.text.proofs.Reading.{starts-byte, ends-byte, drop-take}
 use Rattle.elements.specs.Edges.{endedBy}
-use Rattle.elements.proofs.Numbers.{pieces, pieces-on, pieces-none}
+use Rattle.nodes.proofs.Numbers.{pieces, pieces-on, pieces-none}
 
 -- ---- the beginning
 

@@ -16,7 +16,7 @@ use Rattle.tree.proofs.Ranges.{text-pieces}
 use Rattle.text.proofs.Writing.{push-both}
 use Rattle.elements.specs.JoinedWords.{wordByte, wordsOn, someAfter, gapAfter, Joins}
 use Rattle.elements.specs.declared.pre.Joined.{Joined}
-use Rattle.elements.proofs.Numbers.{pieces, pieces-on, pieces-none}
+use Rattle.nodes.proofs.Numbers.{pieces, pieces-on, pieces-none}
 
 -- ---- all pieces together
 

@@ -22,14 +22,14 @@ use Rattle.tree.specs.Nodes.{nameAt}
 use Rattle.tree.specs.declared.attributes.Value.{Value}
 use Rattle.tree.specs.declared.attributes.Value.the-variants.{At, Missing}
 use Rattle.tree.proofs.Ancestry.{Innermost, innermost, around-in, around-none}
-use Rattle.tree.proofs.Building.{le-or-lt}
+use Rattle.spec.proofs.Order.{le-or-lt}
 use Rattle.tree.proofs.Kin.{first-name}
 use Rattle.tree.proofs.Values.{language-found}
-use Rattle.text.specs.Words.{WordAt, WordEnd}
+use Rattle.normalized.specs.Words.{WordAt, WordEnd}
 use Rattle.text.proofs.Reading.{starts-short}
 use Rattle.text.proofs.Sourcing.{part-is, part-none}
 use Rattle.elements.specs.Languages.{Language, Within}
-use Rattle.elements.specs.Stands.{ElementAt}
+use Rattle.nodes.specs.Stands.{ElementAt}
 
 -- what is known in the arm of a `match` on an answer
 pub language-as : {sh : Bytes} {r z : Value} {o : Option Bytes} → r ≡ z → Language sh r o → Language sh z o

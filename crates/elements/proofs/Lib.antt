@@ -1,17 +1,8 @@
--- What the proofs of several functions share.
-pub mod Numbers
-pub mod Siblings
-pub mod Tests
+-- What the proofs of several functions use.
 pub mod ListTests
-pub mod Whites
-pub mod Interrupts
-pub mod TableRows
-pub mod TableCells
-pub mod RowTests
 pub mod Openings
 pub mod Links
 pub mod Renumbering
-pub mod Spots
 pub mod WhiteStarts
 pub mod Multilines
 pub mod Edges
@@ -19,10 +10,3 @@ pub mod Nesting
 pub mod Languages
 pub mod Joining
 pub mod Behind
-pub mod Putting
-pub mod Gathering
-pub mod Cutting
-pub mod Lines
-pub mod Tables
-pub mod Scratch
-pub mod TableTexts

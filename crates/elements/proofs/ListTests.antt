@@ -17,8 +17,8 @@ use Rattle.tree.specs.Represents.{Rep, headOf, restOf}
 use Rattle.tree.specs.Nodes.{nameAt, textAt}
 use Rattle.tree.proofs.Firsts.{first}
 use Rattle.tree.proofs.Kin.{first-name, first-text}
-use Rattle.text.specs.Parsed.{parsedOf}
-use Rattle.text.specs.declared.list_number.Parsed.the-variants.{Number, Nothing}
+use Rattle.lists_links.specs.Parsed.{parsedOf}
+use Rattle.lists_links.specs.declared.list_number.Parsed.the-variants.{Number, Nothing}
 
 -- ---- blocks
 

@@ -7,8 +7,8 @@ use Rattle.spec.specs.Md.Ctx.{withKind}
 use Rattle.spec.specs.Md.Elements.List.{renumbered}
 use Rattle.spec.specs.declared.ctx.ListContext.{ListContext}
 use Rattle.spec.specs.declared.ctx.ListKind.the-variants.{Ol}
-use Rattle.text.specs.Parsed.{parsedOf}
-use Rattle.text.specs.declared.list_number.Parsed.the-variants.{Number, Nothing}
+use Rattle.lists_links.specs.Parsed.{parsedOf}
+use Rattle.lists_links.specs.declared.list_number.Parsed.the-variants.{Number, Nothing}
 
 pub with-number : (m : ℕ) {n : ℕ} (o : Option ℕ) (ctx : ListContext) → parsedOf o ≡ Number n → renumbered (Ol m) o ctx ≡ withKind (Ol n) ctx
 unfolding renumbered

@@ -11,22 +11,22 @@ ghost use Rattle.spec.specs.Md.Ctx.{withKind, «advance_ol_number»};
 ghost use Rattle.spec.specs.Md.Elements.List as def;
 ghost use Rattle.spec.specs.declared.ctx.ListKind.the-variants as kinds;
 ghost use Rattle.tree.specs.Represents.{attrsBehind};
-ghost use Rattle.text.specs.Parsed.{parsedOf};
+ghost use Rattle.lists_links.specs.Parsed.{parsedOf};
 ghost use Rattle.text.specs.Writes.{Writes};
 ghost use Rattle.elements.specs.ItemStep.{endedList, childOpts, lineIf, flowPrefix, endedFlow};
 use crate::list_nodes::is_list;
 use crate::list_nodes::number_of;
+use lists_links::list::Item;
+use lists_links::list_number::Parsed;
+use marks::heading::escape_closing_hashes;
+use marks::heading::is_heading;
+use marks::heading::push_md_prefix;
+use normalized::text_utils::add_linebreaks;
+use normalized::text_utils::push_linebreak;
 use spec::ctx::FormatOpts;
 use spec::ctx::ListContext;
 use spec::ctx::ListKind;
 use text::buffer::Wrote;
-use text::heading::escape_closing_hashes;
-use text::heading::is_heading;
-use text::heading::push_md_prefix;
-use text::list::Item;
-use text::list_number::Parsed;
-use text::text_utils::add_linebreaks;
-use text::text_utils::push_linebreak;
 
 // A blank line behind a list.
 pub fn end_list(text: &mut [u8], len: usize, opts: FormatOpts) -> Wrote

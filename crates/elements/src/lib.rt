@@ -1,14 +1,8 @@
 // What the serializer asks of the nodes of a stored sheet, and what its element writers do that reach no other writer.
-pub mod bars;
 pub mod code;
 pub mod code_language;
 pub mod item_steps;
 pub mod link;
 pub mod list_nodes;
-pub mod nodes;
 pub mod pre;
-pub mod rows;
-pub mod skip_md;
 pub mod steps;
-pub mod table;
-pub mod white_space;

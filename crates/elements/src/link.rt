@@ -5,6 +5,9 @@ ghost use Rattle.tree.specs.Represents.{attrsBehind};
 ghost use Rattle.text.specs.Writes.{Writes};
 ghost use Rattle.spec.specs.Out.{beside};
 ghost use Rattle.elements.specs.LinkStep.{appendBy, bracket, linkFront, linkShown, linkStep, plainStep, textLinkStep};
+use lists_links::link::push_link_end;
+use normalized::normalize::push_normalized;
+use normalized::text_utils::escape_trailing_bang;
 use spec::ctx::FormatOpts;
 use text::buffer::Class;
 use text::buffer::Wrote;
@@ -12,9 +15,6 @@ use text::buffer::all_in;
 use text::buffer::lift;
 use text::buffer::push_byte;
 use text::lifted::push_lifted;
-use text::link::push_link_end;
-use text::normalize::push_normalized;
-use text::text_utils::escape_trailing_bang;
 
 // The opening bracket.
 fn push_bracket(text: &mut [u8], len: usize) -> Wrote

@@ -52,8 +52,8 @@ use Rattle.text.specs.Writes.{Writes}
 use Rattle.text.specs.declared.buffer.Wrote.{Wrote}
 use Rattle.text.proofs.buffer.Wrote as Answer
 use Rattle.text.proofs.buffer.Wrote.Laws as Answer′
-use Rattle.text.proofs.list.begin_item as begin
-use Rattle.text.proofs.list.begin_item.Symbol.{name as #begin-item}
+use Rattle.lists_links.proofs.list.begin_item as begin
+use Rattle.lists_links.proofs.list.begin_item.Symbol.{name as #begin-item}
 use Rattle.list_items.proofs.advanced as step
 use Rattle.list_items.proofs.advanced.Symbol.{name as #advanced}
 use Rattle.list_items.proofs.write_list_item as one

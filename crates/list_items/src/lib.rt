@@ -6,9 +6,9 @@ ghost use lib.ListN.{length, take};
 ghost use Rattle.spec.specs.Md.Ctx.{«advance_ol_number»};
 ghost use Rattle.spec.specs.Md.Elements.List.{beginItem};
 ghost use Rattle.text.specs.Writes.{Writes};
+use lists_links::list::begin_item;
 use spec::ctx::ListContext;
 use text::buffer::Wrote;
-use text::list::begin_item;
 
 // The context behind an item: the next number, and the offset of that number.
 fn advanced(ctx: ListContext) -> ListContext

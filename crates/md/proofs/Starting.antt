@@ -27,7 +27,7 @@ use Rattle.text.specs.Writes.{Written, Writes}
 use Rattle.text.specs.declared.buffer.Wrote.{Wrote}
 use Rattle.text.specs.declared.buffer.Wrote.the-variants.{Done, Full}
 use Rattle.text.proofs.Writing.{yes, no, done, reaches, alike}
-use Rattle.elements.specs.Stands.{Placeds}
+use Rattle.nodes.specs.Stands.{Placeds}
 use Rattle.serializer.specs.Writers.{WritesForest}
 use Rattle.md.specs.Started.{Started}
 use Rattle.serializer.proofs.Answers.{both-done, both-full}

@@ -8,18 +8,18 @@ ghost use lib.ListN.{length, take, replicate};
 ghost use Rattle.spec.specs.Questions.{refusal};
 ghost use Rattle.spec.specs.Call.{written, answerFor};
 ghost use Rattle.spec.specs.Promise.{Promise};
-ghost use Rattle.tree.specs.Scans.{skipList};
+ghost use Rattle.input.specs.Scans.{skipList};
 ghost use Rattle.text.specs.Writes.{Writes};
 ghost use Rattle.md.specs.Answer.{numberOf, lengthOf, isWritten, coded, codedNumber, codedLength, flag};
 ghost use Rattle.md.specs.Started.{Started, Answered};
+use input::questions::first_refusal;
+use normalized::text_utils::trim_space;
 use serializer::options::packed;
 use serializer::write;
 use spec::ctx::FormatOpts;
 use text::buffer::Wrote;
-use text::text_utils::trim_space;
 use tree::memory::clear;
 use tree::nodes::node_end;
-use tree::questions::first_refusal;
 use tree::store::store_nodes;
 
 // The length of the text, or the number of the question that said no.

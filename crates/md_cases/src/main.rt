@@ -6,6 +6,7 @@ mod list;
 ghost use Prim.Native.Nat.{_+_, _≤_, _<_};
 ghost use mathlib.Core.Path.{_≡_};
 ghost use lib.ListN.{length};
+use input::fields::is_same;
 use libc::STDOUT_FILENO;
 use list::Head;
 use list::part;
@@ -13,7 +14,6 @@ use list::pointed;
 use list::read_head;
 use md::call::Answer;
 use md::call::serialize_md;
-use tree::fields::is_same;
 use tree::memory::read_quad;
 
 fn fill(m: &mut [u8], b: u8) {

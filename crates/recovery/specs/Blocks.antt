@@ -18,7 +18,7 @@ use Rattle.spec.specs.SheetList.{firstText, wordsOf, isHeading, own, entries}
 use Rattle.spec.specs.Reading.Held.{State, state, noLeaf}
 use Rattle.spec.specs.Reading.Step.{kept, step}
 use Rattle.spec.specs.Reading.{readLines}
-use Rattle.recovery.specs.Tests.{and-l, and-r, or-elim}
+use Rattle.spec.proofs.Tests.{and-l, and-r, or-elim}
 use Rattle.recovery.specs.Words.{plainWords, text-words, text-some}
 use Rattle.recovery.specs.Steps.{Reached, step-empty, read-rule, read-heading, read-paragraph}
 use Rattle.recovery.specs.Fences.{read-fixed}

@@ -13,7 +13,7 @@ use Rattle.spec.specs.Reading.Lines.{punctuation, headIs, dropWhile, dropRun}
 use Rattle.spec.specs.Reading.Inline as reading
 use Rattle.spec.specs.Reading.Inline.{escaped, slashed, unescape, anywhere, mark, beginsBy, begins, pieces, inline}
 use Rattle.spec.specs.Reading.Tables.{Cells, cellBlank, blankCell, inCell, cellByte, cells, untrailed, piped, rowBy, row, dropColon, hyphens, delimiterCell, delimiterCells, delimiterRow, fit}
-use Rattle.recovery.specs.Tests.{and-l, and-r, and-no}
+use Rattle.spec.proofs.Tests.{and-l, and-r, and-no}
 use Rattle.recovery.specs.Words.{plainWord, plainWords, plain-bytes, blanked, parts-word}
 use Rattle.recovery.specs.Escapes.{bare, bare-not, Esc, enil, ebare, eback, begins-bare, begins-back}
 use Rattle.recovery.specs.Closed as closed

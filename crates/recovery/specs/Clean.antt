@@ -16,7 +16,7 @@ use Rattle.spec.specs.Plain as plain
 use Rattle.spec.specs.Plain.{without, plainText, fixedText, noNode, oneText, isCell, isList, isWrapper, holdsText, countNodes, equalRows, tableParts, plainTable, leaf, block, blocks, items, itemContent, lists}
 use Rattle.spec.specs.SheetList.{firstText, allTh, isHeading}
 use Rattle.spec.specs.Md.Elements.Code.{«max_backtick_run»}
-use Rattle.recovery.specs.Tests.{and-l, and-r, or-elim, apart, every-app, every-imp, every-replicate}
+use Rattle.spec.proofs.Tests.{and-l, and-r, or-elim, apart, every-app, every-imp, every-replicate}
 use Rattle.recovery.specs.Digits.{decimal-digits}
 use Rattle.recovery.specs.Words.{plainWords, text-words, text-some, absent}
 use Rattle.recovery.specs.Escapes.{phrase-Esc, heading-Esc}

@@ -11,7 +11,7 @@ use lib.ListN.{length}
 use borrow.Author.Tests.{le-leb, ltb-true, ltb-false}
 use Rattle.spec.specs.Bytes.{Bytes, every, digit, valueFrom, decimal}
 use Rattle.spec.specs.Decimal.{few, decimal-one, decimal-more, length-one, length-more}
-use Rattle.recovery.specs.Tests.{every-app}
+use Rattle.spec.proofs.Tests.{every-app}
 
 -- ---- the value
 

@@ -10,7 +10,7 @@ use Rattle.spec.specs.Md.TextUtils.{isEscaped, escapedFrom, escapedChunk, moreW
 use Rattle.spec.specs.Reading.Lines.{punctuation, headIs}
 use Rattle.spec.specs.Reading.Inline as reading
 use Rattle.spec.specs.Reading.Inline.{escaped, slashed, unescape, anywhere, mark, spaceMark, noMark, beginsBy, begins, pieces, inline}
-use Rattle.recovery.specs.Tests.{and-l, and-r, and-no, or-l, or-elim, apart, isin-no, isin-yes, eqb-yes}
+use Rattle.spec.proofs.Tests.{and-l, and-r, and-no, or-l, or-elim, apart, isin-no, isin-yes, eqb-yes}
 use Rattle.recovery.specs.Words.{kept, plainByte, plainWord, plainWords, plain-bytes, blanked, words-line, words-blanked}
 use Rattle.recovery.specs.Closed.{phrase, hash, headingWord, headingWords}
 

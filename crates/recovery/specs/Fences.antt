@@ -16,7 +16,7 @@ use Rattle.spec.specs.Reading.Starts.{fenceStart, fenceBy, fence, closingFence,
 use Rattle.spec.specs.Reading.Held.{State, state, noLeaf, fenceLeaf, closed, entryIf, addLine, isRaw}
 use Rattle.spec.specs.Reading.Step.{kept, allKept, base, lineBy, rawLine, rawStep, stepBy, step}
 use Rattle.spec.specs.Reading.{readLines}
-use Rattle.recovery.specs.Tests.{apart}
+use Rattle.spec.proofs.Tests.{apart}
 use Rattle.recovery.specs.Starts.{one-less}
 use Rattle.recovery.specs.Markers.{solid}
 use Rattle.recovery.specs.Steps.{Reached, step-zero, reached-flat}

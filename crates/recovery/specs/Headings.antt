@@ -9,7 +9,7 @@ use borrow.Author.Tests.{le-leb, not-true}
 use Rattle.spec.specs.Bytes.{Bytes, null, isin, every, white}
 use Rattle.spec.specs.Reading.Lines.{spaceOrTab, blankLine, run, dropRun}
 use Rattle.spec.specs.Reading.Starts.{headingStart, closingSequence, withoutClosing, ends, atxHeadingBy, atxHeading, lead, startBy, start}
-use Rattle.recovery.specs.Tests.{and-l, and-r, apart, every-imp}
+use Rattle.spec.proofs.Tests.{and-l, and-r, apart, every-imp}
 use Rattle.recovery.specs.Words.{plainByte, plainWord, plainWords, plain-bytes}
 use Rattle.recovery.specs.Escapes.{every-Esc, every-plain, null-Esc, word-Esc}
 use Rattle.recovery.specs.Closed.{hash, headingWord, headingWords, headingLine}

@@ -17,7 +17,7 @@ use Rattle.spec.specs.Reading.Starts.{startIn}
 use Rattle.spec.specs.Reading.Held.{state, Leaf, textLeaf, itemRole, closed, textEntries, isRaw, isFresh, isParagraph, isTable, isQuote, addLine, withLine}
 use Rattle.spec.specs.Reading.Step.{kept, allKept, base, contentColumn, textBy, goesOn, textLine, opened, itemLine, lineBy, lineIn, line, leafStep, stepBy, step}
 use Rattle.spec.specs.Decimal.{length-least}
-use Rattle.recovery.specs.Tests.{and-l, and-r}
+use Rattle.spec.proofs.Tests.{and-l, and-r}
 use Rattle.recovery.specs.Digits.{Near, decimal-next}
 use Rattle.recovery.specs.Words.{plainWords}
 use Rattle.recovery.specs.Escapes.{inline-phrase}

@@ -11,7 +11,7 @@ use Rattle.spec.specs.Reading.Lines.{safeByte, safe, endsLine, lineByte, cutLin
 use Rattle.spec.specs.Reading.Held.{State, state, noLeaf, closed, isRaw, isFresh}
 use Rattle.spec.specs.Reading.Step.{blankStep, leafStep, stepBy, step}
 use Rattle.spec.specs.Reading.{readLines, finish, read}
-use Rattle.recovery.specs.Tests.{and-l, and-r, apart}
+use Rattle.spec.proofs.Tests.{and-l, and-r, apart}
 use Rattle.recovery.specs.Closed.{fromFirst, sheetLines, closedForm}
 
 -- ---- lines

@@ -1,6 +1,5 @@
 -- Demand 3 about the definitions alone: the reading of a plain sheet's text is the sheet's list.
 pub mod Closed
-pub mod Tests
 pub mod Digits
 pub mod Numbers
 pub mod Words

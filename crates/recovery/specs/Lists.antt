@@ -21,7 +21,7 @@ use Rattle.spec.specs.Reading.Lines.{blankLine}
 use Rattle.spec.specs.Reading.Held.{State, state, Leaf, noLeaf, textLeaf, itemRole, closed, isRaw, isFresh, isParagraph}
 use Rattle.spec.specs.Reading.Step.{kept, allKept, base, blankStep, leafStep, stepBy, step}
 use Rattle.spec.specs.Reading.{readLines, finish}
-use Rattle.recovery.specs.Tests.{and-l, and-r, or-elim}
+use Rattle.spec.proofs.Tests.{and-l, and-r, or-elim}
 use Rattle.recovery.specs.Words.{plainWords, text-words, text-some}
 use Rattle.recovery.specs.Markers.{opens-phrase, opens-solid, solid-null, smallNumber}
 use Rattle.recovery.specs.Steps.{Reached}

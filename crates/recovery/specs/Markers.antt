@@ -15,7 +15,7 @@ use Rattle.spec.specs.Reading.Lines.{spaceOrTab, blankLine, dropWhile, dropRun,
 use Rattle.spec.specs.Reading.Definitions.{definition}
 use Rattle.spec.specs.Reading.Starts.{itemStart, thematicBreak, ends, underline, bulletBy, bullet, ruleOr, numberBy, number, digitLead, lead, startBy, start, startsAtOne, startIf, interrupting, underlineOr, startIn}
 use Rattle.spec.specs.Decimal.{length-nine, length-least}
-use Rattle.recovery.specs.Tests.{and-l, and-r, apart}
+use Rattle.spec.proofs.Tests.{and-l, and-r, apart}
 use Rattle.recovery.specs.Digits.{decimal-value, decimal-digits}
 use Rattle.recovery.specs.Words.{kept, plainByte, plainWord, plainWords, plain-bytes}
 use Rattle.recovery.specs.Starts.{mild, bare-mild}

@@ -12,7 +12,7 @@ use Rattle.spec.specs.Bytes.{Bytes, ascii, null, same, every, startsWith, white
 use Rattle.spec.specs.ListNumber.{largestNumber, digitsValue, positive, negative, signedValue, listNumber, asNumber, orElse}
 use Rattle.spec.specs.Tree.{Attr, attr}
 use Rattle.spec.specs.Md.Elements.List.{clamped, «parse_list_number», numberOf, numberOr, startOf}
-use Rattle.recovery.specs.Tests.{and-l, and-r}
+use Rattle.spec.proofs.Tests.{and-l, and-r}
 
 -- ---- numbers of more than nine digits
 

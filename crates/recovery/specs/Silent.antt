@@ -14,7 +14,7 @@ use Rattle.spec.specs.ListNumber.{firstDue, itemNumber, nextDue}
 use Rattle.spec.specs.Plain as plain
 use Rattle.spec.specs.Plain.{plainText, fixedText, noNode, oneText, isCell, isRowGroup, isList, isWrapper, holdsText, tableParts, plainTable, leaf}
 use Rattle.spec.specs.SheetList.{isHeading, own, depthInside, dueBehind, entries}
-use Rattle.recovery.specs.Tests.{and-l, and-r, or-elim}
+use Rattle.spec.proofs.Tests.{and-l, and-r, or-elim}
 
 -- the nodes give nothing, wherever they stand
 abbrev pub Silent : Forest → Type 0

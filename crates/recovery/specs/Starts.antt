@@ -11,7 +11,7 @@ use Rattle.spec.specs.Bytes.{Bytes, ascii, null, same, isin, every, endsWith, w
 use Rattle.spec.specs.Md.TextUtils.{«is_ordered_list_marker», isEscaped, escapedFrom, escapedChunk, moreWords}
 use Rattle.spec.specs.Reading.Lines.{spaceOrTab, dropWhile}
 use Rattle.spec.specs.Reading.Starts.{textStart, ends, numberBy, number, digitLead, otherLead, lead, startBy, start}
-use Rattle.recovery.specs.Tests.{and-l, and-r, or-l, or-r, or-elim, apart, isin-no}
+use Rattle.spec.proofs.Tests.{and-l, and-r, or-l, or-r, or-elim, apart, isin-no}
 use Rattle.recovery.specs.Words.{kept, plainByte, plainWord, plainWords, plain-bytes}
 use Rattle.recovery.specs.Closed.{phrase}
 

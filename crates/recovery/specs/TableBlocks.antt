@@ -22,7 +22,7 @@ use Rattle.spec.specs.Reading.Held as held
 use Rattle.spec.specs.Reading.Held.{state, noLeaf, blankRow, headings, cellPieces}
 use Rattle.spec.specs.Reading.Step.{kept}
 use Rattle.spec.specs.Reading.{readLines}
-use Rattle.recovery.specs.Tests.{and-l, and-r, or-elim}
+use Rattle.spec.proofs.Tests.{and-l, and-r, or-elim}
 use Rattle.recovery.specs.Words.{plainWords, blanked, text-words, text-some}
 use Rattle.recovery.specs.Escapes.{phrase-Esc}
 use Rattle.recovery.specs.Cells.{Celled, cnil, cbare, InCell, in-cell, padded, padded-Celled, inline-Celled, inline-padded, Rowed, rnil, rcons, paddedAll, blank-bare}

@@ -57,7 +57,7 @@ use Rattle.spec.specs.Reading.Step.{
   step,
 }
 use Rattle.spec.specs.Reading.{readLines, finish}
-use Rattle.recovery.specs.Tests.{and-l, and-r, apart, every-app}
+use Rattle.spec.proofs.Tests.{and-l, and-r, apart, every-app}
 use Rattle.recovery.specs.Escapes.{bare}
 use Rattle.recovery.specs.Markers.{solid, indented-blank, indented-column, indented-strip}
 use Rattle.recovery.specs.Joined.{inLine}

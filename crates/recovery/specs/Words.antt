@@ -7,7 +7,7 @@ use lib.Dec.{eqb}
 use borrow.Author.Tests.{eqb-false, ne-eqb, not-true}
 use Rattle.spec.specs.Bytes.{Bytes, null, isin, every, white, cutAt, parts, split, filled, words}
 use Rattle.spec.specs.Plain.{without, plainText}
-use Rattle.recovery.specs.Tests.{and-l, and-r, or-l, or-r}
+use Rattle.spec.proofs.Tests.{and-l, and-r, or-l, or-r}
 
 -- ---- the words of plain texts
 

@@ -13,15 +13,15 @@ use Rattle.spec.specs.Md.Serializer.{serializer, writeAt}
 use Rattle.spec.specs.declared.ctx.FormatOpts.{FormatOpts}
 use Rattle.tree.specs.Memory.{endAt, parentAt}
 use Rattle.tree.specs.Represents.{Around}
-use Rattle.tree.specs.Scans.{skipList}
+use Rattle.input.specs.Scans.{skipList}
 use Rattle.text.specs.Writes.{Writes}
 use Rattle.text.specs.declared.buffer.Wrote.{Wrote}
 use Rattle.text.specs.declared.buffer.Wrote.the-variants.{Done, Full}
 use Rattle.text.proofs.Temporary.{lent, back, temp-full, temp-fits}
 use Rattle.text.proofs.Writing.{done, full, reaches, owes-all, owes-step, owes-stop, owes-last}
-use Rattle.elements.specs.Stands.{ElementAt, Placed, Placeds}
+use Rattle.nodes.specs.Stands.{ElementAt, Placed, Placeds}
 use Rattle.serializer.specs.Writers.{selfAt, WritesForest, WritesElement}
-use Rattle.elements.proofs.Interrupts.{element-kids}
+use Rattle.nodes.proofs.Interrupts.{element-kids}
 use Rattle.elements.proofs.Nesting.{nest-writes}
 use Rattle.elements.proofs.Languages.{around-it}
 

@@ -14,8 +14,8 @@ use Rattle.text.specs.declared.buffer.Wrote.the-variants.{Done, Full}
 use Rattle.text.proofs.Writing.{same-out, reaches}
 use Rattle.text.proofs.Reading.{drop-take}
 use Rattle.text.proofs.Temporary.{lent, back, back-length}
-use Rattle.elements.specs.TableSteps.{behind}
-use Rattle.elements.proofs.TableTexts.{bytes-both}
+use Rattle.tables.specs.TableSteps.{behind}
+use Rattle.tables.proofs.TableTexts.{bytes-both}
 
 pub behind-none : (t : Bytes) → behind [] t ≡ keep t
 unfolding behind keep insideAll texts concat

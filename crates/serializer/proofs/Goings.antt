@@ -13,7 +13,7 @@ use Rattle.spec.specs.Md.Elements.List.{Item, Progress, going, ruleBlock, itemC
 use Rattle.tree.specs.Memory.{endAt}
 use Rattle.tree.specs.Represents.{Rep, Around, headOf, restOf}
 use Rattle.tree.proofs.Firsts.{first, ended}
-use Rattle.text.specs.Items.{ruleStep}
+use Rattle.lists_links.specs.Items.{ruleStep}
 use Rattle.text.specs.Writes.{Written, Refused, Says, Writes}
 use Rattle.text.specs.declared.buffer.Wrote.{Wrote}
 use Rattle.text.specs.declared.buffer.Wrote.the-variants as wrote

@@ -21,7 +21,7 @@ use Rattle.tree.specs.Memory.{placeAt, endAt, parentAt}
 use Rattle.tree.specs.Nodes.{nameAt}
 use Rattle.tree.specs.Represents.{Rep, Around}
 use Rattle.tree.proofs.Kin.{first-name}
-use Rattle.text.specs.Items.{indentedBlock, inlineLead}
+use Rattle.lists_links.specs.Items.{indentedBlock, inlineLead}
 use Rattle.text.specs.Writes.{Writes}
 use Rattle.text.specs.declared.buffer.Wrote.{Wrote}
 use Rattle.text.specs.declared.buffer.Wrote.the-variants.{Done, Full}
@@ -29,11 +29,11 @@ use Rattle.text.proofs.Temporary.{lent, back, temp-full, temp-fits}
 use Rattle.text.proofs.Writing.{Owes, owes-all, owes-step, owes-stop, owes-last, alike, done, full, reaches, then-assoc, yes, no}
 use Rattle.elements.specs.ItemStep.{childOpts, flowPrefix, endedFlow}
 use Rattle.serializer.specs.ListStep.{inlineStep, bodyStep, ledStep}
-use Rattle.elements.specs.Stands.{ElementAt, Placed, Placeds, PlacedNode}
+use Rattle.nodes.specs.Stands.{ElementAt, Placed, Placeds, PlacedNode}
 use Rattle.serializer.specs.Writers.{Fits, WritesForest, WritesElement, progressAt, goingOf, Goes, GoesElement}
 use Rattle.serializer.specs.declared.progress.Going.{Going}
 use Rattle.serializer.proofs.Goings.{goes-alike, goes-going}
-use Rattle.elements.proofs.Interrupts.{element-name}
+use Rattle.nodes.proofs.Interrupts.{element-name}
 use Rattle.elements.proofs.Nesting.{nest-writes}
 use Rattle.serializer.proofs.Onward.{block-is}
 use Rattle.serializer.proofs.Placing.{element-alone}

@@ -44,7 +44,7 @@ use Rattle.text.specs.declared.buffer.Wrote.the-variants.{Done}
 use Rattle.text.proofs.Writing.{keeps, keep-then, done, full, yes, no}
 use Rattle.elements.specs.ItemStep.{lineIf}
 use Rattle.serializer.specs.ListStep.{inlineStep}
-use Rattle.elements.specs.Stands.{Placeds, PlacedNode}
+use Rattle.nodes.specs.Stands.{Placeds, PlacedNode}
 use Rattle.serializer.specs.Writers.{progressAt, goingOf, Goes, GoesForest, GoesElement, WritesForest}
 use Rattle.serializer.specs.declared.progress.Going.{Going}
 use Rattle.serializer.specs.declared.progress.Going.the-variants.{On, Full}

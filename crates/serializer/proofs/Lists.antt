@@ -28,13 +28,13 @@ use Rattle.tree.specs.Nodes.{bodyAt, nameAt}
 use Rattle.tree.specs.Represents.{Rep, Around, attrsBehind, headOf, restOf}
 use Rattle.tree.proofs.Firsts.{first, ended}
 use Rattle.tree.proofs.Kin.{first-name}
-use Rattle.text.specs.Items.{itemOf, endedItem}
-use Rattle.text.specs.declared.list.Item as text
+use Rattle.lists_links.specs.Items.{itemOf, endedItem}
+use Rattle.lists_links.specs.declared.list.Item as text
 use Rattle.text.specs.declared.buffer.Wrote.{Wrote}
 use Rattle.elements.specs.ItemStep.{endedList}
-use Rattle.elements.specs.Stands.{ElementAt, Placed, PlacedNode}
+use Rattle.nodes.specs.Stands.{ElementAt, Placed, PlacedNode}
 use Rattle.serializer.specs.ListStep.{listHead}
-use Rattle.elements.proofs.Interrupts.{element-name, element-kids}
+use Rattle.nodes.proofs.Interrupts.{element-name, element-kids}
 use Rattle.serializer.proofs.Onward.{onward-children}
 use Rattle.serializer.proofs.Placing.{node-placed, node-element}
 use Rattle.serializer.specs.Writers.{Fits, FitsIn, WritesForest, WritesElement, progressAt}

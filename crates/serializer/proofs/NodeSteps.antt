@@ -20,8 +20,8 @@ use Rattle.tree.specs.Nodes.{bodyAt}
 use Rattle.tree.specs.Represents.{Rep, attrsBehind}
 use Rattle.tree.proofs.Firsts.{first, ended, its-tag, its-body}
 use Rattle.text.proofs.Writing.{yes, no}
-use Rattle.elements.specs.TextStep.{textStep}
-use Rattle.elements.proofs.Spots.{then-keep}
+use Rattle.nodes.specs.TextStep.{textStep}
+use Rattle.nodes.proofs.Spots.{then-keep}
 
 -- ---- the node that stands alone in the range from i
 

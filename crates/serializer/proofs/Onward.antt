@@ -26,7 +26,7 @@ use Rattle.spec.specs.Md.Elements.List.{
   «node_is_list_item_block»,
   «node_is_block_wrapper»,
 }
-use Rattle.text.specs.Items.{ruleText}
+use Rattle.lists_links.specs.Items.{ruleText}
 use Rattle.text.proofs.Writing.{same-out}
 use Rattle.serializer.specs.ListStep.{bodyStep, ledStep, inlineStep}
 use Rattle.serializer.specs.Writers.{progressAt}

@@ -15,10 +15,10 @@ use Rattle.tree.proofs.Firsts.{First, first, rep-le}
 use Rattle.tree.proofs.Frames.{rep-kept, around-kept, end-kept}
 use Rattle.text.specs.Writes.{Writes}
 use Rattle.text.specs.declared.buffer.Wrote.{Wrote}
-use Rattle.elements.specs.Stands.{ElementAt, Placed, Placeds, PlacedNode, NodeAt}
+use Rattle.nodes.specs.Stands.{ElementAt, Placed, Placeds, PlacedNode, NodeAt}
 use Rattle.serializer.specs.Writers.{WritesForest, WritesElement}
-use Rattle.elements.proofs.Numbers.{node-first}
-use Rattle.elements.proofs.Interrupts.{element-node, element-kids}
+use Rattle.nodes.proofs.Numbers.{node-first}
+use Rattle.nodes.proofs.Interrupts.{element-node, element-kids}
 use Rattle.elements.proofs.Languages.{around-it}
 
 -- ---- an element

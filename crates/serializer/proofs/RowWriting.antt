@@ -21,13 +21,13 @@ use Rattle.text.specs.declared.buffer.Wrote.{Wrote}
 use Rattle.text.specs.declared.buffer.Wrote.the-variants.{Done, Full}
 use Rattle.text.proofs.Writing.{done, full, Owes, owes-all, owes-on, owes-over, owes-none}
 use Rattle.text.proofs.Temporary.{lent, back}
-use Rattle.elements.specs.Stands.{Siblings, ElementAt, Placed}
-use Rattle.elements.specs.Rows.{RowAt, SomeRow}
-use Rattle.elements.specs.Spans.{lengthIf, cellLengths, rowLengths, CellFrom, NextCell}
-use Rattle.elements.specs.TableSteps.{behind, lengthsOf, RowWrites}
-use Rattle.elements.proofs.TableCells.{CellsAt, CellAt, cells-all, cells-cell, cells-none}
-use Rattle.elements.proofs.Gathering.{gather-split, gather-done, cells-step}
-use Rattle.elements.proofs.Scratch.{cells-kept}
+use Rattle.nodes.specs.Stands.{Siblings, ElementAt, Placed}
+use Rattle.tables.specs.Rows.{RowAt, SomeRow}
+use Rattle.tables.specs.Spans.{lengthIf, cellLengths, rowLengths, CellFrom, NextCell}
+use Rattle.tables.specs.TableSteps.{behind, lengthsOf, RowWrites}
+use Rattle.tables.proofs.TableCells.{CellsAt, CellAt, cells-all, cells-cell, cells-none}
+use Rattle.tables.proofs.Gathering.{gather-split, gather-done, cells-step}
+use Rattle.tables.proofs.Scratch.{cells-kept}
 use Rattle.serializer.proofs.Gathered.{behind-none, behind-both, behind-full, behind-done}
 
 -- ---- the lengths of the cells passed

@@ -14,14 +14,14 @@ use Rattle.tree.proofs.Frames.{kept-none, kept-then, kept-in, end-kept}
 use Rattle.text.specs.declared.buffer.Wrote.{Wrote}
 use Rattle.text.specs.declared.buffer.Wrote.the-variants.{Done, Full}
 use Rattle.text.proofs.Writing.{Owes, owes-all, owes-step, owes-stop, owes-none}
-use Rattle.elements.specs.Rows.{RowAt, Rows, RowsAt, SomeRows}
-use Rattle.elements.specs.Spans.{rowLengths, rowIf, tableLengths}
-use Rattle.elements.specs.TableSteps.{behind, rowsTexts, lengthsOf, rowsLengths, RowWrites, RowsWrites}
-use Rattle.elements.proofs.TableRows.{rows-at, rows-at-le, row-kept, rows-kept}
-use Rattle.elements.proofs.RowTests.{no-rows}
-use Rattle.elements.proofs.Gathering.{gather-split, gather-done}
-use Rattle.elements.proofs.Lines.{lengths-row, rows-number}
-use Rattle.elements.proofs.Scratch.{rows-kept-before}
+use Rattle.tables.specs.Rows.{RowAt, Rows, RowsAt, SomeRows}
+use Rattle.tables.specs.Spans.{rowLengths, rowIf, tableLengths}
+use Rattle.tables.specs.TableSteps.{behind, rowsTexts, lengthsOf, rowsLengths, RowWrites, RowsWrites}
+use Rattle.tables.proofs.TableRows.{rows-at, rows-at-le, row-kept, rows-kept}
+use Rattle.tables.proofs.RowTests.{no-rows}
+use Rattle.tables.proofs.Gathering.{gather-split, gather-done}
+use Rattle.tables.proofs.Lines.{lengths-row, rows-number}
+use Rattle.tables.proofs.Scratch.{rows-kept-before}
 use Rattle.serializer.proofs.Gathered.{behind-none, behind-both}
 use Rattle.serializer.proofs.RowWriting.{empty-part, never}
 

@@ -11,7 +11,7 @@ use Rattle.spec.specs.Md.Ctx.{fresh}
 use Rattle.spec.specs.Md.MDSerializer.{Ancestors, MDSerializer, writeKids}
 use Rattle.spec.specs.Md.Elements.Table.{rowsOf, fromCells, dataRows, «table_header_row», «is_table_node_writable», rowTexts, tableTexts, tableOf, «write_table»}
 use Rattle.spec.specs.declared.ctx.FormatOpts.{FormatOpts}
-use Rattle.tree.proofs.Building.{le-or-lt}
+use Rattle.spec.proofs.Order.{le-or-lt}
 use Rattle.text.proofs.Writing.{yes, no}
 
 module _ (self : MDSerializer) (anc : Ancestors) (opts : FormatOpts) (name : Bytes) (attrs : List Attr) (kids : Forest) (t : Bytes) where

@@ -17,18 +17,18 @@ use Rattle.spec.specs.declared.ctx.FormatOpts.{FormatOpts}
 use Rattle.tree.specs.Memory.{endAt}
 use Rattle.tree.specs.Represents.{Rep}
 use Rattle.tree.proofs.Firsts.{first, rep-le}
-use Rattle.tree.proofs.Building.{le-or-lt}
+use Rattle.spec.proofs.Order.{le-or-lt}
 use Rattle.tree.proofs.Ranges.{rep-size}
 use Rattle.text.specs.Writes.{Written, Refused, Writes}
 use Rattle.text.specs.declared.buffer.Wrote.{Wrote}
 use Rattle.text.proofs.Writing.{alike}
-use Rattle.elements.specs.Rows.{RowsAt}
-use Rattle.elements.specs.Spans.{rowLengths, sum}
-use Rattle.elements.specs.TableSteps.{behind, rowsTexts, rowsLengths, tableStep, TableAt}
-use Rattle.elements.proofs.Numbers.{node-in}
-use Rattle.elements.proofs.TableRows.{rows-at}
-use Rattle.elements.proofs.Lines.{concat-both, concat-filled, concat-cells, cells-first, row-length, rows-count}
-use Rattle.elements.proofs.TableTexts.{rows-total, table-texts}
+use Rattle.tables.specs.Rows.{RowsAt}
+use Rattle.tables.specs.Spans.{rowLengths, sum}
+use Rattle.tables.specs.TableSteps.{behind, rowsTexts, rowsLengths, tableStep, TableAt}
+use Rattle.nodes.proofs.Numbers.{node-in}
+use Rattle.tables.proofs.TableRows.{rows-at}
+use Rattle.tables.proofs.Lines.{concat-both, concat-filled, concat-cells, cells-first, row-length, rows-count}
+use Rattle.tables.proofs.TableTexts.{rows-total, table-texts}
 use Rattle.serializer.proofs.Gathered.{behind-count, behind-nested, behind-refused}
 
 -- ---- the texts that are counted are those of all cells

@@ -9,7 +9,7 @@ use Rattle.spec.specs.Md.Ctx.{fresh, «include_node», breakOf}
 use Rattle.spec.specs.Md.MDSerializer.{Ancestors, MDSerializer, write}
 use Rattle.spec.specs.Md.Elements.List.{Item, nameOf, listItem, flowBlock, blockLead, «write_list_item_indented»}
 use Rattle.spec.specs.declared.ctx.ListContext.{ListContext}
-use Rattle.text.specs.Items.{inlineLead}
+use Rattle.lists_links.specs.Items.{inlineLead}
 use Rattle.elements.specs.ItemStep.{childOpts}
 
 -- the first child of a list, whose context has the number of the child already

@@ -14,13 +14,13 @@ use Rattle.spec.specs.Md.Elements.List.{Progress}
 use Rattle.spec.specs.declared.ctx.FormatOpts.{FormatOpts}
 use Rattle.spec.specs.declared.ctx.ListContext.{ListContext}
 use Rattle.tree.specs.Memory.{parentAt}
-use Rattle.tree.specs.Scans.{skipList}
+use Rattle.input.specs.Scans.{skipList}
 use Rattle.tree.specs.Represents.{Rep, Around}
 use Rattle.text.specs.Writes.{Written, Refused, Writes}
 use Rattle.text.specs.declared.buffer.Wrote.{Wrote}
 use Rattle.text.specs.declared.buffer.Wrote.the-variants as wrote
 use Rattle.text.specs.declared.buffer.Wrote.the-variants.{Done}
-use Rattle.elements.specs.Stands.{ElementAt}
+use Rattle.nodes.specs.Stands.{ElementAt}
 use Rattle.serializer.specs.declared.progress.Going.{Going}
 use Rattle.serializer.specs.declared.progress.Going.the-variants.{On, Full}
 

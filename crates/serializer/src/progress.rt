@@ -3,11 +3,11 @@ ghost use mathlib.Core.Path.{_≡_};
 ghost use Prim.Native.Nat.{_≤_};
 ghost use lib.ListN.{length, take};
 ghost use Rattle.spec.specs.Md.Elements.List as def;
-ghost use Rattle.text.specs.Items.{itemOf};
+ghost use Rattle.lists_links.specs.Items.{itemOf};
 ghost use Rattle.serializer.specs.Writers.{progressAt, Goes, goingOf};
+use lists_links::list::Item;
+use lists_links::list::push_rule;
 use text::buffer::Wrote;
-use text::list::Item;
-use text::list::push_rule;
 
 // The length of the text, whether no block stood before, whether a blank line is due.
 pub enum Going {

@@ -13,7 +13,7 @@ use Rattle.spec.specs.Md.TextUtils.{isEscaped, escapedFrom, escapedChunk, «is_
 use Rattle.text.specs.Class.{ordinary}
 use Rattle.text.specs.Flow.{MayStart}
 use Rattle.text.specs.Marks.{marks}
-use Rattle.tree.proofs.Sequences.{below, below-at}
+use Rattle.input.proofs.Sequences.{below, below-at}
 
 -- neither of two
 pub neither : (a b : Bool) → a || b ≡ false → (a ≡ false) × (b ≡ false)

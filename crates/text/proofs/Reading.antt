@@ -7,8 +7,8 @@ use native.Mathlib.Omega.{arith}
 use native.Mathlib.Numerals.{add-one}
 use lib.ListN.{length, take, drop, getD, length-take, length-drop}
 use lib.Seq.{drop-cons, take-all, drop-length, take-nil, length-take-le}
-use lib.Dec.{eqb}
-use borrow.Author.Tests.{eq-eqb, eqb-true, eqb-false}
+use lib.Dec.{eqb, ltb}
+use borrow.Author.Tests.{eq-eqb, eqb-true, eqb-false, ltb-true, ltb-false}
 use Rattle.spec.specs.Bytes.{isin, same, startsWith, endsWith, every, null, «trim_ascii_end», «trim_end_matches», one, white}
 use Rattle.spec.specs.Md.TextUtils.{endsWithWhite}
 use Rattle.text.specs.Trimmed.{Trimmed}
@@ -28,6 +28,16 @@ not-long (x ∷ a) (y ∷ b) h = rw (not-long a b (λ e. h (ap suc e))) (both-fa
 pub ends-short : (s x : List ℕ) → length s < length x → endsWith x s ≡ false
 unfolding endsWith
 ends-short s x h = not-long (drop (length s - length x) s) x (λ e. omega (arith, length-drop (length s - length x) s))
+
+pub ends-long : (s x : List ℕ) → endsWith x s ≡ true → length x ≤ length s
+ends-long s x e = go (ltb (length s) (length x)) refl
+  where
+    go : (t : Bool) → ltb (length s) (length x) ≡ t → length x ≤ length s
+    go true q = absurd (false≢true (sym (ends-short s x (ltb-true (length s) (length x) q)) ∙ e))
+    go false q = ltb-false (length s) (length x) q
+
+pub trimmed-length : {s short : List ℕ} {n : ℕ} → Trimmed s n short → length short ≡ n
+trimmed-length {s} {short} {n} t = ap length (sym (t .is)) ∙ length-take-le n s (t .within)
 
 pub starts-short : (s x : List ℕ) → length s < length x → startsWith x s ≡ false
 unfolding startsWith

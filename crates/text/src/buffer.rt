@@ -12,7 +12,7 @@ ghost use Rattle.text.specs.Class.{inClass, ordinary};
 ghost use Rattle.text.specs.Trimmed.{Trimmed, Skipped, WhiteEnd};
 ghost use Rattle.text.specs.Lifted.{Lifted};
 ghost use Rattle.text.specs.Writes.{Writes};
-use tree::fields::is_same;
+use input::fields::is_same;
 
 // Whether a text had room, and how long it is then.
 pub enum Wrote {

@@ -15,8 +15,8 @@ use crate::setup::item;
 use crate::setup::options;
 use crate::setup::parsed;
 use crate::setup::truth;
+use input::fields::is_same;
 use text::buffer::Wrote;
-use tree::fields::is_same;
 
 // No case has this answer.
 fn unknown() -> Wrote {
@@ -27,19 +27,19 @@ fn text_utils(name: &[u8], text: &mut [u8], len: usize, case: Case, a: &[u8], b:
     requires { ⌜ len ≤ length (now text) ⌝ }
 {
     if is_same(name, b"push_normalized_text") {
-        return text::text_utils::push_normalized_text(text, len, a, options(case));
+        return normalized::text_utils::push_normalized_text(text, len, a, options(case));
     }
     if is_same(name, b"ends_with_marker_digits") {
-        return truth(text::text_utils::ends_with_marker_digits(a));
+        return truth(normalized::text_utils::ends_with_marker_digits(a));
     }
     if is_same(name, b"is_ordered_list_marker") {
-        return truth(text::text_utils::is_ordered_list_marker(a));
+        return truth(normalized::text_utils::is_ordered_list_marker(a));
     }
     if is_same(name, b"escape_trailing_bang") {
-        return text::text_utils::escape_trailing_bang(text, len);
+        return normalized::text_utils::escape_trailing_bang(text, len);
     }
     if is_same(name, b"trim_trailing_space") {
-        return Wrote::Done(text::text_utils::trim_trailing_space(a));
+        return Wrote::Done(normalized::text_utils::trim_trailing_space(a));
     }
     text_utils_end(name, text, len, a, b)
 }
@@ -48,19 +48,19 @@ fn text_utils_end(name: &[u8], text: &mut [u8], len: usize, a: &[u8], b: &[u8]) 
     requires { ⌜ len ≤ length (now text) ⌝ }
 {
     if is_same(name, b"add_linebreaks") {
-        return text::text_utils::add_linebreaks(text, len, a, b);
+        return normalized::text_utils::add_linebreaks(text, len, a, b);
     }
     if is_same(name, b"push_md_url") {
         return destination(text, len, a);
     }
     if is_same(name, b"push_title") {
-        return text::title::push_title(text, len, a);
+        return lists_links::title::push_title(text, len, a);
     }
     if is_same(name, b"push_block_space") {
-        return text::text_utils::push_block_space(text, len);
+        return normalized::text_utils::push_block_space(text, len);
     }
     if is_same(name, b"trim_space") {
-        return Wrote::Done(text::text_utils::trim_space(text, len));
+        return Wrote::Done(normalized::text_utils::trim_space(text, len));
     }
     unknown()
 }
@@ -69,13 +69,13 @@ fn heading(name: &[u8], text: &mut [u8], len: usize, case: Case) -> Wrote
     requires { ⌜ len ≤ length (now text) ⌝ }
 {
     if is_same(name, b"is_heading") {
-        return truth(text::heading::is_heading(case.x));
+        return truth(marks::heading::is_heading(case.x));
     }
     if is_same(name, b"md_prefix") {
-        return text::heading::push_md_prefix(text, len, case.x);
+        return marks::heading::push_md_prefix(text, len, case.x);
     }
     if is_same(name, b"escape_closing_hashes") {
-        return text::heading::escape_closing_hashes(text, len);
+        return marks::heading::escape_closing_hashes(text, len);
     }
     unknown()
 }
@@ -84,10 +84,10 @@ fn code_block(name: &[u8], text: &mut [u8], len: usize, case: Case, a: &[u8], b:
     requires { ⌜ len ≤ length (now text) ⌝ }
 {
     if is_same(name, b"max_backtick_run") {
-        return Wrote::Done(text::code::max_backtick_run(a));
+        return Wrote::Done(marks::code::max_backtick_run(a));
     }
     if is_same(name, b"sanitize_attr_value") {
-        return text::code::push_sanitized(text, len, a);
+        return marks::code::push_sanitized(text, len, a);
     }
     if is_same(name, b"push_code_text") {
         return code(text, len, case, a);
@@ -102,10 +102,10 @@ fn emphasis(name: &[u8], text: &mut [u8], len: usize, a: &[u8], b: &[u8]) -> Wro
     requires { ⌜ len ≤ length (now text) ⌝ }
 {
     if is_same(name, b"is_exact_marker_end") {
-        return truth(text::emphasis::is_exact_marker_end(a, b));
+        return truth(marks::emphasis::is_exact_marker_end(a, b));
     }
     if is_same(name, b"try_trim_prev_emphasis_marker") {
-        return text::emphasis::try_trim_prev_emphasis_marker(text, len, a);
+        return marks::emphasis::try_trim_prev_emphasis_marker(text, len, a);
     }
     if is_same(name, b"push_emphasis") {
         return emphasized(text, len, a, b);
@@ -117,16 +117,16 @@ fn table(name: &[u8], text: &mut [u8], len: usize, a: &[u8]) -> Wrote
     requires { ⌜ len ≤ length (now text) ⌝ }
 {
     if is_same(name, b"ends_with_cell_break") {
-        return truth(text::table::ends_with_cell_break(a));
+        return truth(marks::table::ends_with_cell_break(a));
     }
     if is_same(name, b"add_cell_block_break") {
-        return text::table::add_cell_block_break(text, len, a);
+        return marks::table::add_cell_block_break(text, len, a);
     }
     if is_same(name, b"trim_trailing_cell_break") {
-        return Wrote::Done(text::table::trim_trailing_cell_break(a));
+        return Wrote::Done(marks::table::trim_trailing_cell_break(a));
     }
     if is_same(name, b"escape_table_cell_inplace") {
-        return text::table::escape_table_cell_inplace(text, len);
+        return marks::table::escape_table_cell_inplace(text, len);
     }
     unknown()
 }
@@ -135,10 +135,10 @@ fn list(name: &[u8], text: &mut [u8], len: usize, case: Case, a: &[u8]) -> Wrote
     requires { ⌜ len ≤ length (now text) ⌝ }
 {
     if is_same(name, b"prefix") {
-        return text::ctx::push_prefix(text, len, context(case));
+        return lists_links::ctx::push_prefix(text, len, context(case));
     }
     if is_same(name, b"begin_item") {
-        return text::list::begin_item(text, len, has(case, 64), context(case));
+        return lists_links::list::begin_item(text, len, has(case, 64), context(case));
     }
     if is_same(name, b"write_list_item_indented") {
         return indented(text, len, case, a);
@@ -157,16 +157,22 @@ fn item_parts(name: &[u8], text: &mut [u8], len: usize, case: Case) -> Wrote
     requires { ⌜ len ≤ length (now text) ⌝ }
 {
     if is_same(name, b"push_rule") {
-        return text::list::push_rule(text, len, item(case));
+        return lists_links::list::push_rule(text, len, item(case));
     }
     if is_same(name, b"push_block_lead") {
-        return text::list::push_block_lead(text, len, item(case), has(case, 128), has(case, 256));
+        return lists_links::list::push_block_lead(
+            text,
+            len,
+            item(case),
+            has(case, 128),
+            has(case, 256),
+        );
     }
     if is_same(name, b"push_inline_lead") {
-        return text::list::push_inline_lead(text, len, item(case), has(case, 512));
+        return lists_links::list::push_inline_lead(text, len, item(case), has(case, 512));
     }
     if is_same(name, b"end_item") {
-        return text::list::end_item(text, len, item(case));
+        return lists_links::list::end_item(text, len, item(case));
     }
     unknown()
 }

@@ -1,14 +1,14 @@
 // What a leaf function is called with: options and contexts from the numbers of a case, and texts begun behind the text.
 ghost use Prim.Native.Nat.{_≤_};
 ghost use lib.ListN.{length};
+use lists_links::list::Item;
+use lists_links::list_number::Parsed;
+use lists_links::list_number::parse_list_number;
 use spec::ctx::FormatOpts;
 use spec::ctx::ListContext;
 use spec::ctx::ListKind;
 use text::buffer::Wrote;
 use text::buffer::push_all;
-use text::list::Item;
-use text::list_number::Parsed;
-use text::list_number::parse_list_number;
 
 // The numbers of a case: options as bits, and two that each function reads in its own way.
 pub struct Case {
@@ -91,7 +91,7 @@ pub fn indented(text: &mut [u8], len: usize, case: Case, a: &[u8]) -> Wrote
         return Wrote::Full;
     }
     match push_all(text, len, a) {
-        Wrote::Done(_) => text::list_indented::push_indented(text, len, n, it),
+        Wrote::Done(_) => lists_links::list_indented::push_indented(text, len, n, it),
         Wrote::Full => Wrote::Full,
     }
 }
@@ -108,9 +108,9 @@ pub fn code(text: &mut [u8], len: usize, case: Case, a: &[u8]) -> Wrote
     match push_all(text, len, a) {
         Wrote::Done(_) => {
             if counts {
-                return text::code::push_code_text(text, len, len, n, n);
+                return marks::code::push_code_text(text, len, len, n, n);
             }
-            text::code::push_code_text(text, len, len, n, 0)
+            marks::code::push_code_text(text, len, len, n, 0)
         }
         Wrote::Full => Wrote::Full,
     }
@@ -125,7 +125,7 @@ pub fn fenced(text: &mut [u8], len: usize, a: &[u8], b: &[u8]) -> Wrote
         return Wrote::Full;
     }
     match push_all(text, len, a) {
-        Wrote::Done(_) => text::code::push_fenced_block(text, len, len, n, b),
+        Wrote::Done(_) => marks::code::push_fenced_block(text, len, len, n, b),
         Wrote::Full => Wrote::Full,
     }
 }
@@ -139,7 +139,7 @@ pub fn emphasized(text: &mut [u8], len: usize, a: &[u8], b: &[u8]) -> Wrote
         return Wrote::Full;
     }
     match push_all(text, len, a) {
-        Wrote::Done(_) => text::emphasis::push_emphasis(text, len, n, b),
+        Wrote::Done(_) => marks::emphasis::push_emphasis(text, len, n, b),
         Wrote::Full => Wrote::Full,
     }
 }
@@ -151,7 +151,7 @@ pub fn destination(text: &mut [u8], len: usize, a: &[u8]) -> Wrote
     if 1048576 < a.len() {
         return Wrote::Full;
     }
-    text::url::push_md_url(text, len, a)
+    lists_links::url::push_md_url(text, len, a)
 }
 
 // a is a sheet whose first field opens the element.
@@ -164,5 +164,5 @@ pub fn image(text: &mut [u8], len: usize, a: &[u8]) -> Wrote
     if 1048576 < a.len() {
         return Wrote::Full;
     }
-    text::image::write_img(text, len, a, 0)
+    lists_links::image::write_img(text, len, a, 0)
 }

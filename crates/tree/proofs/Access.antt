@@ -8,10 +8,10 @@ use lib.ListN.{length, getD}
 use borrow.Author.Tests.{lt-ltb, le-ltb, eq-eqb, ne-eqb}
 use Rattle.spec.specs.Bytes.{Bytes, among}
 use Rattle.spec.specs.Names.{tagOf}
-use Rattle.tree.specs.Spans.{spanAt, fieldOf}
+use Rattle.input.specs.Spans.{spanAt, fieldOf}
 use Rattle.tree.specs.Memory.{endAt, parentAt}
 use Rattle.tree.specs.Nodes.{nameAt, skippedAt, textAt, PartIs, nextSibling}
-use Rattle.tree.specs.declared.fields.Span.{Span}
+use Rattle.input.specs.declared.fields.Span.{Span}
 use Rattle.tree.specs.declared.nodes.Node.the-variants.{At, Nothing}
 
 module _ (sh : Bytes) (p : ℕ) (r : Span) (at : r ≡ spanAt sh p) where

@@ -11,12 +11,12 @@ use lib.Dec.{eqb}
 use Rattle.spec.specs.Bytes.{Bytes, same, isin}
 use Rattle.spec.specs.Fields.{Field, fields}
 use Rattle.spec.specs.Tree.{Attr, Tail, text, comment, nodeThen, openThen, nameThen, valueThen, closeThen, fieldThen, tail}
-use Rattle.tree.specs.Spans.{spanAt, fieldOf}
+use Rattle.input.specs.Spans.{spanAt, fieldOf}
 use Rattle.tree.specs.Attributes.{endsAttrs, eitherAttr, Valued}
-use Rattle.tree.specs.declared.fields.Span.{Span}
+use Rattle.input.specs.declared.fields.Span.{Span}
 use Rattle.tree.specs.declared.attributes.Value.the-variants.{At, Missing}
-use Rattle.tree.proofs.Walking.{span-fields}
-use Rattle.tree.proofs.Every.{none-left}
+use Rattle.input.proofs.Walking.{span-fields}
+use Rattle.input.proofs.Every.{none-left}
 
 pub ends-last : (tag : ℕ) → (tag ≡ 1 → ⊥) → (tag ≡ 4 → ⊥) → (tag ≡ 5 → ⊥) → eqb tag 6 ≡ endsAttrs tag
 unfolding isin

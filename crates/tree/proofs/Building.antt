@@ -1,19 +1,15 @@
 -- Storing the fields of a sheet one after the other: what node memory tells so far, and what the rest will add. Assumes nothing.
-use Prim.Native.Nat.{ℕ, zero, _+_, _-_, _*_, _<_, _≤_}
+use Prim.Native.Nat.{ℕ, _+_, _-_, _*_, _<_, _≤_}
 use native.Mathlib.Omega.{arith}
-use native.Mathlib.Nat.{eq-zero-or-pos}
 use mathlib.Core.Path.{_≡_, refl, _∙_}
-use mathlib.Core.Logic.{⊎-elim, _⊎_}
-use mathlib.Core.Logic._⊎_.{inl, inr}
+use mathlib.Core.Logic.{⊎-elim}
 use mathlib.Core.List.{List, [], _∷_}
 use lib.ListN.{length}
 use Rattle.spec.specs.Bytes.{Bytes}
+use Rattle.spec.proofs.Order.{le-or-lt}
 use Rattle.tree.specs.Memory.{wordAt, Stored, entryAt, endAt, parentAt}
 use Rattle.tree.specs.Kinds.{Placed}
 use Rattle.tree.proofs.Numbers.{word-same, quad-same}
-
-pub le-or-lt : (a b : ℕ) → (a ≤ b) ⊎ (b < a)
-le-or-lt a b = ⊎-elim (λ (e : a - b ≡ zero). inl (omega arith)) (λ (l : zero < a - b). inr (omega arith)) (eq-zero-or-pos (a - b))
 
 -- i is none of these
 abbrev pub Off : ℕ → List ℕ → Type 0

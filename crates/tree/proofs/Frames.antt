@@ -10,7 +10,7 @@ use Rattle.spec.specs.Tree.{Attr, Forest, nothing, text, comment, element}
 use Rattle.tree.specs.Memory.{longAt, Stored, entryAt, placeAt, endAt, parentAt, Kept}
 use Rattle.tree.specs.Represents.{FieldAt, attrsBehind, Rep, Stands, Around, Holds}
 use Rattle.tree.proofs.Numbers.{word-same, quad-same}
-use Rattle.tree.proofs.Building.{le-or-lt}
+use Rattle.spec.proofs.Order.{le-or-lt}
 
 pub kept-none : {from to : ℕ} (a : Bytes) → Kept from to a a
 kept-none a = record { long = refl; tree = λ i k h. refl; below = λ j h. refl; above = λ j h. refl }

@@ -12,10 +12,11 @@ use Rattle.spec.specs.Bytes.{Bytes, ascii, same, isin, among}
 use Rattle.spec.specs.Fields.{fields}
 use Rattle.spec.specs.Names.{place, names, tagOf}
 use Rattle.spec.specs.Call.{bodies}
-use Rattle.tree.specs.Spans.{spanAt, fieldOf}
-use Rattle.tree.specs.declared.fields.Span.{Span}
-use Rattle.tree.proofs.Walking.{span-fields}
-use Rattle.tree.proofs.Every.{none-left}
+use Rattle.spec.proofs.Tests.{same-eq}
+use Rattle.input.specs.Spans.{spanAt, fieldOf}
+use Rattle.input.specs.declared.fields.Span.{Span}
+use Rattle.input.proofs.Walking.{span-fields}
+use Rattle.input.proofs.Every.{none-left}
 
 module _ (x run : Bytes) (n p : ℕ) (so-far : place 1 x (bodies (fields run)) ≡ place n x (bodies (fields (drop p run)))) where
   module _ (r : Span) (h : p + 3 ≤ length run) (r-is : r ≡ spanAt run p) where
@@ -47,20 +48,11 @@ among-place n x (y ∷ ys) = go (same x y) (among-place (suc n) x ys)
 
 -- ---- the names that can be the same
 
-pub same-is : (x y : Bytes) → same x y ≡ true → x ≡ y
-unfolding same
-same-is [] [] e = refl
-same-is [] (b ∷ y) e = absurd (false≢true e)
-same-is (a ∷ x) [] e = absurd (false≢true e)
-same-is (a ∷ x) (b ∷ y) e =
-    let p : (eqb a b ≡ true) × (same x y ≡ true) = and-eq-true-iff _ _ .0 e in
-    ap₂ _∷_ (eqb-true a b (p .0)) (same-is x y (p .1))
-
 differ : (x y : Bytes) → (x ≡ y → ⊥) → same x y ≡ false
 differ x y ne = go (same x y) refl
   where
     go : (t : Bool) → same x y ≡ t → t ≡ false
-    go true e = absurd (ne (same-is x y e))
+    go true e = absurd (ne (same-eq x y e))
     go false e = refl
 
 -- `place` where only the names of k bytes are compared

@@ -13,7 +13,7 @@ use Rattle.spec.specs.Tree.{Forest, nothing, text, comment, element, treeOf, si
 use Rattle.tree.specs.Memory.{placeAt, endAt}
 use Rattle.tree.specs.Represents.{Rep, restOf, Holds}
 use Rattle.tree.specs.Nodes.{textAt, Readable}
-use Rattle.tree.proofs.Building.{le-or-lt}
+use Rattle.spec.proofs.Order.{le-or-lt}
 use Rattle.tree.proofs.Firsts.{First, first, rep-le, its-tag, its-body}
 
 pub rep-size : (sh ns : Bytes) (parent i e : ℕ) (f : Forest) → Rep sh ns parent i e f → e ≡ i + size f

@@ -10,13 +10,13 @@ use borrow.Author.Tests.{eqb-true}
 use Rattle.spec.specs.Bytes.{Bytes, isin}
 use Rattle.spec.specs.Fields.{Field, fields, fields-short}
 use Rattle.spec.specs.Questions.{mayFollow, rightLength, noStray, openAfter, keepRules, stillOpen, nodesIn, nodeCount}
-use Rattle.tree.specs.Spans.{lengthAt, endOf, spanAt, fieldOf}
-use Rattle.tree.specs.Scans.{lengthRight}
+use Rattle.input.specs.Spans.{lengthAt, endOf, spanAt, fieldOf}
+use Rattle.input.specs.Scans.{lengthRight}
 use Rattle.tree.specs.Memory.{wordAt, Stored, endAt, parentAt}
 use Rattle.tree.specs.Kinds.{Kind, opens, closes, texts, comments, aside, kindBy, kindOf, Placed, FitsAs, TurnedAs, Storable}
 use Rattle.tree.specs.declared.store.Turn.{Turn}
-use Rattle.tree.proofs.Walking.{span-fields, past-end, end-bounds}
-use Rattle.tree.proofs.Rules.{right-length}
+use Rattle.input.proofs.Walking.{span-fields, past-end, end-bounds}
+use Rattle.input.proofs.Rules.{right-length}
 use Rattle.spec.specs.Tree.{treeOf}
 use Rattle.tree.specs.Represents.{entryOf, Holds}
 use Rattle.tree.proofs.Telling.{Recorded, ToldAs, Told, RepAll, told-all}

@@ -10,12 +10,12 @@ use borrow.Author.Tests.{eqb-true, leb-true, leb-false}
 use Rattle.spec.specs.Bytes.{Bytes}
 use Rattle.spec.specs.Fields.{Field, fields, fields-short}
 use Rattle.spec.specs.Tree.{Attr, Forest, nothing, text, comment, element, Tail, first, others, nodeThen, openThen, nameThen, valueThen, closeThen, fieldThen, tail}
-use Rattle.tree.specs.Spans.{lengthAt, endOf, spanAt, fieldOf}
+use Rattle.input.specs.Spans.{lengthAt, endOf, spanAt, fieldOf}
 use Rattle.tree.specs.Memory.{entryAt, endAt, parentAt}
 use Rattle.tree.specs.Kinds.{Kind, opens, closes, texts, comments, aside, kindBy, kindOf}
 use Rattle.tree.specs.Represents.{FieldAt, entryOf, attrsBehind, Rep}
 use Rattle.tree.specs.Nodes.{nameAt}
-use Rattle.tree.proofs.Walking.{span-fields, past-end}
+use Rattle.input.proofs.Walking.{span-fields, past-end}
 use Rattle.tree.proofs.Entries.{entry-place, entry-number}
 
 -- record k is that of a node with this entry whose parent is `parent`

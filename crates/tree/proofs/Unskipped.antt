@@ -10,8 +10,8 @@ use Rattle.spec.specs.Names.{names, place, tagOf}
 use Rattle.spec.specs.Call.{skipTags}
 use Rattle.spec.specs.Md.Constants.{«DEFAULT_SKIP_TAGS»}
 use Rattle.tree.specs.Nodes.{bodyAt, nameAt, skippedAt}
-use Rattle.tree.specs.Scans.{skipList}
-use Rattle.tree.proofs.Naming.{same-is}
+use Rattle.input.specs.Scans.{skipList}
+use Rattle.spec.proofs.Tests.{same-eq}
 
 -- none of these names has a number
 abbrev Numberless : List Bytes → Type 0
@@ -19,7 +19,7 @@ Numberless [] = Unit {0}
 Numberless (y ∷ ys) = (tagOf y ≡ 0) × Numberless ys
 
 numberless-or : (x y : Bytes) (b more : Bool) → same x y ≡ b → tagOf y ≡ 0 → (more ≡ true → tagOf x ≡ 0) → (b || more) ≡ true → tagOf x ≡ 0
-numberless-or x y true more s n m e = ap tagOf (same-is x y s) ∙ n
+numberless-or x y true more s n m e = ap tagOf (same-eq x y s) ∙ n
 numberless-or x y false more s n m e = m e
 
 numberless : (x : Bytes) (ys : List Bytes) → Numberless ys → among x ys ≡ true → tagOf x ≡ 0

@@ -11,7 +11,7 @@ use Rattle.spec.specs.Md.Elements.Code.{«sanitize_attr_value», «find_code_la
 use Rattle.tree.specs.Attributes.{eitherAttr, languageAttr, InSheet, valueIn, Valued}
 use Rattle.tree.specs.declared.attributes.Value.{Value}
 use Rattle.tree.specs.declared.attributes.Value.the-variants.{At, Missing}
-use Rattle.tree.proofs.Walking.{same-comm}
+use Rattle.input.proofs.Walking.{same-comm}
 
 module _ {sh : Bytes} {r : Value} {v : Option Bytes} (h : Valued sh r v) where
   pub valued-as : {w : Option Bytes} → v ≡ w → Valued sh r w

@@ -1,8 +1,4 @@
--- The definitions that this crate's contracts add to those of `spec`.
-pub mod Lead
-pub mod Spans
-pub mod Scans
-pub mod Sound
+-- The definitions that the contracts cite.
 pub mod Memory
 pub mod Kinds
 pub mod Represents

@@ -7,7 +7,7 @@ use lib.ListN.{length, getD, take, drop}
 use lib.Dec.{eqb, ltb}
 use Rattle.spec.specs.Bytes.{Bytes, among}
 use Rattle.spec.specs.Names.{tagOf}
-use Rattle.tree.specs.Spans.{spanAt, fieldOf}
+use Rattle.input.specs.Spans.{spanAt, fieldOf}
 use Rattle.tree.specs.Memory.{placeAt, numberAt, endAt, parentAt}
 use Rattle.tree.specs.declared.nodes.Part.{Part}
 use Rattle.tree.specs.declared.nodes.Node.{Node}

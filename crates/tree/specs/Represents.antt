@@ -7,7 +7,7 @@ use lib.ListN.{length, drop}
 use Rattle.spec.specs.Bytes.{Bytes}
 use Rattle.spec.specs.Fields.{Field, fields}
 use Rattle.spec.specs.Tree.{Attr, Forest, nothing, text, comment, element, height, tail, treeOf}
-use Rattle.tree.specs.Spans.{endOf, spanAt, fieldOf}
+use Rattle.input.specs.Spans.{endOf, spanAt, fieldOf}
 use Rattle.tree.specs.Memory.{entryAt, placeAt, endAt, parentAt}
 use Rattle.tree.specs.Nodes.{nameAt}
 

@@ -11,8 +11,8 @@ ghost use Rattle.spec.specs.Fields.{fields};
 ghost use Rattle.spec.specs.Tree.{attr, tail};
 ghost use Rattle.tree.specs.Represents.{attrsBehind};
 ghost use Rattle.tree.specs.Attributes.{endsAttrs, eitherAttr, languageAttr, Valued};
-use crate::fields::is_same;
-use crate::fields::span_at;
+use input::fields::is_same;
+use input::fields::span_at;
 
 // The value of an attribute: where it starts and ends in the sheet.
 pub enum Value {

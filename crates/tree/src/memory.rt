@@ -3,7 +3,7 @@ ghost use mathlib.Core.Path.{_≡_};
 ghost use Prim.Native.Nat.{_+_, _<_};
 ghost use lib.ListN.{length, replicate};
 ghost use Rattle.tree.specs.Memory.{wordAt, quadAt, longAt, Stored};
-use crate::fields::wide;
+use input::fields::wide;
 
 // The two bytes at j.
 pub fn read_word(ns: &[u8], j: usize) -> usize

@@ -10,10 +10,10 @@ ghost use Rattle.spec.specs.Bytes.{same, among};
 ghost use Rattle.spec.specs.Names.{place, tagOf};
 ghost use Rattle.spec.specs.Call.{bodies, skipTags};
 ghost use Rattle.spec.specs.Md.Constants.{«DEFAULT_SKIP_TAGS»};
-ghost use Rattle.tree.specs.Scans.{skipList};
+ghost use Rattle.input.specs.Scans.{skipList};
 ghost use Rattle.tree.specs.Nodes.{nameAt, skippedAt};
-use crate::fields::is_same;
-use crate::fields::span_at;
+use input::fields::is_same;
+use input::fields::span_at;
 
 // The place of a name among the bytes of a run's fields, counted from 1; 0 where it has none.
 fn place_in(run: &[u8], name: &[u8]) -> usize

@@ -4,9 +4,9 @@ ghost use Prim.Native.Nat.{_+_, _*_, _≤_, _<_};
 ghost use lib.ListN.{length, getD};
 ghost use Rattle.tree.specs.Memory.{placeAt, numberAt, endAt, parentAt};
 ghost use Rattle.tree.specs.Nodes.{textAt, PartIs, firstChild, nextSibling};
-use crate::fields::span_at;
 use crate::memory::read_quad;
 use crate::memory::read_word;
+use input::fields::span_at;
 
 // A part of the sheet.
 pub struct Part {

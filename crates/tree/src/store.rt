@@ -6,11 +6,11 @@ ghost use Rattle.spec.specs.Questions.{nodeCount};
 ghost use Rattle.tree.specs.Memory.{wordAt, Stored, parentAt};
 ghost use Rattle.tree.specs.Represents.{entryOf, Holds};
 ghost use Rattle.tree.specs.Kinds.{kindOf, Placed, FitsAs, TurnedAs, Storable};
-use crate::fields::length_at;
 use crate::memory::read_word;
 use crate::memory::store_quad;
 use crate::memory::store_word;
 use crate::names::name_at;
+use input::fields::length_at;
 
 // How far storing has come: the nodes begun, and the innermost open one.
 pub struct Turn {

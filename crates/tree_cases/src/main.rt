@@ -8,9 +8,9 @@ use crate::dump::print_nodes;
 use crate::dump::put;
 use crate::input::build_sheet;
 use crate::input::read_head;
+use input::questions::first_refusal;
 use libc::STDOUT_FILENO;
 use tree::memory::clear;
-use tree::questions::first_refusal;
 use tree::store::store_nodes;
 
 // One call: a line with the number, and for number 0 a line for each node.

@@ -3,8 +3,8 @@ use mathlib.Core.Bool.{true}
 use contract.Running.{givenOf, tables, tablesOf}
 use denote.Triple.Spec.{tripleOf}
 use denote.Triple.Table.{entered, cited}
-use Rattle.text.proofs.list.begin_item.Symbol as begin-def
-use Rattle.text.proofs.list.begin_item.Met as begin-thm
+use Rattle.lists_links.proofs.list.begin_item.Symbol as begin-def
+use Rattle.lists_links.proofs.list.begin_item.Met as begin-thm
 use Rattle.list_items.proofs.advanced.Symbol as step-def
 use Rattle.list_items.proofs.advanced.Met as step-thm
 use Rattle.list_items.proofs.Lent.{Advanced, Begun, meets}

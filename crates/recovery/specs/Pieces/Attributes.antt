@@ -9,7 +9,7 @@ use borrow.Author.Tests.{eqb-true}
 use Rattle.spec.specs.Bytes.{Bytes, ascii, same, startsWith}
 use Rattle.spec.specs.Md.TextUtils.{isNbsp, entity, htmlFrom, «html_escape», eachByte}
 use Rattle.spec.specs.Pieces.Escapes.{replacedFrom, replaced, ampersands, noBreakSpaces, angleBrackets, quotationMarks, escapedAttribute}
-use Rattle.recovery.specs.Tests.{and-l, and-r}
+use Rattle.spec.proofs.Tests.{and-l, and-r}
 
 -- ---- one byte replaced
 

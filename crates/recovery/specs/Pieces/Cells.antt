@@ -19,7 +19,7 @@ use Rattle.recovery.specs.Cells.{padded, paddedAll, held, whole, untrail
 use Rattle.recovery.specs.Closed.{rowTail, rowLine}
 use Rattle.recovery.specs.Escapes.{escaped-punctuation}
 use Rattle.recovery.specs.Pieces.Escapes.{bare-backslash}
-use Rattle.recovery.specs.Tests.{or-l, or-r, apart}
+use Rattle.spec.proofs.Tests.{or-l, or-r, apart}
 
 -- ---- one cell
 

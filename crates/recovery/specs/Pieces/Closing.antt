@@ -8,7 +8,7 @@ use borrow.Author.Tests.{eqb-true, eqb-false, ne-eqb}
 use Rattle.spec.specs.Bytes.{Bytes, null, isin, every, blank, one, «trim_end_matches»}
 use Rattle.spec.specs.Reading.Lines.{spaceOrTab, blankLine, headIs, dropRun}
 use Rattle.spec.specs.Reading.Starts.{closingSequence, withoutClosing}
-use Rattle.recovery.specs.Tests.{and-l, and-r, or-l, or-r, or-elim}
+use Rattle.spec.proofs.Tests.{and-l, and-r, or-l, or-r, or-elim}
 use Rattle.recovery.specs.Closed.{hash}
 use Rattle.recovery.specs.Written.Ends.{trim-none}
 

@@ -14,9 +14,9 @@ use Rattle.spec.specs.Md.Heading.{«escape_closing_hashes»}
 use Rattle.spec.specs.Reading.Inline as reading
 use Rattle.spec.specs.Reading.Inline.{escaped, slashed, unescape}
 use Rattle.spec.specs.Reading.Lines.{punctuation, spaceOrTab}
-use Rattle.recovery.specs.Tests.{and-l, and-r, or-elim}
+use Rattle.spec.proofs.Tests.{and-l, and-r, or-elim, same-eq}
 use Rattle.recovery.specs.Closed.{hash}
-use Rattle.recovery.specs.Written.Ends.{lastIs, last-keep, trim-cut, ends-by, same-eq}
+use Rattle.recovery.specs.Written.Ends.{lastIs, last-keep, trim-cut, ends-by}
 use Rattle.recovery.specs.Pieces.Trims.{Tail, tail-of, Trimmed, trimmed, trim-run, trim-more}
 use Rattle.recovery.specs.Pieces.Closing.{closesBy, Closes, closes, slash-closes, run-closes}
 

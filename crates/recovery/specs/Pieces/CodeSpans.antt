@@ -15,7 +15,7 @@ use Rattle.spec.specs.Md.Elements.Code as writer
 use Rattle.spec.specs.Md.Elements.Code.{longestRun, «max_backtick_run», backticks, needsSpace, «push_code_text»}
 use Rattle.spec.specs.Reading.Lines.{headIs, endsLine}
 use Rattle.spec.specs.Pieces.CodeSpans.{preceded, upTo, unbroken, inner, stripped, content, codeSpan}
-use Rattle.recovery.specs.Tests.{and-l, and-r, or-l, or-r, apart, every-app, every-front, every-imp}
+use Rattle.spec.proofs.Tests.{and-l, and-r, or-l, or-r, apart, every-app, every-front, every-imp}
 use Rattle.recovery.specs.Fences.{ends-more, run-front, drop-front}
 use Rattle.recovery.specs.Written.Ends.{ends-by, ends-not, last-not, last-none}
 

@@ -12,7 +12,7 @@ use Rattle.spec.specs.Out.{Out, keep, push, andThen}
 use Rattle.spec.specs.Md.TextUtils.{«ends_with_marker_digits», isEscaped, escapedFrom, escapedChunk, startsWithWhite, endsWithWhite, moreWords, normalizedWords, normalized, «push_normalized_text», trimBlanks}
 use Rattle.spec.specs.Md.Elements.Code.{blankForBr, closeSkipMd, writeSkipMd, isTabOrBlank, trimEdges, codeOpts}
 use Rattle.spec.specs.declared.ctx.FormatOpts.{FormatOpts}
-use Rattle.recovery.specs.Tests.{and-l, and-r, isin-no, every-app, every-byte}
+use Rattle.spec.proofs.Tests.{and-l, and-r, isin-no, every-app, every-byte}
 use Rattle.recovery.specs.Words.{allOf, words-all}
 use Rattle.recovery.specs.Pieces.CodeSpans.{unbreaking}
 

@@ -12,7 +12,7 @@ use Rattle.spec.specs.Md.TextUtils.{isNbsp, entity, htmlFrom, «html_escape», 
 use Rattle.spec.specs.Reading.Lines.{punctuation, headIs, safeByte, safe}
 use Rattle.spec.specs.Reading.Inline.{escaped, slashed}
 use Rattle.spec.specs.Pieces.Links.{References, pointed, control, openBehind, closesNone, balanced, linkDestination, meaning, destinationMeaning}
-use Rattle.recovery.specs.Tests.{and-l, and-r, or-l, or-r, apart}
+use Rattle.spec.proofs.Tests.{and-l, and-r, or-l, or-r, apart}
 use Rattle.recovery.specs.Starts.{one-less}
 use Rattle.recovery.specs.Pieces.CodeSpans.{inner-same}
 use Rattle.recovery.specs.Pieces.Received.{Known, received, at, Writes, written-means}

@@ -7,7 +7,7 @@ use lib.Dec.{eqb}
 use Rattle.spec.specs.Bytes.{Bytes, ascii, isin}
 use Rattle.spec.specs.Md.TextUtils.{isEscaped, escapedFrom, escapedChunk}
 use Rattle.spec.specs.Reading.Inline.{bare, escaped, slashed, unescape}
-use Rattle.recovery.specs.Tests.{or-l}
+use Rattle.spec.proofs.Tests.{or-l}
 use Rattle.recovery.specs.Escapes.{escaped-punctuation}
 
 -- a backslash is always escaped

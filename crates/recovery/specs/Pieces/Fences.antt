@@ -16,7 +16,7 @@ use Rattle.spec.specs.Reading.Lines.{spaceOrTab, blankLine, headIs, dropWhile, 
 use Rattle.spec.specs.Reading.Starts.{fenceStart, fenceBy, fence, closingFence, lead, startBy, start}
 use Rattle.spec.specs.Pieces.Fences.{infoString, closes, contentOf, fencedBy, fenced}
 use Rattle.spec.specs.Pieces.Links.{References, meaning}
-use Rattle.recovery.specs.Tests.{and-l, and-r, apart, isin-no, isin-lacks, every-app, every-imp, every-replicate}
+use Rattle.spec.proofs.Tests.{and-l, and-r, apart, isin-no, isin-lacks, every-app, every-imp, every-replicate}
 use Rattle.recovery.specs.Fences.{Under, under-first, under-lines, no-close, unindent-zero, ended, ended-final, run-front, drop-front, run-fence, drop-fence}
 use Rattle.recovery.specs.Pieces.Meanings.{literal, means, means-itself}
 use Rattle.recovery.specs.Joined.{inLine, clean, clean-app, safe-line, cut-line}

@@ -17,7 +17,7 @@ use Rattle.spec.specs.Pieces.Lines.{stripped, headingContent}
 use Rattle.spec.specs.Reading.Inline.{unescape}
 use Rattle.spec.specs.Reading.Lines.{spaceOrTab, run, dropRun, strip}
 use Rattle.spec.specs.Reading.Starts.{headingStart, withoutClosing, ends, atxHeadingBy, atxHeading, lead, startBy, start}
-use Rattle.recovery.specs.Tests.{and-l, and-r, every-imp, every-replicate, null-nil}
+use Rattle.spec.proofs.Tests.{and-l, and-r, every-imp, every-replicate, null-nil}
 use Rattle.recovery.specs.Joined.{inLine}
 use Rattle.recovery.specs.Closed.{hash}
 use Rattle.recovery.specs.Written.Ends.{lastIs, last-keep, last-replicate, trim-none, trim-cut, trim-behind, ends-not}

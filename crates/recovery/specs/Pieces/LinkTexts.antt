@@ -15,7 +15,7 @@ use Rattle.spec.specs.Reading.Lines.{punctuation, run, dropRun}
 use Rattle.spec.specs.Reading.Inline.{escaped, slashed, anywhere}
 use Rattle.spec.specs.Pieces.CodeSpans.{preceded, upTo}
 use Rattle.spec.specs.Pieces.LinkWholes.{spanBy, spanLength, bracketsBehind, spanBehind, linkText, isSome, spanCloses, balancedText, nestedLink, holdsLink}
-use Rattle.recovery.specs.Tests.{and-l, and-r, apart}
+use Rattle.spec.proofs.Tests.{and-l, and-r, apart}
 use Rattle.recovery.specs.Escapes.{escaped-punctuation}
 use Rattle.recovery.specs.Pieces.Cells.{quiet, unescaped-quiet}
 use Rattle.recovery.specs.Written.Normalized.{no-marker-digits}

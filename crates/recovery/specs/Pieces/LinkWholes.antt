@@ -17,7 +17,7 @@ use Rattle.spec.specs.Pieces.Links.{control, closesNone, enclosed, enclosedBy, 
 use Rattle.spec.specs.Pieces.LinkWholes as whole
 use Rattle.spec.specs.Pieces.LinkWholes.{balancedText, withoutEnding, afterSpace, destinationOf, opensTitle, closing, titled, withDestination, withText, bracketed, holdsLink, unlessNested, inlineLink, inlineImage}
 use Rattle.spec.specs.Everything.{everything}
-use Rattle.recovery.specs.Tests.{and-l, and-r, or-l, or-r, apart}
+use Rattle.spec.proofs.Tests.{and-l, and-r, or-l, or-r, apart}
 use Rattle.recovery.specs.Pieces.Destinations.{html-some}
 use Rattle.recovery.specs.Pieces.Titles.{titleWords, titleBody, titleOf, title-link}
 use Rattle.recovery.specs.Pieces.LinkTexts.{text-parts}

@@ -9,7 +9,7 @@ use lib.ListN.{length}
 use Rattle.spec.specs.Bytes.{Bytes, isin, every, takeWhile}
 use Rattle.spec.specs.Reading.Lines.{punctuation}
 use Rattle.spec.specs.Pieces.Links.{References, refName, escapes, referred, unit, meaning}
-use Rattle.recovery.specs.Tests.{and-l, and-r, apart}
+use Rattle.spec.proofs.Tests.{and-l, and-r, apart}
 
 -- a byte that means itself: neither backslash nor `&`
 unfoldable pub literal : ℕ → Bool

@@ -15,7 +15,8 @@ use Rattle.spec.specs.Md.Constants.{«CODE_LANGUAGE_ATTRIBUTES», «CODE_LANGUA
 use Rattle.spec.specs.Md.MDSerializer.{Ancestors}
 use Rattle.spec.specs.declared.ctx.FormatOpts.{FormatOpts}
 use Rattle.spec.specs.Out.{push}
-use Rattle.recovery.specs.Written.Ends.{same-eq, ends-by}
+use Rattle.recovery.specs.Written.Ends.{ends-by}
+use Rattle.spec.proofs.Tests.{same-eq}
 use Rattle.recovery.specs.Pieces.Fences.{infoByte}
 
 -- ---- the language is such an info string

@@ -9,7 +9,7 @@ use borrow.Author.Tests.{eqb-true}
 use Rattle.spec.specs.Bytes.{Bytes, ascii, same, isin, every, startsWith}
 use Rattle.spec.specs.Md.TextUtils.{isNbsp, entity, htmlFrom, «html_escape», eachByte}
 use Rattle.spec.specs.Pieces.Links.{References, meaning}
-use Rattle.recovery.specs.Tests.{and-l, and-r, apart}
+use Rattle.spec.proofs.Tests.{and-l, and-r, apart}
 use Rattle.recovery.specs.Joined.{inLine}
 use Rattle.recovery.specs.Pieces.Attributes.{each-app, first-is, entity-nbsp}
 use Rattle.recovery.specs.Pieces.Meanings.{named, Means, mnil, mref, Means-app, means}

@@ -12,7 +12,7 @@ use Rattle.spec.specs.Md.TextUtils.{isEscaped, escapedFrom, escapedChunk, moreW
 use Rattle.spec.specs.Reading.Lines.{punctuation}
 use Rattle.spec.specs.Reading.Inline.{escaped, slashed}
 use Rattle.spec.specs.Pieces.Links.{References, enclosed, refName, escapes, referred, unit, meaning}
-use Rattle.recovery.specs.Tests.{and-l, and-r, apart}
+use Rattle.spec.proofs.Tests.{and-l, and-r, apart}
 use Rattle.recovery.specs.Words.{blanked, allOf}
 use Rattle.recovery.specs.Escapes.{escapable, escaped-escapable, escaped-punctuation}
 use Rattle.recovery.specs.Pieces.Escapes.{bare-backslash}

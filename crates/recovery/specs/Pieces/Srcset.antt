@@ -9,7 +9,7 @@ use borrow.Author.Tests.{not-false}
 use Rattle.spec.specs.Bytes.{Bytes, null, every, white, one, unless, «trim_end_matches», «trim_start_matches», takeWhile, cutAt, parts, split, filled, words, firstWord}
 use Rattle.spec.specs.Md.Elements.Image.{firstSource}
 use Rattle.spec.specs.Reading.Lines.{headIs}
-use Rattle.recovery.specs.Tests.{and-l, and-r, or-l, or-r}
+use Rattle.spec.proofs.Tests.{and-l, and-r, or-l, or-r}
 use Rattle.recovery.specs.Written.Ends.{trim-none}
 use Rattle.spec.specs.Pieces.Srcset.{comma, whiteOrComma, splitting, collected, url, firstUrl, behindUrl, candidate, firstCandidate}
 

@@ -9,7 +9,7 @@ use Rattle.spec.specs.Bytes.{Bytes, ascii, null, same, isin, every, endsWith, w
 use Rattle.spec.specs.Out.{push, andThen, beside, nested}
 use Rattle.spec.specs.Md.Ctx.{new}
 use Rattle.spec.specs.Md.TextUtils.{«ends_with_marker_digits», normalizedWords, normalized, «push_normalized_text», quoteEscaped, eachByte, quotedTitle, «push_title»}
-use Rattle.recovery.specs.Tests.{isin-lacks}
+use Rattle.spec.proofs.Tests.{isin-lacks}
 use Rattle.recovery.specs.Written.Ends.{lastIs, trim-fix, ends-not, last-keep, null-app}
 use Rattle.recovery.specs.Pieces.Titles.{titleWords, titleBody, titleOf}
 

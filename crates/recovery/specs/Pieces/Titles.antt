@@ -11,7 +11,7 @@ use Rattle.spec.specs.Md.TextUtils.{escapedChunk, startsWithWhite, endsWithWhit
 use Rattle.spec.specs.Reading.Lines.{punctuation, spaceOrTab, headIs, safe, endsLine, lineByte, cutLines, withoutLast, lines, blankLine}
 use Rattle.spec.specs.Pieces.Links.{References, enclosed, enclosedBy, noBlankLine, linkTitle, titleMeaning}
 use Rattle.recovery.specs.Tables.{punctuation-line as punctuation-in-line}
-use Rattle.recovery.specs.Tests.{and-l, and-r, apart, isin-no, every-app, every-byte, every-both}
+use Rattle.spec.proofs.Tests.{and-l, and-r, apart, isin-no, every-app, every-byte, every-both}
 use Rattle.recovery.specs.Words.{blanked, allOf, words-all, absent}
 use Rattle.recovery.specs.Pieces.Attributes.{each-app}
 use Rattle.recovery.specs.Pieces.Meanings.{literal, means}

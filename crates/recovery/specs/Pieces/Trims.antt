@@ -6,9 +6,8 @@ use mathlib.Core.List.{[], _∷_, _++_}
 use lib.Dec.{eqb}
 use borrow.Author.Tests.{eqb-true, not-true}
 use Rattle.spec.specs.Bytes.{Bytes, null, isin, every, one, unless, whiteSpace, isWhiteSpace, «trim_end_matches», «trim_end»}
-use Rattle.recovery.specs.Tests.{and-l, and-r, or-l, or-r}
+use Rattle.spec.proofs.Tests.{and-l, and-r, or-l, or-r, allOf, among-yes}
 use Rattle.recovery.specs.Closed.{hash}
-use Rattle.recovery.specs.Written.WhiteSpace.{allOf, among-yes}
 
 -- ---- `trim_end` and #
 

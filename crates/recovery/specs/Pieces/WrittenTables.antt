@@ -20,7 +20,7 @@ use Rattle.spec.specs.Reading.Lines as reading
 use Rattle.spec.specs.Reading.Lines.{safe}
 use Rattle.spec.specs.Reading.Tables.{row}
 use Rattle.spec.specs.declared.ctx.FormatOpts.{FormatOpts}
-use Rattle.recovery.specs.Tests.{and-l, and-r, every-app}
+use Rattle.spec.proofs.Tests.{and-l, and-r, every-app}
 use Rattle.recovery.specs.Joined.{inLine, clean, lastSome, safe-join, lines-join}
 use Rattle.recovery.specs.Fences.{ended}
 use Rattle.recovery.specs.Cells.{hyphens-rowed}

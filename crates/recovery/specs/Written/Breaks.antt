@@ -8,7 +8,7 @@ use lib.ListN.{length, replicate}
 use Rattle.spec.specs.Bytes.{Bytes, ascii, null, same, every, endsWith, white, blank, isin, one, unless, «trim_end_matches», «trim_start_matches», «trim_ascii_end», «trim_ascii_start»}
 use Rattle.spec.specs.Out.{cut, keep, push, andThen}
 use Rattle.spec.specs.Md.TextUtils.{trimBlanks, «trim_trailing_space», breaksUntil, «add_linebreaks», «trim_space»}
-use Rattle.recovery.specs.Tests.{or-l, or-r, every-imp, eqb-yes}
+use Rattle.spec.proofs.Tests.{or-l, or-r, every-imp, eqb-yes}
 use Rattle.recovery.specs.Written.Ends.{lastIs, firstIs, last-keep, last-imp, Snoc, snoc, trim-fix, trim-none, trim-cut, start-cut, ends-by, last-not}
 
 -- ---- what a text ends with

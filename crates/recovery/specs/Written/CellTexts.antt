@@ -19,7 +19,7 @@ use Rattle.spec.specs.Plain.{plainText, oneText}
 use Rattle.spec.specs.SheetList.{firstText}
 use Rattle.spec.specs.Tree.{Attr, Forest, nothing, text, element, attrsOf, kidsOf}
 use Rattle.spec.specs.declared.ctx.FormatOpts.{FormatOpts}
-use Rattle.recovery.specs.Tests.{every-replicate}
+use Rattle.spec.proofs.Tests.{every-replicate, same-eq}
 use Rattle.recovery.specs.Words.{plainWords, blanked, text-words, text-some}
 use Rattle.recovery.specs.Escapes.{bare, bare-not, Esc, enil, ebare, eback, phrase-Esc}
 use Rattle.recovery.specs.TableBlocks.{kids-text, one-text}
@@ -27,7 +27,7 @@ use Rattle.recovery.specs.Closed.{phrase}
 use Rattle.recovery.specs.Written.Breaks.{lfs, blank-white, end-blank, trimmed, trim-core}
 use Rattle.recovery.specs.Written.Normalized.{pipes-Esc, normalized-phrase, no-marker-empty}
 use Rattle.recovery.specs.Written.Phrases.{phrase-first, phrase-last}
-use Rattle.recovery.specs.Written.Ends.{lastIs, last-keep, null-app, trim-none, trim-behind, same-eq}
+use Rattle.recovery.specs.Written.Ends.{lastIs, last-keep, null-app, trim-none, trim-behind}
 
 -- ---- backslashes at the end
 

@@ -9,7 +9,7 @@ use lib.ListN.{length, length-append, replicate, drop}
 use lib.Seq.{drop-append-seam, drop-append-le}
 use borrow.Author.Tests.{eqb-true, not-true}
 use Rattle.spec.specs.Bytes.{Bytes, null, same, every, endsWith, one, unless, «trim_end_matches», «trim_start_matches»}
-use Rattle.recovery.specs.Tests.{and-l, and-r}
+use Rattle.spec.proofs.Tests.{and-l, and-r}
 
 -- ---- the last byte
 
@@ -123,13 +123,6 @@ start-cut p [] (b ∷ x) h k = rw k
 start-cut p (b ∷ z) x h k = rw (and-l (p b) _ h) (start-cut p z x (and-r (p b) _ h) k)
 
 -- ---- ends
-
-pub same-eq : (x y : Bytes) → same x y ≡ true → x ≡ y
-unfolding same
-same-eq [] [] h = refl
-same-eq [] (b ∷ y) h = absurd (false≢true h)
-same-eq (a ∷ x) [] h = absurd (false≢true h)
-same-eq (a ∷ x) (b ∷ y) h = rw (eqb-true a b (and-l (eqb a b) _ h), same-eq x y (and-r (eqb a b) _ h))
 
 same-last : (u v : Bytes) (b c : ℕ) → eqb b c ≡ false → same (u ++ (b ∷ [])) (v ++ (c ∷ [])) ≡ false
 unfolding same

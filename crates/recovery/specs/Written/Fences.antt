@@ -13,7 +13,7 @@ use Rattle.spec.specs.Out.{push}
 use Rattle.spec.specs.Md.Elements.Code.{«find_code_lang_attribute», nearestLanguage, «find_code_language_css_class», «find_code_language», «max_backtick_run», backticks, fencedBlock, «write_pre»}
 use Rattle.spec.specs.Md.MDSerializer.{Ancestors}
 use Rattle.spec.specs.declared.ctx.FormatOpts.{FormatOpts}
-use Rattle.recovery.specs.Tests.{and-l, and-r}
+use Rattle.spec.proofs.Tests.{and-l, and-r}
 use Rattle.recovery.specs.Fences.{ended, ended-final}
 use Rattle.recovery.specs.Written.Ends.{lastIs, firstIs, last-replicate}
 use Rattle.recovery.specs.Written.Lines.{ended-app, ended-join, join-first, join-last}

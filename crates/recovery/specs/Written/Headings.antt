@@ -14,7 +14,7 @@ use Rattle.spec.specs.Out.{keep, replace}
 use Rattle.spec.specs.Md.TextUtils.{isEscaped, escapedFrom, escapedChunk, endsWithWhite, moreWords, normalizedWords, normalized}
 use Rattle.spec.specs.Md.Heading.{«escape_closing_hashes»}
 use Rattle.spec.specs.declared.ctx.FormatOpts.{FormatOpts}
-use Rattle.recovery.specs.Tests.{and-l, and-r, apart, every-imp}
+use Rattle.spec.proofs.Tests.{and-l, and-r, apart, every-imp}
 use Rattle.recovery.specs.Words.{plainByte, plainWord, plainWords, plain-bytes, text-words, text-some}
 use Rattle.recovery.specs.Escapes.{Esc, every-Esc, every-plain, null-Esc, chunk-Esc, word-Esc}
 use Rattle.recovery.specs.Written.Ends.{null-app, lastIs, firstIs, last-keep, last-none, last-replicate, trim-cut, trim-behind, ends-by, last-not}

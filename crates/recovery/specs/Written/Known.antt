@@ -7,8 +7,7 @@ use Rattle.spec.specs.Bytes.{Bytes, ascii, same, among, isin}
 use Rattle.spec.specs.Names.{names, place, tagOf}
 use Rattle.spec.specs.Plain.{isList}
 use Rattle.spec.specs.Md.Constants.{«DEFAULT_SKIP_TAGS»}
-use Rattle.recovery.specs.Tests.{apart}
-use Rattle.recovery.specs.Written.Ends.{same-eq}
+use Rattle.spec.proofs.Tests.{apart, same-eq}
 
 -- no name that the writers know is one of the default skip list
 pub known : (name : Bytes) → eqb (tagOf name) 0 ≡ false → among name «DEFAULT_SKIP_TAGS» ≡ false

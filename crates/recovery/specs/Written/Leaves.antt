@@ -23,7 +23,7 @@ use Rattle.spec.specs.Md.Elements.Code.{«write_pre»}
 use Rattle.spec.specs.Md.Elements.Table.{«write_table»}
 use Rattle.spec.specs.Md.Serializer.{isTight, openBreak, opened, closeBlock, closeMd, closed, hasWriter, «write_element», inElement, writeElementNode, writeNodes, writeAt, serializer}
 use Rattle.spec.specs.declared.ctx.FormatOpts.{FormatOpts}
-use Rattle.recovery.specs.Tests.{isin-yes, apart}
+use Rattle.spec.proofs.Tests.{isin-yes, apart, same-eq}
 use Rattle.recovery.specs.TableBlocks.{kids-text, one-text}
 use Rattle.recovery.specs.Fences.{ended}
 use Rattle.recovery.specs.Lists.{ListOk, list-ok}
@@ -38,7 +38,6 @@ use Rattle.recovery.specs.Written.Fences.{bareAll, pre-text, fence-first
 use Rattle.recovery.specs.Written.Headings.{headed, heading-grown, heading-text, heading-first, heading-last}
 use Rattle.recovery.specs.Written.Tables.{table-text, table-first, table-last}
 use Rattle.recovery.specs.Written.Contexts.{optsAt}
-use Rattle.recovery.specs.Written.Ends.{same-eq}
 use Rattle.recovery.specs.Written.Known.{known}
 use Rattle.recovery.specs.Written.Lists.{items-real, list-step}
 use Rattle.recovery.specs.Written.Blocks.{After, behind, LineEnd, line-end, Opens, gapped, block-opens, table-opens, fenceBreak, fence-opens, words-after, lines-after}

@@ -25,7 +25,7 @@ use Rattle.spec.specs.Md.Elements.List.{kindOf, «node_is_list_item_block», ha
 use Rattle.spec.specs.Md.Serializer.{isTight, openBreak, opened, hasWriter, «write_element», inElement, writeElementNode, writeNodes, writeAt, serializer}
 use Rattle.spec.specs.declared.ctx.FormatOpts.{FormatOpts}
 use Rattle.spec.specs.declared.ctx.ListContext.{ListContext}
-use Rattle.recovery.specs.Tests.{and-r}
+use Rattle.spec.proofs.Tests.{and-r}
 use Rattle.recovery.specs.Lists.{ItemOk, ListOk, list-ok, list-tag, as-small}
 use Rattle.recovery.specs.Markers.{smallNumber}
 use Rattle.recovery.specs.Closed.{phrase, marker, deeper}

@@ -19,7 +19,7 @@ use Rattle.spec.specs.Md.MDSerializer.{Ancestors, MDSerializer}
 use Rattle.spec.specs.Out.{andThen, keep}
 use Rattle.spec.specs.Md.Elements.List.{kindOf, listChildren}
 use Rattle.spec.specs.Md.Serializer.{writeNodes, writeElementNode, writeAt, serializer}
-use Rattle.recovery.specs.Tests.{and-l, and-r}
+use Rattle.spec.proofs.Tests.{and-l, and-r}
 use Rattle.recovery.specs.Fences.{ended}
 use Rattle.recovery.specs.Lists.{ItemOk, item-ok, ListOk, list-ok}
 use Rattle.recovery.specs.Closed.{phrase, marker, deeper, itemLine, spaced, listInterrupts, itemsLines, contentLines, listsLines}

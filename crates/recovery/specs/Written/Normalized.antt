@@ -11,7 +11,7 @@ use Rattle.spec.specs.Plain.{plainText}
 use Rattle.spec.specs.Md.TextUtils.{«ends_with_marker_digits», endsWithWhite, moreWords, escapedChunk, normalizedWords, normalized}
 use Rattle.spec.specs.Md.Elements.Table.{pipesEscaped}
 use Rattle.spec.specs.declared.ctx.FormatOpts.{FormatOpts}
-use Rattle.recovery.specs.Tests.{and-l, and-r}
+use Rattle.spec.proofs.Tests.{and-l, and-r}
 use Rattle.recovery.specs.Words.{text-some}
 use Rattle.recovery.specs.Escapes.{bare, bare-not, Esc, enil, ebare, eback}
 use Rattle.recovery.specs.Written.Ends.{lastIs, last-app, trim-fix}

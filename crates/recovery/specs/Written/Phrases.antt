@@ -14,7 +14,7 @@ use Rattle.spec.specs.Tree.{Forest, nothing, text, comment, element}
 use Rattle.spec.specs.ListNumber.{firstDue, itemNumber, nextDue}
 use Rattle.spec.specs.Plain.{plainText, noNode, items, itemContent, lists}
 use Rattle.spec.specs.Md.TextUtils.{escapedChunk, moreWords}
-use Rattle.recovery.specs.Tests.{and-l, and-r, isin-no, every-imp}
+use Rattle.spec.proofs.Tests.{and-l, and-r, isin-no, every-imp}
 use Rattle.recovery.specs.Digits.{decimal-digits}
 use Rattle.recovery.specs.Words.{plainByte, plainWord, plainWords, plain-bytes, text-words, text-some}
 use Rattle.recovery.specs.Escapes.{Esc, chunk-Esc, every-Esc, null-Esc}

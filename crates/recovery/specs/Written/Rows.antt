@@ -16,7 +16,7 @@ use Rattle.spec.specs.SheetList as list
 use Rattle.spec.specs.Md.Elements.Link.{hasElement}
 use Rattle.spec.specs.Md.Elements.Table.{Cell, «is_table_cell», cellsOf, rowsOf, allTh, equalRows}
 use Rattle.spec.specs.Md.MDSerializer.{Ancestors}
-use Rattle.recovery.specs.Tests.{and-l, and-r, or-elim, apart}
+use Rattle.spec.proofs.Tests.{and-l, and-r, or-elim, apart}
 use Rattle.recovery.specs.TableBlocks.{allCells, one-text}
 
 -- ---- rows

@@ -12,13 +12,12 @@ use Rattle.spec.specs.Tree.{Attr, Forest, nothing, text, comment, element, attr
 use Rattle.spec.specs.ListNumber.{asNumber, orElse, firstDue, itemValue, itemNumber}
 use Rattle.spec.specs.Plain.{wideBlanks, beginsWithAny, plainEnds, without, plainText, items, itemContent}
 use Rattle.spec.specs.Md.Elements.List.{hasTextBeforeList, «can_interrupt_paragraph»}
-use Rattle.recovery.specs.Tests.{and-l, and-r, or-elim, apart}
+use Rattle.spec.proofs.Tests.{and-l, and-r, or-elim, apart, same-eq, allOf, among-yes}
 use Rattle.recovery.specs.Words.{kept, plainByte, text-kept, text-some}
 use Rattle.recovery.specs.Numbers.{number-of, number-or, start-of}
 use Rattle.recovery.specs.Lists.{ItemOk, item-ok}
 use Rattle.recovery.specs.Closed.{interrupts, listInterrupts}
-use Rattle.recovery.specs.Written.Ends.{same-eq}
-use Rattle.recovery.specs.Written.WhiteSpace.{allOf, among-yes, among-wide}
+use Rattle.recovery.specs.Written.WhiteSpace.{among-wide}
 
 unfoldable black : ℕ → Bool
 black b = not (white b)

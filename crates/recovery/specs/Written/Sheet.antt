@@ -20,9 +20,9 @@ use Rattle.spec.specs.Md.Heading.{«is_heading», «md_prefix»}
 use Rattle.spec.specs.Md.MDSerializer.{Ancestors}
 use Rattle.spec.specs.Md.Elements.Blocks.{«is_md_block»}
 use Rattle.spec.specs.Md.Serializer.{opened, closeMd, closed, hasWriter, inElement, writeElementNode, writeNodes, writeAt, serializer, writeFragment, serialize}
-use Rattle.recovery.specs.Tests.{and-l, and-r, or-elim, isin-yes, apart}
+use Rattle.spec.proofs.Tests.{and-l, and-r, or-elim, isin-yes, apart, same-eq}
 use Rattle.recovery.specs.Closed.{phrase, headingLine, fencedLines, tableLines, itemsLines, leafLines, ownLines, blockLines, sheetLines, fromFirst, closedForm}
-use Rattle.recovery.specs.Written.Ends.{firstIs, same-eq}
+use Rattle.recovery.specs.Written.Ends.{firstIs}
 use Rattle.recovery.specs.Written.Breaks.{lfs, sep, broken, trimmed, trim-core, trim-lfs}
 use Rattle.recovery.specs.Written.Fences.{bareAll, fence-first}
 use Rattle.recovery.specs.TableBlocks.{kids-text, one-text}

@@ -20,7 +20,7 @@ use Rattle.spec.specs.Md.Elements.Table.{Cell, cellsOf, rowsOf, fromCells, allT
 use Rattle.spec.specs.Md.MDSerializer.{Ancestors, MDSerializer}
 use Rattle.spec.specs.Md.Serializer.{serializer}
 use Rattle.spec.specs.declared.ctx.FormatOpts.{FormatOpts}
-use Rattle.recovery.specs.Tests.{and-l, and-r}
+use Rattle.spec.proofs.Tests.{and-l, and-r}
 use Rattle.recovery.specs.Fences.{ended}
 use Rattle.recovery.specs.TableBlocks as blocks
 use Rattle.recovery.specs.TableBlocks.{allCells}

@@ -8,23 +8,12 @@ use lib.ListN.{drop}
 use borrow.Author.Tests.{eqb-true, not-true}
 use Rattle.spec.specs.Bytes.{Bytes, null, same, isin, among, every, endsWith, white, blank, whiteSpace, isWhiteSpace, unless, «trim_end_matches», «trim_end»}
 use Rattle.spec.specs.Plain.{wideBlanks, endsWithAny}
-use Rattle.recovery.specs.Tests.{and-l, and-r, or-l, or-r, or-elim, apart}
+use Rattle.spec.proofs.Tests.{and-l, and-r, or-l, or-r, apart, same-eq, allOf, among-yes}
 use Rattle.recovery.specs.Words.{kept, plainByte}
 use Rattle.recovery.specs.Escapes.{Esc, enil, ebare, eback}
-use Rattle.recovery.specs.Written.Ends.{null-app, same-eq, ends-by}
+use Rattle.recovery.specs.Written.Ends.{null-app, ends-by}
 
 -- ---- one of some byte strings
-
--- a class has all of them
-unfoldable pub allOf : (Bytes → Bool) → List Bytes → Bool
-allOf q [] = true
-allOf q (x ∷ xs) = q x && allOf q xs
-
-pub among-yes : (q : Bytes → Bool) (r : Bytes) (xs : List Bytes) → among r xs ≡ true → allOf q xs ≡ true → q r ≡ true
-unfolding among allOf
-among-yes q r [] h k = absurd (false≢true h)
-among-yes q r (x ∷ xs) h k =
-    or-elim (same r x) (among r xs) (λ e. ap q (same-eq r x e) ∙ and-l (q x) _ k) (λ e. among-yes q r xs e (and-r (q x) _ k)) h
 
 -- a text that ends with none of them has none of them behind any other text
 not-among : (y r : Bytes) (xs : List Bytes) → endsWithAny xs (y ++ r) ≡ false → among r xs ≡ false

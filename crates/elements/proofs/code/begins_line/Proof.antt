@@ -3,7 +3,7 @@ use Prim.Native.Nat.{_≤_, _-_}
 use mathlib.Core.Path.{_≡_, refl, sym, _∙_}
 use lib.ListN.{drop, length-drop}
 use lib.Seq.{length-take-le}
-use Rattle.elements.proofs.Numbers.{node-in, pieces}
+use Rattle.nodes.proofs.Numbers.{node-in, pieces}
 use Rattle.elements.proofs.Edges.{begins, begin-here, begin-on, begin-none, begin-numbers}
 use borrow.Author.Needs.{needs}
 use native.Mathlib.Omega.{arith}

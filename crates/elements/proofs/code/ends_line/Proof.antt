@@ -3,7 +3,7 @@ use Prim.Native.Nat.{_≤_, _-_, _+_}
 use mathlib.Core.Path.{_≡_, refl, sym, ap, _∙_}
 use mathlib.Core.Bool.{Bool, false}
 use Rattle.elements.specs.Edges.{endedBy}
-use Rattle.elements.proofs.Numbers.{node-in, pieces}
+use Rattle.nodes.proofs.Numbers.{node-in, pieces}
 use Rattle.elements.proofs.Edges.{ended-turn, ended-end, ended-numbers}
 use borrow.Author.Needs.{needs}
 use native.Mathlib.Omega.{arith}

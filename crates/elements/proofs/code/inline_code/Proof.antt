@@ -8,7 +8,7 @@ use Rattle.spec.specs.Tree.{nothing, element, «text_of»}
 use Rattle.spec.specs.Md.Serializer.{serializer}
 use Rattle.spec.specs.Md.Elements.Code.{codeOpts, writeSkipMd, trimEdges, inlineCode, «push_code_text»}
 use Rattle.spec.specs.declared.ctx.FormatOpts.{FormatOpts}
-use Rattle.tree.specs.Scans.{skipList}
+use Rattle.input.specs.Scans.{skipList}
 use Rattle.text.proofs.Writing.{alike, done, full}
 use Rattle.text.proofs.Temporary.{temp-full, temp-fits}
 use Rattle.elements.proofs.Nesting.{nest-writes}

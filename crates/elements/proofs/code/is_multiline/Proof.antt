@@ -1,7 +1,7 @@
 -- `elements::code::is_multiline` meets its contract. Assumes nothing.
 use Prim.Native.Nat.{_≤_, _-_}
 use mathlib.Core.Path.{_≡_, refl, sym, _∙_}
-use Rattle.elements.proofs.Numbers.{node-in}
+use Rattle.nodes.proofs.Numbers.{node-in}
 use Rattle.elements.proofs.Multilines.{some-line, line-numbers, line-here, line-on, line-none}
 use borrow.Author.Needs.{needs}
 use native.Mathlib.Omega.{arith}

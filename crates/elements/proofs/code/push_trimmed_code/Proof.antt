@@ -6,7 +6,7 @@ use Rattle.spec.specs.Bytes.{Bytes}
 use Rattle.spec.specs.Tree.{«text_of»}
 use Rattle.spec.specs.Md.Elements.Code.{«push_code_text»}
 use Rattle.text.proofs.Writing.{alike, alike-answer}
-use Rattle.elements.proofs.Interrupts.{element-kids}
+use Rattle.nodes.proofs.Interrupts.{element-kids}
 use Rattle.elements.proofs.Edges.{code-is, code-size}
 use borrow.Author.Needs.{needs}
 use Rattle.elements.proofs.code.push_trimmed_code.Statement.{statement}

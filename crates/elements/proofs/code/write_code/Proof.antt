@@ -3,9 +3,9 @@ use mathlib.Core.Path.{sym, _∙_}
 use lib.ListN.{take}
 use Rattle.spec.specs.Call.{skipTags}
 use Rattle.spec.specs.Md.Serializer.{serializer}
-use Rattle.tree.specs.Scans.{skipList}
+use Rattle.input.specs.Scans.{skipList}
 use Rattle.text.proofs.Writing.{alike}
-use Rattle.elements.proofs.Interrupts.{element-kids}
+use Rattle.nodes.proofs.Interrupts.{element-kids}
 use Rattle.elements.proofs.Multilines.{code-block, code-line}
 use borrow.Author.Needs.{needs}
 use Rattle.elements.proofs.code.write_code.Statement.{statement}

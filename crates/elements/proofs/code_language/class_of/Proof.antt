@@ -1,5 +1,5 @@
 -- `elements::code_language::class_of` meets its contract. Assumes nothing.
-use Rattle.text.proofs.Values.{value-as}
+use Rattle.lists_links.proofs.Values.{value-as}
 use Rattle.elements.proofs.Languages.{class-value, class-missing}
 use borrow.Author.Needs.{needs}
 use Rattle.elements.proofs.code_language.class_of.Statement.{statement}

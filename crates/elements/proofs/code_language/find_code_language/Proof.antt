@@ -1,7 +1,7 @@
 -- `elements::code_language::find_code_language` meets its contract. Assumes nothing.
 use mathlib.Core.List.{_∷_}
 use Rattle.spec.specs.Md.Elements.Code.{«find_code_language»}
-use Rattle.elements.proofs.Interrupts.{element-kids}
+use Rattle.nodes.proofs.Interrupts.{element-kids}
 use Rattle.elements.proofs.Languages.{around-it, language-as, language-first, language-second}
 use borrow.Author.Needs.{needs}
 use Rattle.elements.proofs.code_language.find_code_language.Statement.{statement}

@@ -6,7 +6,7 @@ use Rattle.spec.specs.Bytes.{ascii}
 use Rattle.spec.specs.Tree.{attr}
 use Rattle.spec.specs.Md.Elements.Code.{classLanguage, «find_code_language_css_class»}
 use Rattle.tree.specs.Represents.{attrsBehind}
-use Rattle.elements.proofs.Siblings.{Left, left-all, left-first, left-node, left-on, left-at, left-none}
+use Rattle.nodes.proofs.Siblings.{Left, left-all, left-first, left-node, left-on, left-at, left-none}
 use Rattle.elements.proofs.Languages.{language-of, css-here, css-on}
 use native.Mathlib.Omega.{arith}
 use Rattle.elements.proofs.code_language.find_code_language_css_class.Statement.{statement}

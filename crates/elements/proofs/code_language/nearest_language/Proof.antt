@@ -3,7 +3,7 @@ use mathlib.Core.Path.{sym, subst}
 use Prim.Native.Nat.{ℕ, _-_}
 use Rattle.tree.specs.Attributes.{Valued, languageAttr}
 use Rattle.tree.specs.Represents.{attrsBehind}
-use Rattle.text.proofs.Values.{value-as}
+use Rattle.lists_links.proofs.Values.{value-as}
 use Rattle.elements.proofs.Languages.{Up, up-all, up-node, up-on, up-found, up-root, up-none}
 use borrow.Author.Needs.{needs}
 use native.Mathlib.Omega.{arith}

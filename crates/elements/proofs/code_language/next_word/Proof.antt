@@ -6,7 +6,7 @@ use lib.Seq.{length-take-le}
 use Rattle.spec.specs.Bytes.{Bytes, white, «trim_start_matches»}
 use Rattle.text.specs.Trimmed.{Skipped}
 use Rattle.text.proofs.Sourcing.{part-is}
-use Rattle.text.proofs.Wording.{word-at}
+use Rattle.normalized.proofs.Wording.{word-at}
 use borrow.Author.Needs.{needs}
 use native.Mathlib.Omega.{arith}
 use Rattle.elements.proofs.code_language.next_word.Statement.{statement}

@@ -1,6 +1,6 @@
 -- `elements::link::push_blank_link` meets its contract. Assumes nothing.
 use mathlib.Core.Path.{refl}
-use Rattle.text.proofs.Spans.{lifted-writes}
+use Rattle.text.proofs.Lifting.{lifted-writes}
 use Rattle.elements.specs.LinkStep.{plainStep}
 use borrow.Author.Needs.{needs}
 use native.Mathlib.Omega.{arith}

@@ -1,7 +1,7 @@
 -- `elements::link::push_by` meets its contract. Assumes nothing.
 use mathlib.Core.Path.{sym}
 use lib.ListN.{length-drop}
-use Rattle.text.proofs.Spans.{in-being}
+use Rattle.text.proofs.Lifting.{in-being}
 use Rattle.elements.specs.LinkStep.{plainStep}
 use borrow.Author.Needs.{needs}
 use Rattle.elements.proofs.link.push_by.Statement.{statement}

@@ -4,7 +4,7 @@ use mathlib.Core.Path.{refl}
 use mathlib.Core.List.{List}
 use lib.ListN.{take, drop}
 use Rattle.tree.specs.Represents.{attrsBehind}
-use Rattle.text.proofs.Spans.{lifted-writes}
+use Rattle.text.proofs.Lifting.{lifted-writes}
 use Rattle.text.proofs.Writing.{alike, keeps}
 use Rattle.elements.specs.LinkStep.{appendBy, linkShown}
 use Rattle.elements.proofs.Links.{link-none, link-some}

@@ -11,9 +11,9 @@ use Rattle.spec.specs.Md.Elements.List.{numberOr, numberOf, startOf}
 use Rattle.tree.specs.Memory.{placeAt}
 use Rattle.tree.specs.Represents.{attrsBehind}
 use Rattle.tree.proofs.Firsts.{first, rep-le}
-use Rattle.elements.specs.FirstElement.{firstElement}
-use Rattle.elements.proofs.Siblings.{its-node, its-kids}
-use Rattle.elements.proofs.Interrupts.{element-kids, element-node, element-name, can-none, can-other, can-blank, can-bullet, can-number}
+use Rattle.nodes.specs.FirstElement.{firstElement}
+use Rattle.nodes.proofs.Siblings.{its-node, its-kids}
+use Rattle.nodes.proofs.Interrupts.{element-kids, element-node, element-name, can-none, can-other, can-blank, can-bullet, can-number}
 use native.Mathlib.Omega.{arith}
 use Rattle.elements.proofs.list_nodes.can_interrupt_paragraph.Statement.{statement}
 use Rattle.elements.proofs.list_nodes.can_interrupt_paragraph.Tie as tie

@@ -5,9 +5,9 @@ use lib.ListN.{getD}
 use Rattle.spec.specs.Tree.{Forest}
 use Rattle.tree.specs.Memory.{placeAt}
 use Rattle.tree.specs.Represents.{Rep}
-use Rattle.elements.specs.FirstElement.{firstElement}
-use Rattle.elements.proofs.Siblings.{Left, left-all, left-first, left-node, left-on}
-use Rattle.elements.proofs.Interrupts.{element-first, element-on, element-none}
+use Rattle.nodes.specs.FirstElement.{firstElement}
+use Rattle.nodes.proofs.Siblings.{Left, left-all, left-first, left-node, left-on}
+use Rattle.nodes.proofs.Interrupts.{element-first, element-on, element-none}
 use native.Mathlib.Omega.{arith}
 use Rattle.elements.proofs.list_nodes.first_element.Statement.{statement}
 use Rattle.elements.proofs.list_nodes.first_element.Tie as tie

@@ -3,7 +3,7 @@ use Prim.Native.Nat.{ℕ, _-_}
 use mathlib.Core.Bool.{true, false}
 use mathlib.Core.Path.{refl, sym, ap, subst, _∙_}
 use Rattle.spec.specs.Md.Elements.List.{«node_is_list_item_block», hasBlocks}
-use Rattle.elements.proofs.Siblings.{Left, left-all, left-first, left-node, left-on, left-at, left-none}
+use Rattle.nodes.proofs.Siblings.{Left, left-all, left-first, left-node, left-on, left-at, left-none}
 use Rattle.elements.proofs.ListTests.{blocks-here, blocks-on}
 use borrow.Author.Needs.{needs}
 use native.Mathlib.Omega.{arith}

@@ -6,7 +6,7 @@ use borrow.Author.Tests.{not-true, not-false}
 use Rattle.spec.specs.Md.Elements.Blocks.{«is_list»}
 use Rattle.spec.specs.Md.Elements.List.{hasTextBeforeList}
 use Rattle.tree.specs.Represents.{headOf}
-use Rattle.elements.proofs.Siblings.{Left, left-all, left-first, left-node, left-on, left-at, left-none, its-head}
+use Rattle.nodes.proofs.Siblings.{Left, left-all, left-first, left-node, left-on, left-at, left-none, its-head}
 use Rattle.elements.proofs.ListTests.{before-none, before-here, before-on}
 use borrow.Author.Needs.{needs}
 use native.Mathlib.Omega.{arith}

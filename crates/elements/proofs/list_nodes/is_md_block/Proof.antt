@@ -1,5 +1,5 @@
 -- `elements::list_nodes::is_md_block` meets its contract. Assumes nothing.
-use Rattle.elements.proofs.Tests.{md-block-range}
+use Rattle.nodes.proofs.Tests.{md-block-range}
 use Rattle.elements.proofs.list_nodes.is_md_block.Statement.{statement}
 use Rattle.elements.proofs.list_nodes.is_md_block.Tie as tie
 

@@ -6,8 +6,8 @@ use Rattle.spec.specs.Tree.{kidsOf}
 use Rattle.spec.specs.Md.Elements.List.{nameOf, hasBlocks, «is_block_wrapper», «node_is_block_wrapper»}
 use Rattle.tree.proofs.Firsts.{first}
 use Rattle.tree.proofs.Kin.{first-name}
-use Rattle.elements.proofs.Tests.{wrapper-range}
-use Rattle.elements.proofs.Siblings.{its-node, its-kids}
+use Rattle.nodes.proofs.Tests.{wrapper-range}
+use Rattle.nodes.proofs.Siblings.{its-node, its-kids}
 use native.Mathlib.Omega.{arith}
 use Rattle.elements.proofs.list_nodes.node_is_block_wrapper.Statement.{statement}
 use Rattle.elements.proofs.list_nodes.node_is_block_wrapper.Tie as tie

@@ -3,8 +3,8 @@ use mathlib.Core.Path.{sym, ap, _∙_}
 use mathlib.Core.Option.{Option}
 use Rattle.spec.specs.Bytes.{Bytes}
 use Rattle.spec.specs.Md.Elements.List.{numberOf}
-use Rattle.text.specs.Parsed.{parsedOf}
-use Rattle.text.proofs.Values.{value-as}
+use Rattle.lists_links.specs.Parsed.{parsedOf}
+use Rattle.lists_links.proofs.Values.{value-as}
 use borrow.Author.Needs.{needs}
 use native.Mathlib.Omega.{arith}
 use Rattle.elements.proofs.list_nodes.number_of.Statement.{statement}

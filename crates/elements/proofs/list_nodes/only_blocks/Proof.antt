@@ -5,7 +5,7 @@ use mathlib.Core.Bool.{Bool, true, false, _&&_}
 use borrow.Author.Tests.{not-true, not-false}
 use Rattle.spec.specs.Md.Elements.List.{onlyBlocks}
 use Rattle.tree.specs.Represents.{restOf}
-use Rattle.elements.proofs.Siblings.{Left, left-all, left-first, left-node, left-on, left-at, left-none}
+use Rattle.nodes.proofs.Siblings.{Left, left-all, left-first, left-node, left-on, left-at, left-none}
 use native.Mathlib.Omega.{arith}
 use Rattle.elements.proofs.list_nodes.only_blocks.Statement.{statement}
 use Rattle.elements.proofs.list_nodes.only_blocks.Tie as tie

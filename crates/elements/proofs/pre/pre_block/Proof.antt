@@ -8,7 +8,7 @@ use Rattle.spec.specs.Tree.{«text_of»}
 use Rattle.spec.specs.Md.Elements.Code.{fencedBlock, «find_code_language»}
 use Rattle.text.proofs.Writing.{done, full}
 use Rattle.elements.proofs.Behind.{behind-from, behind-fits, behind-writes, block-over}
-use Rattle.elements.proofs.Interrupts.{element-kids}
+use Rattle.nodes.proofs.Interrupts.{element-kids}
 use borrow.Author.Needs.{needs}
 use Rattle.elements.proofs.pre.pre_block.Statement.{statement}
 use Rattle.elements.proofs.pre.pre_block.Tie as tie

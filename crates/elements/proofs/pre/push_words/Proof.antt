@@ -7,7 +7,7 @@ use Rattle.spec.specs.Bytes.{Bytes}
 use Rattle.spec.specs.Out.{push}
 use Rattle.text.proofs.Writing.{Owes, owes-all, owes-step, owes-stop, owes-nothing, alike}
 use Rattle.elements.specs.JoinedWords.{wordsOn, wroteOf}
-use Rattle.elements.proofs.Numbers.{node-in, pieces}
+use Rattle.nodes.proofs.Numbers.{node-in, pieces}
 use Rattle.elements.proofs.Joining.{joins-as, words-numbers, piece-turn, pieces-end}
 use borrow.Author.Needs.{needs}
 use native.Mathlib.Omega.{arith}

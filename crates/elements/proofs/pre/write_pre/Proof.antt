@@ -1,7 +1,7 @@
 -- `elements::pre::write_pre` meets its contract. Assumes nothing.
 use Rattle.spec.specs.Md.Elements.Code.{«write_pre»}
 use Rattle.text.proofs.Writing.{alike, yes, no}
-use Rattle.elements.proofs.Interrupts.{element-kids}
+use Rattle.nodes.proofs.Interrupts.{element-kids}
 use borrow.Author.Needs.{needs}
 use Rattle.elements.proofs.pre.write_pre.Statement.{statement}
 use Rattle.elements.proofs.pre.write_pre.Tie as tie

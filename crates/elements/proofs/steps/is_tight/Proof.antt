@@ -4,7 +4,7 @@ use mathlib.Core.Bool.{Bool, _&&_}
 use borrow.Author.Tests.{not-true, not-false}
 use Rattle.spec.specs.Names.{tagOf}
 use Rattle.spec.specs.Md.Elements.Blocks.{«is_list»}
-use Rattle.elements.proofs.Interrupts.{element-name}
+use Rattle.nodes.proofs.Interrupts.{element-name}
 use Rattle.elements.proofs.Openings.{tight-not, tight-is}
 use borrow.Author.Needs.{needs}
 use Rattle.elements.proofs.steps.is_tight.Statement.{statement}

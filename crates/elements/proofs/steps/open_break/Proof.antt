@@ -5,7 +5,7 @@ use lib.ListN.{take}
 use Rattle.spec.specs.Names.{tagOf}
 use Rattle.spec.specs.Md.Elements.Blocks.{«is_link_block», «is_md_block»}
 use Rattle.text.proofs.Writing.{alike, keeps}
-use Rattle.elements.proofs.Interrupts.{element-name}
+use Rattle.nodes.proofs.Interrupts.{element-name}
 use Rattle.elements.proofs.Openings.{open-space, open-inline, open-none, open-cell, open-lines}
 use borrow.Author.Needs.{needs}
 use Rattle.elements.proofs.steps.open_break.Statement.{statement}

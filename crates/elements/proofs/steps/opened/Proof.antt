@@ -8,7 +8,7 @@ use Rattle.spec.specs.Out.{push}
 use Rattle.spec.specs.Md.Heading.{«md_prefix»}
 use Rattle.spec.specs.Md.Serializer.{openBreak, opened}
 use Rattle.text.proofs.Writing.{keeps, done, reaches, owes-all, owes-step, owes-stop, owes-last}
-use Rattle.elements.proofs.Interrupts.{element-name}
+use Rattle.nodes.proofs.Interrupts.{element-name}
 use Rattle.elements.proofs.Openings.{opened-on}
 use borrow.Author.Needs.{needs}
 use Rattle.elements.proofs.steps.opened.Statement.{statement}

@@ -3,7 +3,7 @@ use mathlib.Core.Path.{sym, subst}
 use mathlib.Core.Bool.{Bool}
 use lib.ListN.{length}
 use Rattle.spec.specs.Call.{written}
-use Rattle.tree.specs.Scans.{skipList}
+use Rattle.input.specs.Scans.{skipList}
 use Rattle.text.specs.Writes.{Writes}
 use borrow.Author.Needs.{needs}
 use Rattle.md.proofs.call.serialize.Statement.{statement}

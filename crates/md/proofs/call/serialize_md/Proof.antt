@@ -1,6 +1,6 @@
 -- `md::call::serialize_md` meets its contract. Assumes nothing.
 use mathlib.Core.Path.{sym, _∙_}
-use Rattle.tree.specs.Scans.{skipList}
+use Rattle.input.specs.Scans.{skipList}
 use Rattle.md.proofs.Answering.{answers-no, answers-on, promised, told-apart}
 use borrow.Author.Needs.{needs}
 use Rattle.md.proofs.call.serialize_md.Statement.{statement}

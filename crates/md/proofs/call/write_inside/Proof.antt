@@ -4,7 +4,7 @@ use mathlib.Core.Path.{sym, subst, _∙_}
 use lib.Dec.{lit<}
 use native.Mathlib.Omega.{arith}
 use Rattle.spec.specs.declared.ctx.FormatOpts.{FormatOpts}
-use Rattle.tree.specs.Scans.{skipList}
+use Rattle.input.specs.Scans.{skipList}
 use Rattle.serializer.specs.Writers.{Fits}
 use Rattle.md.proofs.Starting.{without, inside-reaches, inside-done, inside-full}
 use borrow.Author.Needs.{needs}

@@ -3,7 +3,7 @@ use mathlib.Core.Path.{_∙_}
 use lib.ListN.{length}
 use Rattle.spec.specs.Call.{written}
 use Rattle.tree.specs.Accepted.{storable}
-use Rattle.tree.specs.Scans.{skipList}
+use Rattle.input.specs.Scans.{skipList}
 use Rattle.text.proofs.Writing.{done, full, reaches}
 use Rattle.md.proofs.Answering.{started, answers-written, answers-full}
 use borrow.Author.Needs.{needs}

@@ -6,7 +6,7 @@ use native.Mathlib.Nat.{pos-of-ne-zero}
 use native.Mathlib.Omega.{arith}
 use Rattle.spec.specs.Md.Ctx.{«include_node»}
 use Rattle.spec.specs.declared.ctx.FormatOpts.{FormatOpts}
-use Rattle.tree.specs.Scans.{skipList}
+use Rattle.input.specs.Scans.{skipList}
 use Rattle.text.proofs.Writing.{alike, keeps}
 use Rattle.serializer.specs.Writers.{Fits}
 use Rattle.md.proofs.Starting.{with-node, fragment, whole-wrote}

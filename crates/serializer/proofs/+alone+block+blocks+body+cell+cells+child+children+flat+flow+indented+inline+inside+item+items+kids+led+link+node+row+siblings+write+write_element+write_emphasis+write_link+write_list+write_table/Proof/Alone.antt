@@ -3,7 +3,7 @@ use Prim.Native.Nat.{ℕ}
 use lib.Dec.{lit<}
 use Rattle.tree.specs.Memory.{placeAt}
 use Rattle.tree.proofs.Frames.{kept-none}
-use Rattle.text.specs.Items.{itemOf}
+use Rattle.lists_links.specs.Items.{itemOf}
 use Rattle.text.proofs.Writing.{done, reaches}
 use Rattle.serializer.specs.Writers.{selfAt}
 use Rattle.serializer.proofs.Falls.{falls-in}
@@ -12,7 +12,7 @@ use Rattle.serializer.proofs.Placing.{placeds-at, node-placed}
 use borrow.Author.Needs.{needs}
 use Rattle.serializer.proofs.+alone+block+blocks+body+cell+cells+child+children+flat+flow+indented+inline+inside+item+items+kids+led+link+node+row+siblings+write+write_element+write_emphasis+write_link+write_list+write_table.Lts-alone as lts
 use Rattle.serializer.proofs.alone.Reads as alone
-use Rattle.elements.proofs.nodes.node_name.Reads as node-name-reads
+use Rattle.nodes.proofs.nodes.node_name.Reads as node-name-reads
 use Rattle.elements.proofs.item_steps.due_line.Reads as due-line-reads
 use Rattle.elements.proofs.list_nodes.node_is_list_item_block.Reads as node-is-list-item-block-reads
 use Rattle.serializer.proofs.block.Reads as block

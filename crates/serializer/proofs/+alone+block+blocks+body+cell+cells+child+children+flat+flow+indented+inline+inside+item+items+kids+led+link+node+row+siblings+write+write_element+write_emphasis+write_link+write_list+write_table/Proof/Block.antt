@@ -3,7 +3,7 @@ use Prim.Native.Nat.{ℕ}
 use lib.Dec.{lit<}
 use lib.ListN.{take}
 use Rattle.tree.proofs.Frames.{kept-none}
-use Rattle.text.specs.Items.{itemOf}
+use Rattle.lists_links.specs.Items.{itemOf}
 use Rattle.serializer.specs.Writers.{selfAt}
 use Rattle.serializer.proofs.Falls.{falls-in}
 use Rattle.serializer.proofs.ItemBlocks.{block-rule, block-led}

@@ -9,13 +9,13 @@ use Rattle.spec.specs.Out.{andThen}
 use Rattle.spec.specs.Md.MDSerializer.{Ancestors}
 use Rattle.spec.specs.Md.Elements.List.{beginItem, itemFrom, itemChildren, «write_list_item_blocks»}
 use Rattle.tree.proofs.Frames.{kept-none, kept-in}
-use Rattle.text.specs.Items.{itemOf, endedItem}
+use Rattle.lists_links.specs.Items.{itemOf, endedItem}
 use Rattle.text.proofs.Writing.{Owes, done, reaches, owes-all, owes-step, owes-on, owes-over, owes-last}
-use Rattle.elements.specs.Stands.{Placeds}
+use Rattle.nodes.specs.Stands.{Placeds}
 use Rattle.serializer.specs.Writers.{selfAt, progressAt}
 use Rattle.serializer.proofs.Answers.{both-full}
 use Rattle.serializer.proofs.Goings.{went, went-full}
-use Rattle.elements.proofs.Interrupts.{element-kids}
+use Rattle.nodes.proofs.Interrupts.{element-kids}
 use Rattle.serializer.proofs.Lists.{fits-in, fits-blocks, falls-children, blocks-parts}
 use Rattle.elements.proofs.Languages.{around-it}
 use Rattle.serializer.proofs.Placing.{placed-node, placed-kids}
@@ -25,9 +25,9 @@ use Rattle.serializer.proofs.+alone+block+blocks+body+cell+cells+child+
 use Rattle.serializer.proofs.blocks.Reads as blocks
 use Rattle.tree.proofs.nodes.node_end.Reads as node-end-reads
 use Rattle.list_items.proofs.start_item_blocks.Reads as start-item-blocks-reads
-use Rattle.text.proofs.list.item_from.Reads as item-from-reads
+use Rattle.lists_links.proofs.list.item_from.Reads as item-from-reads
 use Rattle.serializer.proofs.children.Reads as children
-use Rattle.text.proofs.list.end_item.Reads as end-item-reads
+use Rattle.lists_links.proofs.list.end_item.Reads as end-item-reads
 use Rattle.serializer.proofs.+alone+block+blocks+body+cell+cells+child+children+flat+flow+indented+inline+inside+item+items+kids+led+link+node+row+siblings+write+write_element+write_emphasis+write_link+write_list+write_table.Proof.Measures.{blocks-at, children-below}
 
 abbrev claims : ℕ → lts.Claims

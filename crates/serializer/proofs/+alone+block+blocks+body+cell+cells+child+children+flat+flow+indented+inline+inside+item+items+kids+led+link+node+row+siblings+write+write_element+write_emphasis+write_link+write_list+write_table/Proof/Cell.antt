@@ -17,7 +17,7 @@ use Rattle.tree.specs.Represents.{Around}
 use Rattle.text.specs.Writes.{Writes}
 use Rattle.text.proofs.Spaces.{cut-done}
 use Rattle.text.proofs.Writing.{owes-all, owes-step, owes-stop, owes-on, owes-last, then-assoc}
-use Rattle.elements.specs.Stands.{ElementAt}
+use Rattle.nodes.specs.Stands.{ElementAt}
 use Rattle.serializer.specs.Writers.{selfAt, Fits}
 use Rattle.serializer.proofs.Answers.{written-reaches}
 use Rattle.serializer.proofs.Falls.{falls-in}
@@ -29,8 +29,8 @@ use Rattle.spec.proofs.ctx.FormatOpts.fresh.Reads as fresh-reads
 use Rattle.spec.proofs.ctx.FormatOpts.table_cell.Reads as table-cell-reads
 use Rattle.serializer.proofs.options.packed.Reads as packed-reads
 use Rattle.serializer.proofs.kids.Reads as kids
-use Rattle.text.proofs.table.trim_trailing_cell_break.Reads as trim-trailing-cell-break-reads
-use Rattle.text.proofs.table.escape_table_cell_inplace.Reads as escape-table-cell-inplace-reads
+use Rattle.marks.proofs.table.trim_trailing_cell_break.Reads as trim-trailing-cell-break-reads
+use Rattle.marks.proofs.table.escape_table_cell_inplace.Reads as escape-table-cell-inplace-reads
 use Rattle.serializer.proofs.+alone+block+blocks+body+cell+cells+child+children+flat+flow+indented+inline+inside+item+items+kids+led+link+node+row+siblings+write+write_element+write_emphasis+write_link+write_list+write_table.Proof.Measures.{cell-at, kids-below}
 
 abbrev claims : ℕ → lts.Claims

@@ -3,7 +3,7 @@ use Prim.Native.Nat.{ℕ, _-_}
 use mathlib.Core.Path.{_∙_}
 use Rattle.spec.specs.Call.{skipTags}
 use Rattle.spec.specs.Md.Serializer.{serializer}
-use Rattle.tree.specs.Scans.{skipList}
+use Rattle.input.specs.Scans.{skipList}
 use lib.Dec.{lit<}
 use Rattle.serializer.proofs.Falls.{falls-in}
 use Rattle.serializer.proofs.RowsWriting.{RowsProgress, rows-start, rows-reach, rows-long, rows-end, rows-row, rows-keep, rows-behind, rows-stop, rows-on}
@@ -11,7 +11,7 @@ use borrow.Author.Needs.{needs}
 use native.Mathlib.Omega.{arith}
 use Rattle.serializer.proofs.+alone+block+blocks+body+cell+cells+child+children+flat+flow+indented+inline+inside+item+items+kids+led+link+node+row+siblings+write+write_element+write_emphasis+write_link+write_list+write_table.Lts-cells as lts
 use Rattle.serializer.proofs.cells.Reads as cells
-use Rattle.elements.proofs.rows.next_row.Reads as next-row-reads
+use Rattle.tables.proofs.rows.next_row.Reads as next-row-reads
 use Rattle.serializer.proofs.row.Reads as row
 use Rattle.serializer.proofs.+alone+block+blocks+body+cell+cells+child+children+flat+flow+indented+inline+inside+item+items+kids+led+link+node+row+siblings+write+write_element+write_emphasis+write_link+write_list+write_table.Proof.Measures.{cells-at, row-below}
 

@@ -3,10 +3,10 @@ use Prim.Native.Nat.{ℕ, _≤_, _+_}
 use mathlib.Core.Path.{sym, subst}
 use lib.ListN.{length}
 use Rattle.spec.specs.Call.{skipTags}
-use Rattle.tree.specs.Scans.{skipList}
+use Rattle.input.specs.Scans.{skipList}
 use Rattle.tree.proofs.Frames.{kept-none, kept-in}
-use Rattle.text.specs.Items.{itemOf}
-use Rattle.elements.specs.Stands.{NodeAt}
+use Rattle.lists_links.specs.Items.{itemOf}
+use Rattle.nodes.specs.Stands.{NodeAt}
 use Rattle.serializer.proofs.ItemChild.{child-comment, child-skipped, child-wrapper, child-alone, wrapper-kids, kids-fall, alone-falls}
 use Rattle.serializer.proofs.Placing.{placeds-at}
 use borrow.Author.Needs.{needs}
@@ -15,7 +15,7 @@ use Rattle.serializer.proofs.+alone+block+blocks+body+cell+cells+child+
 use Rattle.serializer.proofs.child.Reads as child
 use Rattle.tree.proofs.nodes.node_place.Reads as node-place-reads
 use Rattle.tree.proofs.nodes.tag_at.Reads as tag-at-reads
-use Rattle.elements.proofs.nodes.node_is_skipped.Reads as node-is-skipped-reads
+use Rattle.nodes.proofs.nodes.node_is_skipped.Reads as node-is-skipped-reads
 use Rattle.elements.proofs.list_nodes.node_is_block_wrapper.Reads as node-is-block-wrapper-reads
 use Rattle.tree.proofs.nodes.node_end.Reads as node-end-reads
 use Rattle.serializer.proofs.children.Reads as children

@@ -5,9 +5,9 @@ use lib.ListN.{length, take}
 use Rattle.spec.specs.Md.Elements.List.{itemChildren}
 use Rattle.tree.specs.Memory.{Kept, endAt}
 use Rattle.tree.proofs.Frames.{kept-none, kept-then, kept-in, end-kept}
-use Rattle.text.specs.Items.{itemOf}
+use Rattle.lists_links.specs.Items.{itemOf}
 use Rattle.text.proofs.Writing.{reaches}
-use Rattle.elements.specs.Stands.{Placeds}
+use Rattle.nodes.specs.Stands.{Placeds}
 use Rattle.serializer.specs.Writers.{selfAt, progressAt, GoesForest}
 use Rattle.serializer.proofs.Goings.{GoingOn, going-first, going-on, going-stop, going-last, went}
 use Rattle.serializer.proofs.ItemChild.{child-falls, goes-before}

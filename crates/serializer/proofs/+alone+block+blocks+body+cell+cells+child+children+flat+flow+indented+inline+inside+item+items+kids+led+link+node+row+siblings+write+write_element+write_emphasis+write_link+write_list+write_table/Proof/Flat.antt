@@ -24,7 +24,7 @@ use Rattle.list_items.proofs.start_item.Reads as start-item-reads
 use Rattle.spec.proofs.ctx.FormatOpts.list_item.Reads as list-item-reads
 use Rattle.serializer.proofs.options.packed.Reads as packed-reads
 use Rattle.serializer.proofs.kids.Reads as kids
-use Rattle.text.proofs.text_utils.push_linebreak.Reads as push-linebreak-reads
+use Rattle.normalized.proofs.text_utils.push_linebreak.Reads as push-linebreak-reads
 use Rattle.serializer.proofs.+alone+block+blocks+body+cell+cells+child+children+flat+flow+indented+inline+inside+item+items+kids+led+link+node+row+siblings+write+write_element+write_emphasis+write_link+write_list+write_table.Proof.Measures.{flat-at, kids-below}
 
 abbrev claims : ℕ → lts.Claims

@@ -4,7 +4,7 @@ use mathlib.Core.Path.{ap, _∙_}
 use lib.Dec.{lit<}
 use Rattle.spec.specs.declared.ctx.FormatOpts.{FormatOpts}
 use Rattle.tree.proofs.Frames.{kept-none}
-use Rattle.text.specs.Items.{itemOf}
+use Rattle.lists_links.specs.Items.{itemOf}
 use Rattle.text.proofs.Writing.{done, reaches}
 use Rattle.serializer.specs.Writers.{selfAt}
 use Rattle.serializer.specs.Options.{unpacked}

@@ -5,8 +5,8 @@ use lib.Dec.{lit<}
 use Rattle.spec.specs.Call.{skipTags}
 use Rattle.spec.specs.declared.ctx.FormatOpts.{FormatOpts}
 use Rattle.tree.specs.Memory.{Kept}
-use Rattle.tree.specs.Scans.{skipList}
-use Rattle.text.specs.Items.{itemOf}
+use Rattle.input.specs.Scans.{skipList}
+use Rattle.lists_links.specs.Items.{itemOf}
 use Rattle.serializer.specs.Options.{unpacked}
 use Rattle.serializer.proofs.Falls.{falls-in}
 use Rattle.serializer.proofs.ItemBlocks.{fits-alike, node-range, indented-fits, indented-done, indented-full}
@@ -19,7 +19,7 @@ use Rattle.tree.proofs.nodes.node_end.Reads as node-end-reads
 use Rattle.spec.proofs.ctx.FormatOpts.include_node.Reads as include-node-reads
 use Rattle.serializer.proofs.options.packed.Reads as packed-reads
 use Rattle.serializer.proofs.write.Reads as write
-use Rattle.text.proofs.list_indented.push_indented.Reads as push-indented-reads
+use Rattle.lists_links.proofs.list_indented.push_indented.Reads as push-indented-reads
 use Rattle.serializer.proofs.+alone+block+blocks+body+cell+cells+child+children+flat+flow+indented+inline+inside+item+items+kids+led+link+node+row+siblings+write+write_element+write_emphasis+write_link+write_list+write_table.Proof.Measures.{indented-at, write-below}
 
 abbrev claims : ℕ → lts.Claims

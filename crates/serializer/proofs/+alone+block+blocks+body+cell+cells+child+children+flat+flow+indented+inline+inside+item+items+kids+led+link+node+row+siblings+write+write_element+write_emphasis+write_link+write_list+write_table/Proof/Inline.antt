@@ -5,9 +5,9 @@ use lib.Dec.{lit<}
 use Rattle.spec.specs.Call.{skipTags}
 use Rattle.spec.specs.declared.ctx.FormatOpts.{FormatOpts}
 use Rattle.tree.specs.Memory.{Kept}
-use Rattle.tree.specs.Scans.{skipList}
+use Rattle.input.specs.Scans.{skipList}
 use Rattle.tree.proofs.Frames.{kept-none}
-use Rattle.text.specs.Items.{itemOf}
+use Rattle.lists_links.specs.Items.{itemOf}
 use Rattle.text.proofs.Writing.{done, reaches}
 use Rattle.serializer.specs.Options.{unpacked}
 use Rattle.serializer.proofs.Falls.{falls-in}
@@ -19,7 +19,7 @@ use Rattle.serializer.proofs.+alone+block+blocks+body+cell+cells+child+
 use Rattle.serializer.proofs.inline.Reads as inline
 use Rattle.tree.proofs.nodes.node_end.Reads as node-end-reads
 use Rattle.elements.proofs.item_steps.child_opts.Reads as child-opts-reads
-use Rattle.text.proofs.list.push_inline_lead.Reads as push-inline-lead-reads
+use Rattle.lists_links.proofs.list.push_inline_lead.Reads as push-inline-lead-reads
 use Rattle.serializer.proofs.options.packed.Reads as packed-reads
 use Rattle.serializer.proofs.write.Reads as write
 use Rattle.serializer.proofs.+alone+block+blocks+body+cell+cells+child+children+flat+flow+indented+inline+inside+item+items+kids+led+link+node+row+siblings+write+write_element+write_emphasis+write_link+write_list+write_table.Proof.Measures.{inline-at, write-below}

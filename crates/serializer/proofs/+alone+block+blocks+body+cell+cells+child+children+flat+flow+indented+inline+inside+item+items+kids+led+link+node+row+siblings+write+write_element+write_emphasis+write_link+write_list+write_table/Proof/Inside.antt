@@ -15,19 +15,19 @@ use Rattle.spec.specs.Tree.{Attr, Forest}
 use Rattle.spec.specs.Out.{andThen}
 use Rattle.spec.specs.Md.MDSerializer.{Ancestors}
 use Rattle.spec.specs.declared.ctx.FormatOpts.{FormatOpts}
-use Rattle.elements.specs.Stands.{ElementAt}
+use Rattle.nodes.specs.Stands.{ElementAt}
 use Rattle.serializer.specs.Options.{unpacked}
 use Rattle.serializer.specs.Writers.{selfAt}
 use Rattle.serializer.proofs.Answers.{forest-reaches, below-wrote, both-done, both-full}
 use Rattle.serializer.proofs.Falls.{falls-in}
-use Rattle.elements.proofs.Interrupts.{element-name}
+use Rattle.nodes.proofs.Interrupts.{element-name}
 use Rattle.serializer.proofs.NodeSteps.{inside-writer, inside-plain}
 use Rattle.serializer.proofs.Placing.{placed-node, placed-kids}
 use borrow.Author.Needs.{needs}
 use native.Mathlib.Omega.{arith}
 use Rattle.serializer.proofs.+alone+block+blocks+body+cell+cells+child+children+flat+flow+indented+inline+inside+item+items+kids+led+link+node+row+siblings+write+write_element+write_emphasis+write_link+write_list+write_table.Lts-inside as lts
 use Rattle.serializer.proofs.inside.Reads as inside
-use Rattle.elements.proofs.nodes.node_name.Reads as node-name-reads
+use Rattle.nodes.proofs.nodes.node_name.Reads as node-name-reads
 use Rattle.serializer.proofs.options.unpacked.Reads as unpacked-reads
 use Rattle.elements.proofs.steps.has_writer.Reads as has-writer-reads
 use Rattle.serializer.proofs.write_element.Reads as write-element

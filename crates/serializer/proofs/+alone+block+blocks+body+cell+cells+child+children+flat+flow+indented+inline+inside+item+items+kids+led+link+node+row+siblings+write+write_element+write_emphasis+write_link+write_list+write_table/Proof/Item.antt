@@ -12,10 +12,10 @@ use Rattle.spec.specs.declared.ctx.FormatOpts.{FormatOpts}
 use Rattle.tree.specs.Memory.{placeAt}
 use Rattle.tree.specs.Nodes.{nameAt}
 use Rattle.tree.specs.Represents.{Rep}
-use Rattle.tree.specs.Scans.{skipList}
+use Rattle.input.specs.Scans.{skipList}
 use Rattle.tree.proofs.Frames.{kept-in}
 use Rattle.text.proofs.Writing.{alike}
-use Rattle.elements.specs.Stands.{NodeAt, Placed, Placeds}
+use Rattle.nodes.specs.Stands.{NodeAt, Placed, Placeds}
 use Rattle.serializer.specs.Options.{unpacked}
 use Rattle.serializer.specs.Writers.{selfAt}
 use Rattle.serializer.proofs.Falls.{falls-in}

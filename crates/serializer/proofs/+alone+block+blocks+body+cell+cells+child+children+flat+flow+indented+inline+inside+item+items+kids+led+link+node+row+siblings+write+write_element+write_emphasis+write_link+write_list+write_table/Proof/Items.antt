@@ -16,7 +16,7 @@ use Rattle.tree.specs.Nodes.{nameAt}
 use Rattle.tree.specs.Represents.{Rep, attrsBehind, headOf, restOf}
 use Rattle.tree.proofs.Frames.{kept-none, kept-then, kept-in, end-kept, place-kept}
 use Rattle.serializer.specs.ListStep.{listHead}
-use Rattle.elements.specs.Stands.{NodeAt, Placeds, PlacedNode}
+use Rattle.nodes.specs.Stands.{NodeAt, Placeds, PlacedNode}
 use Rattle.serializer.specs.Writers.{selfAt, FitsIn, WritesForest}
 use Rattle.serializer.proofs.Answers.{forest-reaches, forest-long}
 use Rattle.serializer.proofs.Falls.{falls-in}
@@ -28,7 +28,7 @@ use native.Mathlib.Omega.{arith}
 use Rattle.serializer.proofs.+alone+block+blocks+body+cell+cells+child+children+flat+flow+indented+inline+inside+item+items+kids+led+link+node+row+siblings+write+write_element+write_emphasis+write_link+write_list+write_table.Lts-items as lts
 use Rattle.serializer.proofs.items.Reads as items
 use Rattle.tree.proofs.nodes.node_place.Reads as node-place-reads
-use Rattle.elements.proofs.nodes.node_name.Reads as node-name-reads
+use Rattle.nodes.proofs.nodes.node_name.Reads as node-name-reads
 use Rattle.elements.proofs.item_steps.renumbered.Reads as renumbered-reads
 use Rattle.serializer.proofs.item.Reads as item
 use Rattle.elements.proofs.item_steps.next_context.Reads as next-context-reads

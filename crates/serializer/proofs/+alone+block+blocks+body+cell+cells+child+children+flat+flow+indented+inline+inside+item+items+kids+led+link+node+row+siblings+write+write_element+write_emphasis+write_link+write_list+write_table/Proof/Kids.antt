@@ -11,11 +11,11 @@ use Rattle.spec.specs.Md.Serializer.{serializer}
 use Rattle.spec.specs.Md.TextUtils.{«trim_space»}
 use Rattle.spec.specs.Md.MDSerializer.{writeKids}
 use Rattle.spec.specs.declared.ctx.FormatOpts.{FormatOpts}
-use Rattle.tree.specs.Scans.{skipList}
+use Rattle.input.specs.Scans.{skipList}
 use Rattle.tree.proofs.Firsts.{rep-le}
 use Rattle.tree.proofs.Frames.{kept-none, kept-in}
 use Rattle.text.proofs.Writing.{alike}
-use Rattle.elements.proofs.Interrupts.{element-kids}
+use Rattle.nodes.proofs.Interrupts.{element-kids}
 use Rattle.serializer.specs.Options.{unpacked}
 use Rattle.serializer.specs.Writers.{selfAt}
 use Rattle.serializer.proofs.Answers.{forest-reaches, below-wrote, both-done, both-full}
@@ -32,7 +32,7 @@ use Rattle.serializer.proofs.texts.is_one_text.Reads as is-one-text-rea
 use Rattle.serializer.proofs.options.unpacked.Reads as unpacked-reads
 use Rattle.serializer.proofs.texts.trim_behind_text.Reads as trim-behind-text-reads
 use Rattle.serializer.proofs.write.Reads as write
-use Rattle.text.proofs.text_utils.trim_space.Reads as trim-space-reads
+use Rattle.normalized.proofs.text_utils.trim_space.Reads as trim-space-reads
 use Rattle.serializer.proofs.+alone+block+blocks+body+cell+cells+child+children+flat+flow+indented+inline+inside+item+items+kids+led+link+node+row+siblings+write+write_element+write_emphasis+write_link+write_list+write_table.Proof.Measures.{kids-at, write-below}
 
 abbrev claims : ℕ → lts.Claims

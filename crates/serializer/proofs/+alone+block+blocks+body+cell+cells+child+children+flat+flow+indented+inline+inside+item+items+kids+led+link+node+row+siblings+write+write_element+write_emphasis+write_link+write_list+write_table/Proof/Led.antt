@@ -2,7 +2,7 @@
 use Prim.Native.Nat.{ℕ}
 use lib.Dec.{lit<}
 use Rattle.tree.proofs.Frames.{kept-none}
-use Rattle.text.specs.Items.{itemOf}
+use Rattle.lists_links.specs.Items.{itemOf}
 use Rattle.text.proofs.Writing.{done, reaches}
 use Rattle.serializer.specs.Writers.{selfAt}
 use Rattle.serializer.proofs.Falls.{falls-in}
@@ -10,9 +10,9 @@ use Rattle.serializer.proofs.ItemBlocks.{element-reaches, led-none, led
 use borrow.Author.Needs.{needs}
 use Rattle.serializer.proofs.+alone+block+blocks+body+cell+cells+child+children+flat+flow+indented+inline+inside+item+items+kids+led+link+node+row+siblings+write+write_element+write_emphasis+write_link+write_list+write_table.Lts-led as lts
 use Rattle.serializer.proofs.led.Reads as led
-use Rattle.text.proofs.list.push_block_lead.Reads as push-block-lead-reads
+use Rattle.lists_links.proofs.list.push_block_lead.Reads as push-block-lead-reads
 use Rattle.serializer.proofs.flow.Reads as flow
-use Rattle.text.proofs.text_utils.push_linebreak.Reads as push-linebreak-reads
+use Rattle.normalized.proofs.text_utils.push_linebreak.Reads as push-linebreak-reads
 use Rattle.serializer.proofs.+alone+block+blocks+body+cell+cells+child+children+flat+flow+indented+inline+inside+item+items+kids+led+link+node+row+siblings+write+write_element+write_emphasis+write_link+write_list+write_table.Proof.Measures.{led-at, flow-below}
 
 abbrev claims : ℕ → lts.Claims

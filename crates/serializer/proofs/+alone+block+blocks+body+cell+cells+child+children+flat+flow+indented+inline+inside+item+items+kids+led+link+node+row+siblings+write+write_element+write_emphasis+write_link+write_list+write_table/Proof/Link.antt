@@ -18,11 +18,11 @@ use Rattle.text.specs.Writes.{Writes}
 use Rattle.text.proofs.Temporary.{lent, back, back-length}
 use Rattle.text.proofs.Writing.{alike, done, full}
 use Rattle.elements.specs.LinkStep.{textLinkStep}
-use Rattle.elements.specs.Stands.{ElementAt}
+use Rattle.nodes.specs.Stands.{ElementAt}
 use Rattle.serializer.specs.Writers.{selfAt, Fits}
 use Rattle.serializer.proofs.Answers.{nest-done, nest-full, nest-fits}
 use Rattle.serializer.proofs.Falls.{falls-in}
-use Rattle.elements.proofs.Interrupts.{element-kids}
+use Rattle.nodes.proofs.Interrupts.{element-kids}
 use Rattle.serializer.proofs.LinkTo.{shownText, to-image, to-body, to-text, text-grown, shown-null, null-none, null-more}
 use Rattle.elements.proofs.Nesting.{back-text}
 use Rattle.serializer.proofs.Placing.{placed-node, placed-kids}
@@ -32,12 +32,12 @@ use Rattle.serializer.proofs.+alone+block+blocks+body+cell+cells+child+
 use Rattle.serializer.proofs.link.Reads as link
 use Rattle.tree.proofs.nodes.node_end.Reads as node-end-reads
 use Rattle.spec.proofs.ctx.FormatOpts.fresh.Reads as fresh-reads
-use Rattle.elements.proofs.nodes.has_element.Reads as has-element-reads
+use Rattle.nodes.proofs.nodes.has_element.Reads as has-element-reads
 use Rattle.spec.proofs.ctx.FormatOpts.link_body.Reads as link-body-reads
 use Rattle.serializer.proofs.body.Reads as body
 use Rattle.spec.proofs.ctx.FormatOpts.include_node.Reads as include-node-reads
 use Rattle.spec.proofs.ctx.FormatOpts.skip_escape.Reads as skip-escape-reads
-use Rattle.elements.proofs.nodes.write_text.Reads as write-text-reads
+use Rattle.nodes.proofs.nodes.write_text.Reads as write-text-reads
 use Rattle.tree.proofs.nodes.node_place.Reads as node-place-reads
 use Rattle.elements.proofs.link.push_text_link.Reads as push-text-link-reads
 use Rattle.serializer.proofs.+alone+block+blocks+body+cell+cells+child+children+flat+flow+indented+inline+inside+item+items+kids+led+link+node+row+siblings+write+write_element+write_emphasis+write_link+write_list+write_table.Proof.Measures.{link-at, body-below}

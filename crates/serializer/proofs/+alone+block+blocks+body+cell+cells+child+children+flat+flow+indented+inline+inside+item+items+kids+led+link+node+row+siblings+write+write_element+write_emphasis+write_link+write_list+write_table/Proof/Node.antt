@@ -15,11 +15,11 @@ use Rattle.tree.specs.Memory.{placeAt, endAt}
 use Rattle.tree.specs.Represents.{Rep, attrsBehind}
 use Rattle.text.specs.Writes.{Writes}
 use Rattle.tree.specs.Nodes.{bodyAt}
-use Rattle.tree.specs.Scans.{skipList}
+use Rattle.input.specs.Scans.{skipList}
 use Rattle.tree.proofs.Frames.{kept-none}
 use Rattle.tree.proofs.Kin.{first-skipped}
 use Rattle.text.proofs.Writing.{alike, keeps, reaches, done}
-use Rattle.elements.specs.Stands.{Placed, NodeAt}
+use Rattle.nodes.specs.Stands.{Placed, NodeAt}
 use Rattle.serializer.specs.Options.{unpacked}
 use Rattle.serializer.specs.Writers.{selfAt}
 use Rattle.serializer.proofs.Answers.{both-done, both-full}
@@ -33,8 +33,8 @@ use Rattle.serializer.proofs.node.Reads as node
 use Rattle.tree.proofs.nodes.node_place.Reads as node-place-reads
 use Rattle.tree.proofs.nodes.tag_at.Reads as tag-at-reads
 use Rattle.serializer.proofs.options.unpacked.Reads as unpacked-reads
-use Rattle.elements.proofs.nodes.write_text_node.Reads as write-text-node-reads
-use Rattle.elements.proofs.nodes.node_is_skipped.Reads as node-is-skipped-reads
+use Rattle.nodes.proofs.nodes.write_text_node.Reads as write-text-node-reads
+use Rattle.nodes.proofs.nodes.node_is_skipped.Reads as node-is-skipped-reads
 use Rattle.elements.proofs.steps.opened.Reads as opened-reads
 use Rattle.serializer.proofs.inside.Reads as inside
 use Rattle.serializer.proofs.+alone+block+blocks+body+cell+cells+child+children+flat+flow+indented+inline+inside+item+items+kids+led+link+node+row+siblings+write+write_element+write_emphasis+write_link+write_list+write_table.Proof.Measures.{node-at, inside-below}

@@ -7,7 +7,7 @@ use Rattle.spec.specs.Call.{skipTags}
 use Rattle.spec.specs.Md.Serializer.{serializer}
 use Rattle.tree.specs.Memory.{endAt, Kept}
 use Rattle.tree.specs.Represents.{Rep}
-use Rattle.tree.specs.Scans.{skipList}
+use Rattle.input.specs.Scans.{skipList}
 use Rattle.tree.proofs.Firsts.{rep-le}
 use Rattle.text.proofs.Writing.{done}
 use Rattle.text.proofs.Temporary.{back-length, temp-fits}
@@ -19,9 +19,9 @@ use native.Mathlib.Omega.{arith}
 use Rattle.serializer.proofs.+alone+block+blocks+body+cell+cells+child+children+flat+flow+indented+inline+inside+item+items+kids+led+link+node+row+siblings+write+write_element+write_emphasis+write_link+write_list+write_table.Lts-row as lts
 use Rattle.serializer.proofs.row.Reads as row
 use Rattle.tree.proofs.nodes.node_end.Reads as node-end-reads
-use Rattle.elements.proofs.table.next_cell.Reads as next-cell-reads
+use Rattle.tables.proofs.table.next_cell.Reads as next-cell-reads
 use Rattle.serializer.proofs.cell.Reads as cell
-use Rattle.elements.proofs.table.store_span.Reads as store-span-reads
+use Rattle.tables.proofs.table.store_span.Reads as store-span-reads
 use Rattle.serializer.proofs.+alone+block+blocks+body+cell+cells+child+children+flat+flow+indented+inline+inside+item+items+kids+led+link+node+row+siblings+write+write_element+write_emphasis+write_link+write_list+write_table.Proof.Measures.{row-at, cell-below}
 
 abbrev claims : ℕ → lts.Claims

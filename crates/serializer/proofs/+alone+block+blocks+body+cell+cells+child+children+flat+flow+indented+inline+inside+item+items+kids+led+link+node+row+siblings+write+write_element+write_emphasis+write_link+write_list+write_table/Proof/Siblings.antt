@@ -6,7 +6,7 @@ use lib.ListN.{take}
 use Rattle.spec.specs.Call.{skipTags}
 use Rattle.spec.specs.Md.Serializer.{writeAt}
 use Rattle.spec.specs.declared.ctx.FormatOpts.{FormatOpts}
-use Rattle.tree.specs.Scans.{skipList}
+use Rattle.input.specs.Scans.{skipList}
 use Rattle.tree.proofs.Firsts.{rep-le}
 use Rattle.tree.proofs.Frames.{kept-none}
 use Rattle.text.proofs.Writing.{alike}
@@ -21,7 +21,7 @@ use Rattle.serializer.proofs.+alone+block+blocks+body+cell+cells+child+
 use Rattle.serializer.proofs.siblings.Reads as siblings
 use Rattle.serializer.proofs.texts.is_one_text.Reads as is-one-text-reads
 use Rattle.serializer.proofs.options.unpacked.Reads as unpacked-reads
-use Rattle.elements.proofs.nodes.write_text_node.Reads as write-text-node-reads
+use Rattle.nodes.proofs.nodes.write_text_node.Reads as write-text-node-reads
 use Rattle.serializer.proofs.write.Reads as write
 use Rattle.serializer.proofs.+alone+block+blocks+body+cell+cells+child+children+flat+flow+indented+inline+inside+item+items+kids+led+link+node+row+siblings+write+write_element+write_emphasis+write_link+write_list+write_table.Proof.Measures.{siblings-at, write-below}
 

@@ -6,10 +6,10 @@ use lib.ListN.{length, take}
 use Rattle.spec.specs.Call.{skipTags}
 use Rattle.spec.specs.Md.Serializer.{writeNodes}
 use Rattle.tree.specs.Memory.{Kept, endAt}
-use Rattle.tree.specs.Scans.{skipList}
+use Rattle.input.specs.Scans.{skipList}
 use Rattle.tree.proofs.Frames.{kept-none, kept-then, kept-in, end-kept}
 use Rattle.text.proofs.Writing.{alike, keeps, reaches, done}
-use Rattle.elements.specs.Stands.{Placeds}
+use Rattle.nodes.specs.Stands.{Placeds}
 use Rattle.serializer.specs.Options.{unpacked}
 use Rattle.serializer.specs.Writers.{selfAt, WritesForest}
 use Rattle.serializer.proofs.Falls.{falls-out}

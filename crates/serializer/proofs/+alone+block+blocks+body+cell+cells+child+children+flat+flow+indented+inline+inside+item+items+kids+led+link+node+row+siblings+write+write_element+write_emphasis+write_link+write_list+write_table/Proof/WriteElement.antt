@@ -13,11 +13,11 @@ use Rattle.spec.specs.declared.ctx.FormatOpts.{FormatOpts}
 use Rattle.tree.specs.Represents.{attrsBehind}
 use Rattle.tree.proofs.Frames.{kept-none}
 use Rattle.text.proofs.Writing.{alike}
-use Rattle.elements.specs.Stands.{ElementAt}
+use Rattle.nodes.specs.Stands.{ElementAt}
 use Rattle.serializer.specs.Writers.{selfAt, Fits}
 use Rattle.serializer.proofs.Dispatch.{by-list, by-link, by-img, by-pre, by-table, by-code, by-emphasis}
 use Rattle.serializer.proofs.Falls.{falls-in}
-use Rattle.elements.proofs.Interrupts.{element-name}
+use Rattle.nodes.proofs.Interrupts.{element-name}
 use Rattle.serializer.proofs.Placing.{placed-node}
 use borrow.Author.Needs.{needs}
 use native.Mathlib.Omega.{arith}
@@ -28,7 +28,7 @@ use Rattle.elements.proofs.list_nodes.is_list.Reads as is-list-reads
 use Rattle.serializer.proofs.write_list.Reads as write-list
 use Rattle.serializer.proofs.write_link.Reads as write-link
 use Rattle.tree.proofs.nodes.node_place.Reads as node-place-reads
-use Rattle.text.proofs.image.write_img.Reads as write-img-reads
+use Rattle.lists_links.proofs.image.write_img.Reads as write-img-reads
 use Rattle.elements.proofs.pre.write_pre.Reads as write-pre-reads
 use Rattle.serializer.proofs.write_table.Reads as write-table
 use Rattle.elements.proofs.code.write_code.Reads as write-code-reads

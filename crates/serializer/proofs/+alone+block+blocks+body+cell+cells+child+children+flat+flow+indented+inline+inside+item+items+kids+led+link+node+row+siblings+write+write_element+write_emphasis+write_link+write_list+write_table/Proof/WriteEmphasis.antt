@@ -19,12 +19,12 @@ use Rattle.text.specs.Writes.{Writes}
 use Rattle.text.proofs.Temporary.{lent, back}
 use Rattle.text.proofs.Writing.{alike}
 use Rattle.elements.specs.EmphasisStep.{emphasisStep}
-use Rattle.elements.specs.Stands.{ElementAt}
+use Rattle.nodes.specs.Stands.{ElementAt}
 use Rattle.serializer.specs.Options.{unpacked}
 use Rattle.serializer.specs.Writers.{selfAt, Fits}
 use Rattle.serializer.proofs.Answers.{below-wrote, nest-done, nest-full, nest-fits}
 use Rattle.serializer.proofs.Falls.{falls-in}
-use Rattle.elements.proofs.Interrupts.{element-name}
+use Rattle.nodes.proofs.Interrupts.{element-name}
 use Rattle.elements.proofs.Links.{emphasis-is}
 use Rattle.serializer.proofs.Placing.{placed-node, placed-kids}
 use borrow.Author.Needs.{needs}

@@ -7,7 +7,7 @@ use Rattle.spec.specs.Bytes.{ascii}
 use Rattle.spec.specs.Tree.{attr, nothing, element}
 use Rattle.spec.specs.declared.ctx.FormatOpts.{FormatOpts}
 use Rattle.tree.specs.Represents.{attrsBehind}
-use Rattle.text.proofs.Values.{value-as}
+use Rattle.lists_links.proofs.Values.{value-as}
 use Rattle.text.proofs.Writing.{alike}
 use Rattle.serializer.specs.Writers.{selfAt, Fits}
 use Rattle.serializer.proofs.Falls.{falls-in}

@@ -7,11 +7,11 @@ use Rattle.spec.specs.Names.{tagOf}
 use Rattle.spec.specs.Md.Elements.List.{listChildren, «write_list»}
 use Rattle.tree.proofs.Frames.{kept-in}
 use Rattle.elements.specs.ItemStep.{endedList}
-use Rattle.elements.specs.Stands.{NodeAt}
+use Rattle.nodes.specs.Stands.{NodeAt}
 use Rattle.serializer.specs.Writers.{selfAt}
 use Rattle.serializer.proofs.Answers.{forest-reaches, both-done, both-full}
 use Rattle.serializer.proofs.Falls.{falls-in}
-use Rattle.elements.proofs.Interrupts.{element-kids}
+use Rattle.nodes.proofs.Interrupts.{element-kids}
 use Rattle.serializer.proofs.Lists.{fits-begun, list-parts}
 use Rattle.elements.proofs.Languages.{around-it}
 use Rattle.serializer.proofs.Placing.{placed-node, placed-kids}

@@ -16,33 +16,33 @@ use Rattle.tree.specs.Represents.{Around}
 use Rattle.tree.proofs.Frames.{kept-in, rep-kept}
 use Rattle.text.specs.Writes.{Writes}
 use Rattle.text.proofs.Writing.{alike, done, full, reaches}
-use Rattle.elements.specs.Rows.{Rows, RowsAt}
-use Rattle.elements.specs.Stands.{ElementAt}
+use Rattle.tables.specs.Rows.{Rows, RowsAt}
+use Rattle.nodes.specs.Stands.{ElementAt}
 use Rattle.spec.specs.Md.Elements.Table.{concat}
-use Rattle.elements.specs.Spans.{tableLengths}
-use Rattle.elements.specs.TableSteps.{rowsTexts, RowsWrites}
+use Rattle.tables.specs.Spans.{tableLengths}
+use Rattle.tables.specs.TableSteps.{rowsTexts, RowsWrites}
 use Rattle.serializer.specs.Writers.{selfAt, Fits}
 use Rattle.serializer.proofs.Falls.{falls-in}
 use Rattle.serializer.proofs.Gathered.{behind-count, behind-bytes}
-use Rattle.elements.proofs.Interrupts.{element-kids}
+use Rattle.nodes.proofs.Interrupts.{element-kids}
 use Rattle.elements.proofs.Languages.{around-it}
 use Rattle.serializer.proofs.Placing.{placed-node, placed-kids}
-use Rattle.elements.proofs.RowTests.{writable-none}
+use Rattle.tables.proofs.RowTests.{writable-none}
 use Rattle.serializer.proofs.TableChoice.{table-written, table-flat, first-before}
-use Rattle.elements.proofs.TableRows.{rows-of, rows-at, rows-at-kept}
+use Rattle.tables.proofs.TableRows.{rows-of, rows-at, rows-at-kept}
 use Rattle.serializer.proofs.TableWriting.{table-at, table-full, table-done, table-sum, ends-in}
 use borrow.Author.Needs.{needs}
 use native.Mathlib.Omega.{arith}
 use Rattle.serializer.proofs.+alone+block+blocks+body+cell+cells+child+children+flat+flow+indented+inline+inside+item+items+kids+led+link+node+row+siblings+write+write_element+write_emphasis+write_link+write_list+write_table.Lts-write_table as lts
 use Rattle.serializer.proofs.write_table.Reads as write-table
 use Rattle.tree.proofs.nodes.node_end.Reads as node-end-reads
-use Rattle.elements.proofs.rows.next_filled_row.Reads as next-filled-row-reads
+use Rattle.tables.proofs.rows.next_filled_row.Reads as next-filled-row-reads
 use Rattle.spec.proofs.ctx.FormatOpts.fresh.Reads as fresh-reads
-use Rattle.elements.proofs.rows.is_table_node_writable.Reads as is-table-node-writable-reads
+use Rattle.tables.proofs.rows.is_table_node_writable.Reads as is-table-node-writable-reads
 use Rattle.serializer.proofs.options.packed.Reads as packed-reads
 use Rattle.serializer.proofs.kids.Reads as kids
 use Rattle.serializer.proofs.cells.Reads as cells
-use Rattle.elements.proofs.table.push_table.Reads as push-table-reads
+use Rattle.tables.proofs.table.push_table.Reads as push-table-reads
 use Rattle.serializer.proofs.+alone+block+blocks+body+cell+cells+child+children+flat+flow+indented+inline+inside+item+items+kids+led+link+node+row+siblings+write+write_element+write_emphasis+write_link+write_list+write_table.Proof.Measures.{write-table-at, kids-below, cells-below}
 
 abbrev claims : ℕ → lts.Claims

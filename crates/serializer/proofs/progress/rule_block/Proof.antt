@@ -1,6 +1,6 @@
 -- `serializer::progress::rule_block` meets its contract. Assumes nothing.
 use lib.ListN.{take}
-use Rattle.text.specs.Items.{itemOf}
+use Rattle.lists_links.specs.Items.{itemOf}
 use Rattle.serializer.proofs.Goings.{rule-cell, rule-line}
 use borrow.Author.Needs.{needs}
 use Rattle.serializer.proofs.progress.rule_block.Statement.{statement}

@@ -4,7 +4,7 @@ use Rattle.spec.specs.Out.{andThen}
 use Rattle.spec.specs.Md.TextUtils.{«trim_space»}
 use Rattle.tree.specs.Memory.{placeAt}
 use Rattle.text.proofs.Writing.{done, reaches}
-use Rattle.elements.specs.TextStep.{textStep}
+use Rattle.nodes.specs.TextStep.{textStep}
 use Rattle.serializer.proofs.Answers.{both-done, both-full}
 use borrow.Author.Needs.{needs}
 use Rattle.serializer.proofs.texts.trim_behind_text.Statement.{statement}

@@ -8,7 +8,7 @@ use Rattle.spec.specs.Bytes.{isin, white}
 use Rattle.text.specs.Class.{ordinary}
 use Rattle.text.proofs.Writing.{yes, no}
 use Rattle.text.proofs.Ordinary.{agree}
-use Rattle.tree.proofs.Sequences.{below, below-at}
+use Rattle.input.proofs.Sequences.{below, below-at}
 use Rattle.text.proofs.buffer.is_ordinary.Statement.{statement}
 use Rattle.text.proofs.buffer.is_ordinary.Tie as tie
 

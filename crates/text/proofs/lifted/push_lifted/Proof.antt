@@ -2,7 +2,7 @@
 use Prim.Native.Nat.{_-_}
 use lib.ListN.{length, drop, length-drop}
 use lib.Seq.{length-take-le}
-use Rattle.text.proofs.Spans.{lowered-full, lowered-long, lowered-done}
+use Rattle.text.proofs.Lifting.{lowered-full, lowered-long, lowered-done}
 use borrow.Author.Needs.{needs}
 use native.Mathlib.Omega.{arith}
 use Rattle.text.proofs.lifted.push_lifted.Statement.{statement}

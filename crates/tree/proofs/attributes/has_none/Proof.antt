@@ -1,6 +1,6 @@
 -- `tree::attributes::has_none` meets its contract. Assumes nothing.
 use mathlib.Core.Path.{refl, sym, _∙_}
-use Rattle.tree.specs.Spans.{spanAt}
+use Rattle.input.specs.Spans.{spanAt}
 use Rattle.tree.proofs.Attrs.{attrs-none, attrs-end}
 use borrow.Author.Needs.{needs}
 use native.Mathlib.Omega.{arith}

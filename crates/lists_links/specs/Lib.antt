@@ -1,0 +1,4 @@
+-- The definitions that the contracts cite.
+pub mod Url
+pub mod Parsed
+pub mod Items

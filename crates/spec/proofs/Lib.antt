@@ -1,0 +1,3 @@
+-- General lemmas, which mention no writer.
+pub mod Order
+pub mod Tests

@@ -1,0 +1,5 @@
+-- The definitions that the contracts cite.
+pub mod Rows
+pub mod Puts
+pub mod Spans
+pub mod TableSteps
