@@ -11,6 +11,7 @@ use lib.Dec.{eqb, leb, ltb, eqb·suc-zero}
 use borrow.Author.Tests.{eqb-true, eqb-false, ne-eqb, not-true, ltb-true, ltb-false, lt-ltb, leb-true, le-leb, lt-leb}
 use Rattle.spec.specs.Bytes.{Bytes, every}
 use Rattle.spec.specs.Utf8.{Range, to, row, sequences, within, begins, following, fits, dueAfter, wellFormed, isUtf8}
+use Rattle.spec.proofs.Order.{one-less}
 use Rattle.input.specs.Lead.{make, leadOf, nextOf, rangesOf, due, after, Behind, isAscii}
 use Rattle.input.specs.declared.utf8.Lead.{Lead}
 
@@ -80,16 +81,13 @@ more-law : (n low high b : ℕ) (s : Bytes) → suc n < 4
 unfolding wellFormed rangesOf fits dueAfter within to
 more-law n low high b s h = go (ltb b low) (ltb high b) refl refl
   where
-    one-less : suc n - 1 ≡ n
-    one-less = omega arith
-
     go : (t u : Bool) → ltb b low ≡ t → ltb high b ≡ u
         → ((leb low b && leb b high) && wellFormed (replicate n (record { low = 0x80; high = 0xBF })) s)
         ≡ after (cond t (make 4 0x80 0xBF) (cond u (make 4 0x80 0xBF) (make (suc n - 1) 0x80 0xBF))) s
     go true u p q = rw (lt-leb low b (ltb-true b low p))
     go false true p q = rw (le-leb low b (ltb-false b low p), lt-leb b high (ltb-true high b q))
     go false false p q =
-        rw (le-leb low b (ltb-false b low p), le-leb b high (ltb-false high b q), one-less, lt-leb 4 n (omega arith), continued n)
+        rw (le-leb low b (ltb-false b low p), le-leb b high (ltb-false high b q), one-less n, lt-leb 4 n (omega arith), continued n)
 
 pub next-law : (d : Lead) (b : ℕ) (s : Bytes) → d .more < 4 → b < 256 → wellFormed (due d) (b ∷ s) ≡ after (nextOf d b) s
 unfolding rangesOf

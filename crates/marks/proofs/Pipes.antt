@@ -75,13 +75,14 @@ pipes-more s i j t e h q =
 
 -- ---- the bytes from the i-th on are moved
 
--- a text that gains nothing stays as it is
+-- no text gets shorter
 pipes-long : (before : Bool) (s : List ℕ) → length s ≤ length (pipesEscaped before s)
 unfolding pipesEscaped
 pipes-long before [] = omega arith
 pipes-long before (b ∷ s) =
     omega (arith, pipes-long (eqb b 92) s, length-append (cond (eqb b 124 && not before) (ascii "\\") []) (b ∷ pipesEscaped (eqb b 92) s))
 
+-- a text that gains nothing stays as it is
 pub pipes-none : (before : Bool) (s : List ℕ) → length (pipesEscaped before s) ≡ length s → pipesEscaped before s ≡ s
 unfolding pipesEscaped
 pipes-none before [] h = refl
@@ -101,15 +102,9 @@ pub record Escaping (d text : List ℕ) (len end i at : ℕ) : Type 0 where
   pub kept : take at text ≡ take at d
   pub joined : pipesEscaped false (take i d) ++ drop at text ≡ pipesEscaped false (take len d) ++ drop end d
 
-longer : (before : Bool) (s : List ℕ) → length s ≤ length (pipesEscaped before s)
-unfolding pipesEscaped
-longer before [] = omega arith
-longer before (x ∷ s) =
-    omega (arith, length-append (cond (eqb x 124 && not before) (ascii "\\") []) (x ∷ pipesEscaped (eqb x 92) s), longer (eqb x 92) s)
-
 module _ (d : List ℕ) {len : ℕ} (h : len ≤ length d) where
   above-is : (i : ℕ) → i ≤ len → i ≤ length (pipesEscaped false (take i d))
-  above-is i k = omega (arith, longer false (take i d), length-take-le i d (omega arith))
+  above-is i k = omega (arith, pipes-long false (take i d), length-take-le i d (omega arith))
 
   pub escaping-none : {end : ℕ} → end ≡ length (pipesEscaped false (take len d)) → Escaping d d len end len end
   escaping-none e = record { long = refl; within = omega arith; place = e; above = omega (arith, above-is len (omega arith)); under = omega arith; kept = refl; joined = refl }

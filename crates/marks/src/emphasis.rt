@@ -19,6 +19,7 @@ use text::buffer::lift;
 use text::buffer::push_all;
 use text::buffer::push_byte;
 use text::buffer::push_byte_if;
+use text::buffer::saturating_sub;
 use text::buffer::starts_with_byte;
 use text::buffer::trim_end;
 use text::buffer::trim_end_matches;
@@ -57,12 +58,6 @@ pub fn ends_with_emphasis(marker: &[u8], acc: &[u8]) -> bool
     is_exact_marker_end(&acc[..n], marker)
 }
 
-fn minus(a: usize, b: usize) -> usize
-    ensures { λ r. ⌜ r ≡ a - b ⌝ }
-{
-    if a < b { 0 } else { a - b }
-}
-
 // Takes the marker of an emphasis just closed away; a blank behind it stays.
 pub fn try_trim_prev_emphasis_marker(text: &mut [u8], len: usize, marker: &[u8]) -> Wrote
     requires { ⌜ len ≤ length (now text) ⌝ }
@@ -72,10 +67,10 @@ pub fn try_trim_prev_emphasis_marker(text: &mut [u8], len: usize, marker: &[u8])
         return Wrote::Done(len);
     }
     if ends_with_byte(&text[..len], 32) {
-        let n = minus(len, marker.len() + 1);
+        let n = saturating_sub(len, marker.len() + 1);
         push_byte(text, n, 32)
     } else {
-        Wrote::Done(minus(len, marker.len()))
+        Wrote::Done(saturating_sub(len, marker.len()))
     }
 }
 

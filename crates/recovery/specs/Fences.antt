@@ -17,7 +17,7 @@ use Rattle.spec.specs.Reading.Held.{State, state, noLeaf, fenceLeaf, closed, en
 use Rattle.spec.specs.Reading.Step.{kept, allKept, base, lineBy, rawLine, rawStep, stepBy, step}
 use Rattle.spec.specs.Reading.{readLines}
 use Rattle.spec.proofs.Tests.{apart}
-use Rattle.recovery.specs.Starts.{one-less}
+use Rattle.spec.proofs.Order.{one-less}
 use Rattle.recovery.specs.Markers.{solid}
 use Rattle.recovery.specs.Steps.{Reached, step-zero, reached-flat}
 use Rattle.recovery.specs.Closed.{fixedByte, fixedLines, fenceOf, fencedLines}

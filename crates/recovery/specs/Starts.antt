@@ -11,6 +11,7 @@ use Rattle.spec.specs.Bytes.{Bytes, ascii, null, same, isin, every, endsWith, w
 use Rattle.spec.specs.Md.TextUtils.{«is_ordered_list_marker», isEscaped, escapedFrom, escapedChunk, moreWords}
 use Rattle.spec.specs.Reading.Lines.{spaceOrTab, dropWhile}
 use Rattle.spec.specs.Reading.Starts.{textStart, ends, numberBy, number, digitLead, otherLead, lead, startBy, start}
+use Rattle.spec.proofs.Order.{one-less}
 use Rattle.spec.proofs.Tests.{and-l, and-r, or-l, or-r, or-elim, apart, isin-no}
 use Rattle.recovery.specs.Words.{kept, plainByte, plainWord, plainWords, plain-bytes}
 use Rattle.recovery.specs.Closed.{phrase}
@@ -46,9 +47,6 @@ last-dot b (c ∷ w) = go (digit b) (last-dot c w)
         → (lastDot c w && (t && every digit (take (length w) (c ∷ w)))) ≡ cond t (dotEnds (c ∷ w)) (dot b && false)
     go true ih = ih
     go false ih = rw (and-false (lastDot c w), and-false (dot b))
-
-pub one-less : (n : ℕ) → suc n - 1 ≡ n
-one-less n = omega arith
 
 -- behind a first digit, a word is a list marker just where its other bytes are digits and a last dot
 marker-dotEnds : (b : ℕ) (w : Bytes) → digit b ≡ true → «is_ordered_list_marker» (b ∷ w) ≡ dotEnds w

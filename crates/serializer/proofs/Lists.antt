@@ -22,6 +22,7 @@ use Rattle.spec.specs.declared.ctx.FormatOpts.{FormatOpts}
 use Rattle.spec.specs.declared.ctx.ListContext.{ListContext}
 use Rattle.spec.specs.declared.ctx.ListKind.{ListKind}
 use Rattle.spec.specs.declared.ctx.ListKind.the-variants.{Ul, Ol}
+use Rattle.spec.proofs.ListNumbers.{either-most, clamped-most}
 use Rattle.text.proofs.Writing.{alike, keep-then, then-assoc}
 use Rattle.tree.specs.Memory.{placeAt, endAt}
 use Rattle.tree.specs.Nodes.{bodyAt, nameAt}
@@ -41,17 +42,9 @@ use Rattle.serializer.specs.Writers.{Fits, FitsIn, WritesForest, WritesE
 
 -- ---- the step of a list is at most 12
 
-either-most : (b : Bool) {x y n : ℕ} → x ≤ n → y ≤ n → cond b x y ≤ n
-either-most true p q = p
-either-most false p q = q
-
 ordered-most : (n : ℕ) → n ≤ 999999999 → offsetOf (Ol n) ≤ 12
 unfolding offsetOf
 ordered-most n h = omega (arith, length-nine n h)
-
-clamped-most : (digits : Bytes) → clamped digits ≤ 999999999
-unfolding clamped
-clamped-most digits = either-most (ltb 9 (length digits)) (omega arith) (omega arith)
 
 told-most : (b : Bool) (n : ℕ) → n ≤ 999999999 → numberOr (cond b none (some n)) 1 ≤ 999999999
 unfolding numberOr

@@ -26,6 +26,7 @@ use nodes::nodes::node_name;
 use text::buffer::Wrote;
 use text::buffer::lift;
 use text::buffer::push_byte;
+use text::buffer::saturating_sub;
 use tree::memory::read_long;
 use tree::memory::store_long;
 use tree::nodes::node_end;
@@ -237,15 +238,6 @@ fn first_width(sheet: &[u8], nodes: &[u8], from: usize, to: usize) -> usize
     0
 }
 
-fn minus(a: usize, b: usize) -> usize
-    ensures { λ r. ⌜ r ≡ a - b ⌝ }
-{
-    if a < b {
-        return 0;
-    }
-    a - b
-}
-
 // Whether three numbers together are at most `room`.
 fn has_room(room: usize, a: usize, b: usize, c: usize) -> bool
     ensures { λ r. ⌜ r ≡ leb (a + b + c) room ⌝ }
@@ -302,7 +294,7 @@ fn push_sized(
     ensures { λ r. ⌜ Writes (length (now (text .entry))) (now (text .exit)) r (tableSized (lengthsTo (now (sheet .entry)) (now (nodes .entry)) row end) (lineLengths (now (sheet .entry)) (now (nodes .entry)) from to) (take n (drop len (now (text .entry)))) (take len (now (text .entry)))) ⌝ }
 {
     let wide = first_width(sheet, nodes, from, to);
-    let blanks = minus(wide, cells);
+    let blanks = saturating_sub(wide, cells);
     let extra = lines_marks(sheet, nodes, from, to);
     let more = 5 + 6 * cells + 9 * blanks + empty + extra;
     let room = text.len();

@@ -1,7 +1,7 @@
 // A text is the first `len` bytes of a lent slice, and its room is the slice. What only reads takes the text itself.
 ghost use mathlib.Core.Path.{_≡_};
 ghost use mathlib.Core.List.{[], _∷_, _++_};
-ghost use Prim.Native.Nat.{_+_, _≤_, _<_};
+ghost use Prim.Native.Nat.{_+_, _-_, _≤_, _<_};
 ghost use lib.ListN.{length, take, drop, replicate};
 ghost use mathlib.Core.Bool.{cond, not, _||_};
 ghost use Rattle.spec.specs.Md.Elements.Code.{isTabOrBlank};
@@ -28,6 +28,24 @@ pub fn reread(wrote: Wrote) -> Wrote
         Wrote::Done(n) => Wrote::Done(n),
         Wrote::Full => Wrote::Full,
     }
+}
+
+// `a - b`, or 0 where b is greater.
+pub fn saturating_sub(a: usize, b: usize) -> usize
+    ensures { λ r. ⌜ r ≡ a - b ⌝ }
+{
+    if a < b { 0 } else { a - b }
+}
+
+// The first n bytes, or all where there are fewer.
+pub fn front(s: &[u8], n: usize) -> &[u8]
+    ensures { λ r. ⌜ now r ≡ take n (now (s .entry)) ⌝ }
+{
+    if s.len() < n {
+        return s;
+    }
+    let start = 0;
+    &s[start..n]
 }
 
 // Sets of bytes, for the functions that trim, skip and test by one. Black bytes are not white; ordinary ones are neither white

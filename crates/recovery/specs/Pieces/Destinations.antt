@@ -13,7 +13,7 @@ use Rattle.spec.specs.Reading.Lines.{punctuation, headIs, safeByte, safe}
 use Rattle.spec.specs.Reading.Inline.{escaped, slashed}
 use Rattle.spec.specs.Pieces.Links.{References, pointed, control, openBehind, closesNone, balanced, linkDestination, meaning, destinationMeaning}
 use Rattle.spec.proofs.Tests.{and-l, and-r, or-l, or-r, apart}
-use Rattle.recovery.specs.Starts.{one-less}
+use Rattle.spec.proofs.Order.{one-less}
 use Rattle.recovery.specs.Pieces.CodeSpans.{inner-same}
 use Rattle.recovery.specs.Pieces.Received.{Known, received, at, Writes, written-means}
 use Rattle.recovery.specs.Pieces.Meanings.{literal, Means, mnil, mlit, mback}

@@ -14,7 +14,7 @@ use Rattle.spec.specs.Reading.Inline.{escaped, slashed}
 use Rattle.spec.specs.Pieces.CodeSpans.{preceded}
 use Rattle.spec.specs.Pieces.Links.{control, openBehind, closesNone, enclosed}
 use Rattle.spec.specs.Pieces.LinkWholes.{withoutEnding, afterSpace, pointedUpTo, bareUpTo, destinationOf, titleUpTo}
-use Rattle.recovery.specs.Starts.{one-less}
+use Rattle.spec.proofs.Order.{one-less}
 use Rattle.spec.proofs.Tests.{or-l, or-r, or-elim, apart, isin-yes, null-nil}
 
 -- ---- titles

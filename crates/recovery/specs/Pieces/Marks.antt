@@ -27,6 +27,7 @@ use Rattle.spec.specs.declared.ctx.FormatOpts.{FormatOpts}
 use Rattle.spec.specs.declared.ctx.ListContext.{ListContext}
 use Rattle.spec.specs.declared.ctx.ListKind.{ListKind}
 use Rattle.spec.specs.declared.ctx.ListKind.the-variants.{Ul, Ol}
+use Rattle.spec.proofs.ListNumbers.{clamped-most}
 use Rattle.recovery.specs.Markers.{markerWidth, smallNumber, start-number}
 use Rattle.recovery.specs.Pieces.Trims.{Tail, tail-of}
 use Rattle.recovery.specs.Pieces.Closing.{blank-line}
@@ -92,14 +93,6 @@ marker-plus t = refl
 unfoldable pub smallKind : ListKind → Bool
 smallKind Ul = true
 smallKind (Ol n) = smallNumber (some n)
-
-clamped-most : (ds : Bytes) → clamped ds ≤ 999999999
-unfolding clamped
-clamped-most ds = go (ltb 9 (length ds))
-  where
-    go : (t : Bool) → cond t 999999999 (min (valueFrom 0 ds) 999999999) ≤ 999999999
-    go true = omega arith
-    go false = omega arith
 
 most-small : (n : ℕ) → n ≤ 999999999 → smallNumber (some n) ≡ true
 unfolding smallNumber largestNumber

@@ -42,18 +42,18 @@ slice-aggregate-ends-with-byte c =
 ends-with-byte-requires : tie.Need-ends-with-byte-requires
 ends-with-byte-requires c κs = search needs
 
-add-minus : tie.Need-add-minus
-add-minus c = search needs
+add-saturating-sub : tie.Need-add-saturating-sub
+add-saturating-sub c = search needs
 
-minus-requires : tie.Need-minus-requires
-minus-requires c κs = search needs
+saturating-sub-requires : tie.Need-saturating-sub-requires
+saturating-sub-requires c κs = search needs
 
 push-byte-requires : tie.Need-push-byte-requires
 push-byte-requires c κs =
-    omega (arith, c .before .minus .ensures, c .before .before .before .before .before .before .before .before .before .before .pre)
+    omega (arith, c .before .saturating-sub .ensures, c .before .before .before .before .before .before .before .before .before .before .pre)
 
-minus-requires-2 : tie.Need-minus-requires-2
-minus-requires-2 c κs = search needs
+saturating-sub-requires-2 : tie.Need-saturating-sub-requires-2
+saturating-sub-requires-2 c κs = search needs
 
 same-length-2 : tie.Need-same-length-2
 same-length-2 c = search needs
@@ -63,7 +63,7 @@ returns-2 c =
     let a = c .before .before .before .before .before .before .before .before .before .before .before .before .before .args in
     owes-last
     (owes-on (owes-all (a .text .now) (a .len) («try_trim_prev_emphasis_marker» (a .marker .now)) (c .before .before .before .before .before .before .before .before .before .before .before .before .before .pre) refl) (cut (λ t. dropEnd (length (a .marker .now) + 1) (take (a .len) (a .text .now)))) (push (32 ∷ []))
-    (prev-space (a .marker .now) (a .text .now) (a .len) (c .before .before .before .before .before .before .before .before .before .before .before .before .before .pre) (sym (c .before .before .before .before .before .before .before .before .before .ends-with-emphasis .ensures) ∙ not-false _ (c .before .before .before .before .before .before .before .before .if1 .left)) (sym (c .before .before .before .before .before .before .ends-with-byte .ensures) ∙ c .before .before .before .before .before .if2 .taken)) (short-done (a .marker .now) (a .text .now) (a .len) (c .before .before .before .before .before .before .before .before .before .before .before .before .before .pre) (length (a .marker .now) + 1) (c .before .before .before .before .minus .result) (c .before .before .before .before .minus .ensures)))
+    (prev-space (a .marker .now) (a .text .now) (a .len) (c .before .before .before .before .before .before .before .before .before .before .before .before .before .pre) (sym (c .before .before .before .before .before .before .before .before .before .ends-with-emphasis .ensures) ∙ not-false _ (c .before .before .before .before .before .before .before .before .if1 .left)) (sym (c .before .before .before .before .before .before .ends-with-byte .ensures) ∙ c .before .before .before .before .before .if2 .taken)) (short-done (a .marker .now) (a .text .now) (a .len) (c .before .before .before .before .before .before .before .before .before .before .before .before .before .pre) (length (a .marker .now) + 1) (c .before .before .before .before .saturating-sub .result) (c .before .before .before .before .saturating-sub .ensures)))
     (c .before .before .push-byte .ensures)
 
 same-length-3 : tie.Need-same-length-3
@@ -74,8 +74,8 @@ returns-3 c =
     let a = c .before .before .before .before .before .before .before .before .before .args in
     owes-nothing
     (owes-on (owes-all (a .text .now) (a .len) («try_trim_prev_emphasis_marker» (a .marker .now)) (c .before .before .before .before .before .before .before .before .before .pre) refl) (cut (λ t. dropEnd (length (a .marker .now) + 0) (take (a .len) (a .text .now)))) (push [])
-    (prev-plain (a .marker .now) (a .text .now) (a .len) (c .before .before .before .before .before .before .before .before .before .pre) (sym (c .before .before .before .before .before .ends-with-emphasis .ensures) ∙ not-false _ (c .before .before .before .before .if1 .left)) (sym (c .before .before .ends-with-byte .ensures) ∙ c .before .if2 .left)) (short-done (a .marker .now) (a .text .now) (a .len) (c .before .before .before .before .before .before .before .before .before .pre) (length (a .marker .now) + 0) (c .minus2 .result) (omega (arith, c .minus2 .ensures))))
+    (prev-plain (a .marker .now) (a .text .now) (a .len) (c .before .before .before .before .before .before .before .before .before .pre) (sym (c .before .before .before .before .before .ends-with-emphasis .ensures) ∙ not-false _ (c .before .before .before .before .if1 .left)) (sym (c .before .before .ends-with-byte .ensures) ∙ c .before .if2 .left)) (short-done (a .marker .now) (a .text .now) (a .len) (c .before .before .before .before .before .before .before .before .before .pre) (length (a .marker .now) + 0) (c .saturating-sub2 .result) (omega (arith, c .saturating-sub2 .ensures))))
     refl
 
 pub try-trim-prev-emphasis-marker-spec : {M : Type 1} → statement M
-try-trim-prev-emphasis-marker-spec = tie.close (tie.spec slice-reshare-prefix-ends-with-emphasis slice-aggregate-ends-with-emphasis ends-with-emphasis-requires same-length returns slice-reshare-prefix-ends-with-byte slice-aggregate-ends-with-byte ends-with-byte-requires add-minus minus-requires push-byte-requires minus-requires-2 same-length-2 returns-2 same-length-3 returns-3)
+try-trim-prev-emphasis-marker-spec = tie.close (tie.spec slice-reshare-prefix-ends-with-emphasis slice-aggregate-ends-with-emphasis ends-with-emphasis-requires same-length returns slice-reshare-prefix-ends-with-byte slice-aggregate-ends-with-byte ends-with-byte-requires add-saturating-sub saturating-sub-requires push-byte-requires saturating-sub-requires-2 same-length-2 returns-2 same-length-3 returns-3)

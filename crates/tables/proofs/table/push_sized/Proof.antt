@@ -29,42 +29,42 @@ mul-more c =
     let a = c .before .before .before .before .before .before .args in
     let rows = tableLengths (a .sheet .now) (a .nodes .now) (a .from) (a .to) in
     omega
-    (arith, c .lines-marks .ensures, c .before .minus .ensures, c .before .before .first-width .ensures, marks-few rows, width-few rows, zeros-few (cellLengths (a .sheet .now) (a .nodes .now) (a .row) (a .row + 1) (a .end)), c .before .before .before .before .before .before .pre .2, c .before .before .before .before .before .before .pre .4, c .before .before .before .before .before .before .pre .7)
+    (arith, c .lines-marks .ensures, c .before .saturating-sub .ensures, c .before .before .first-width .ensures, marks-few rows, width-few rows, zeros-few (cellLengths (a .sheet .now) (a .nodes .now) (a .row) (a .row + 1) (a .end)), c .before .before .before .before .before .before .pre .2, c .before .before .before .before .before .before .pre .4, c .before .before .before .before .before .before .pre .7)
 
 add-more : tie.Need-add-more
 add-more c =
     let a = c .before .before .before .before .before .before .args in
     let rows = tableLengths (a .sheet .now) (a .nodes .now) (a .from) (a .to) in
     omega
-    (arith, c .lines-marks .ensures, c .before .minus .ensures, c .before .before .first-width .ensures, marks-few rows, width-few rows, zeros-few (cellLengths (a .sheet .now) (a .nodes .now) (a .row) (a .row + 1) (a .end)), c .before .before .before .before .before .before .pre .2, c .before .before .before .before .before .before .pre .4, c .before .before .before .before .before .before .pre .7)
+    (arith, c .lines-marks .ensures, c .before .saturating-sub .ensures, c .before .before .first-width .ensures, marks-few rows, width-few rows, zeros-few (cellLengths (a .sheet .now) (a .nodes .now) (a .row) (a .row + 1) (a .end)), c .before .before .before .before .before .before .pre .2, c .before .before .before .before .before .before .pre .4, c .before .before .before .before .before .before .pre .7)
 
 mul-more-2 : tie.Need-mul-more-2
 mul-more-2 c =
     let a = c .before .before .before .before .before .before .args in
     let rows = tableLengths (a .sheet .now) (a .nodes .now) (a .from) (a .to) in
     omega
-    (arith, c .lines-marks .ensures, c .before .minus .ensures, c .before .before .first-width .ensures, marks-few rows, width-few rows, zeros-few (cellLengths (a .sheet .now) (a .nodes .now) (a .row) (a .row + 1) (a .end)), c .before .before .before .before .before .before .pre .2, c .before .before .before .before .before .before .pre .4, c .before .before .before .before .before .before .pre .7)
+    (arith, c .lines-marks .ensures, c .before .saturating-sub .ensures, c .before .before .first-width .ensures, marks-few rows, width-few rows, zeros-few (cellLengths (a .sheet .now) (a .nodes .now) (a .row) (a .row + 1) (a .end)), c .before .before .before .before .before .before .pre .2, c .before .before .before .before .before .before .pre .4, c .before .before .before .before .before .before .pre .7)
 
 add-more-2 : tie.Need-add-more-2
 add-more-2 c =
     let a = c .before .before .before .before .before .before .args in
     let rows = tableLengths (a .sheet .now) (a .nodes .now) (a .from) (a .to) in
     omega
-    (arith, c .lines-marks .ensures, c .before .minus .ensures, c .before .before .first-width .ensures, marks-few rows, width-few rows, zeros-few (cellLengths (a .sheet .now) (a .nodes .now) (a .row) (a .row + 1) (a .end)), c .before .before .before .before .before .before .pre .2, c .before .before .before .before .before .before .pre .4, c .before .before .before .before .before .before .pre .7)
+    (arith, c .lines-marks .ensures, c .before .saturating-sub .ensures, c .before .before .first-width .ensures, marks-few rows, width-few rows, zeros-few (cellLengths (a .sheet .now) (a .nodes .now) (a .row) (a .row + 1) (a .end)), c .before .before .before .before .before .before .pre .2, c .before .before .before .before .before .before .pre .4, c .before .before .before .before .before .before .pre .7)
 
 add-more-3 : tie.Need-add-more-3
 add-more-3 c =
     let a = c .before .before .before .before .before .before .args in
     let rows = tableLengths (a .sheet .now) (a .nodes .now) (a .from) (a .to) in
     omega
-    (arith, c .lines-marks .ensures, c .before .minus .ensures, c .before .before .first-width .ensures, marks-few rows, width-few rows, zeros-few (cellLengths (a .sheet .now) (a .nodes .now) (a .row) (a .row + 1) (a .end)), c .before .before .before .before .before .before .pre .2, c .before .before .before .before .before .before .pre .4, c .before .before .before .before .before .before .pre .7)
+    (arith, c .lines-marks .ensures, c .before .saturating-sub .ensures, c .before .before .first-width .ensures, marks-few rows, width-few rows, zeros-few (cellLengths (a .sheet .now) (a .nodes .now) (a .row) (a .row + 1) (a .end)), c .before .before .before .before .before .before .pre .2, c .before .before .before .before .before .before .pre .4, c .before .before .before .before .before .before .pre .7)
 
 add-more-4 : tie.Need-add-more-4
 add-more-4 c =
     let a = c .before .before .before .before .before .before .args in
     let rows = tableLengths (a .sheet .now) (a .nodes .now) (a .from) (a .to) in
     omega
-    (arith, c .lines-marks .ensures, c .before .minus .ensures, c .before .before .first-width .ensures, marks-few rows, width-few rows, zeros-few (cellLengths (a .sheet .now) (a .nodes .now) (a .row) (a .row + 1) (a .end)), c .before .before .before .before .before .before .pre .2, c .before .before .before .before .before .before .pre .4, c .before .before .before .before .before .before .pre .7)
+    (arith, c .lines-marks .ensures, c .before .saturating-sub .ensures, c .before .before .first-width .ensures, marks-few rows, width-few rows, zeros-few (cellLengths (a .sheet .now) (a .nodes .now) (a .row) (a .row + 1) (a .end)), c .before .before .before .before .before .before .pre .2, c .before .before .before .before .before .before .pre .4, c .before .before .before .before .before .before .pre .7)
 
 sub-has-room : tie.Need-sub-has-room
 sub-has-room c =
@@ -78,7 +78,7 @@ sub-has-room-2 c =
 abbrev taken : tie.After-has-room → ℕ
 taken c =
     let a = c .before .before .before .before .before .before .before .args in
-    a .n + a .bytes + (5 + 6 * a .cells + 9 * c .before .before .minus .result + a .empty + c .before .lines-marks .result)
+    a .n + a .bytes + (5 + 6 * a .cells + 9 * c .before .before .saturating-sub .result + a .empty + c .before .lines-marks .result)
 
 abbrev left : tie.After-has-room → ℕ
 left c =
@@ -97,10 +97,10 @@ returns c =
     record {
       says = sized-full lens rows s (omega (arith, m, c .before .before .before .before .before .before .before .before .pre .3, c .before .before .before .before .before .before .before .before .pre .6)) (length (a .text .now)) (take (a .len) (a .text .now))
           (omega
-          (arith, leb-false (taken (c .before)) (left (c .before)) (sym (c .before .has-room .ensures) ∙ not-true _ (c .if1 .taken)), c .before .before .before .minus .ensures, m, length-take-le (a .len) (a .text .now) (omega (arith, c .before .before .before .before .before .before .before .before .pre .5)), c .before .before .before .before .before .before .before .before .pre .2, c .before .before .before .before .before .before .before .before .pre .3, c .before .before .before .before .before .before .before .before .pre .4, c .before .before .before .before .before .before .before .before .pre .5, c .before .before .before .before .before .before .before .before .pre .6));
+          (arith, leb-false (taken (c .before)) (left (c .before)) (sym (c .before .has-room .ensures) ∙ not-true _ (c .if1 .taken)), c .before .before .before .saturating-sub .ensures, m, length-take-le (a .len) (a .text .now) (omega (arith, c .before .before .before .before .before .before .before .before .pre .5)), c .before .before .before .before .before .before .before .before .pre .2, c .before .before .before .before .before .before .before .before .pre .3, c .before .before .before .before .before .before .before .before .pre .4, c .before .before .before .before .before .before .before .before .pre .5, c .before .before .before .before .before .before .before .before .pre .6));
     }
 
-fits : (c : tie.Else1) → c .before .before .before .before .before .before .before .before .args .len + c .before .before .before .before .before .before .before .before .args .n + c .before .before .before .before .before .before .before .before .args .n + c .before .before .before .before .before .before .before .before .args .bytes + (5 + 6 * c .before .before .before .before .before .before .before .before .args .cells + 9 * c .before .before .before .minus .result + c .before .before .before .before .before .before .before .before .args .empty + c .before .before .lines-marks .result) ≤ length (c .before .before .before .before .before .before .before .before .args .text .now)
+fits : (c : tie.Else1) → c .before .before .before .before .before .before .before .before .args .len + c .before .before .before .before .before .before .before .before .args .n + c .before .before .before .before .before .before .before .before .args .n + c .before .before .before .before .before .before .before .before .args .bytes + (5 + 6 * c .before .before .before .before .before .before .before .before .args .cells + 9 * c .before .before .before .saturating-sub .result + c .before .before .before .before .before .before .before .before .args .empty + c .before .before .lines-marks .result) ≤ length (c .before .before .before .before .before .before .before .before .args .text .now)
 fits c = omega (arith, leb-true (taken (c .before)) (left (c .before)) (sym (c .before .has-room .ensures) ∙ not-false _ (c .if1 .left)), c .before .before .before .before .before .before .before .before .pre .5)
 
 sub-base : tie.Need-sub-base
@@ -117,7 +117,7 @@ put-table-requires c κs =
       c .before .before .before .before .before .before .before .before .before .before .before .before .before .pre .0,
       c .before .before .before .before .before .before .before .before .before .before .before .before .before .pre .1,
       c .before .before .before .before .before .before .before .before .before .before .before .before .before .pre .3,
-      c .before .before .before .before .before .before .before .before .minus .ensures ∙ omega (arith, c .before .before .before .before .before .before .before .before .before .first-width .ensures, c .before .before .before .before .before .before .before .before .before .before .before .before .before .pre .2),
+      c .before .before .before .before .before .before .before .before .saturating-sub .ensures ∙ omega (arith, c .before .before .before .before .before .before .before .before .before .first-width .ensures, c .before .before .before .before .before .before .before .before .before .before .before .before .before .pre .2),
       omega (arith, fits (c .before .before .before .before .before), c .before .before .before .before .before .before .before .before .before .before .before .before .before .pre .2, c .before .before .before .before .before .before .before .before .before .before .before .before .before .pre .3, c .before .before .before .before .before .before .before .before .before .before .before .before .before .pre .4, c .before .before .before .before .before .before .before .before .before .before .before .before .before .pre .6, c .before .before .before .before .before .before .before .lines-marks .ensures),
       omega (arith, c .before .before .before .lift .ensures .long, c .before .before .before .before .before .before .before .before .before .before .before .before .before .pre .5, c .before .before .before .before .before .before .before .before .before .before .before .before .before .pre .6),
     )
@@ -136,10 +136,10 @@ returns-2 c =
     let wide : c .before .before .before .before .before .before .before .before .before .before .before .before .before .before .before .before .first-width .result ≡ width rows = c .before .before .before .before .before .before .before .before .before .before .before .before .before .before .before .before .first-width .ensures in
     let more : c .before .before .before .before .before .before .before .before .before .before .before .before .before .before .lines-marks .result ≡ marks rows = c .before .before .before .before .before .before .before .before .before .before .before .before .before .before .lines-marks .ensures in
     sized-done lens rows s (omega (arith, m, c .before .before .before .before .before .before .before .before .before .before .before .before .before .before .before .before .before .before .before .before .pre .3, c .before .before .before .before .before .before .before .before .before .before .before .before .before .before .before .before .before .before .before .before .pre .6)) (a .text .now) _ (a .len) (a .n) _
-    (omega (arith, fits (c .before .before .before .before .before .before .before .before .before .before .before .before), c .before .before .before .before .before .before .before .before .before .before .before .before .before .before .before .minus .ensures, c .before .before .before .before .before .before .before .before .before .before .before .before .before .before .before .before .before .before .before .before .pre .2, c .before .before .before .before .before .before .before .before .before .before .before .before .before .before .before .before .before .before .before .before .pre .3, c .before .before .before .before .before .before .before .before .before .before .before .before .before .before .before .before .before .before .before .before .pre .4, c .before .before .before .before .before .before .before .before .before .before .before .before .before .before .before .before .before .before .before .before .pre .6)) (sym m) refl (c .before .before .before .before .before .before .before .before .before .before .lift .ensures) refl (c .before .before .before .before .before .before .put-table .ensures) (c .before .before .push-byte .ensures)
+    (omega (arith, fits (c .before .before .before .before .before .before .before .before .before .before .before .before), c .before .before .before .before .before .before .before .before .before .before .before .before .before .before .before .saturating-sub .ensures, c .before .before .before .before .before .before .before .before .before .before .before .before .before .before .before .before .before .before .before .before .pre .2, c .before .before .before .before .before .before .before .before .before .before .before .before .before .before .before .before .before .before .before .before .pre .3, c .before .before .before .before .before .before .before .before .before .before .before .before .before .before .before .before .before .before .before .before .pre .4, c .before .before .before .before .before .before .before .before .before .before .before .before .before .before .before .before .before .before .before .before .pre .6)) (sym m) refl (c .before .before .before .before .before .before .before .before .before .before .lift .ensures) refl (c .before .before .before .before .before .before .put-table .ensures) (c .before .before .push-byte .ensures)
 
-minus-requires : tie.Need-minus-requires
-minus-requires c κs = search needs
+saturating-sub-requires : tie.Need-saturating-sub-requires
+saturating-sub-requires c κs = search needs
 
 has-room-requires : tie.Need-has-room-requires
 has-room-requires c κs = search needs
@@ -148,4 +148,4 @@ same-length : tie.Need-same-length
 same-length c = search needs
 
 pub push-sized-spec : {M : Type 1} → statement M
-push-sized-spec = tie.close (tie.spec first-width-requires minus-requires lines-marks-requires mul-more add-more mul-more-2 add-more-2 add-more-3 add-more-4 sub-has-room sub-has-room-2 has-room-requires returns sub-base lift-requires put-table-requires push-byte-requires same-length returns-2)
+push-sized-spec = tie.close (tie.spec first-width-requires saturating-sub-requires lines-marks-requires mul-more add-more mul-more-2 add-more-2 add-more-3 add-more-4 sub-has-room sub-has-room-2 has-room-requires returns sub-base lift-requires put-table-requires push-byte-requires same-length returns-2)
