@@ -1,4 +1,5 @@
-"""Makes the stored cases of the program crates/text_cases, which replays them on the leaf functions of the crate text.
+"""Makes the stored cases of the program crates/text_cases, which replays them on the leaf functions of the
+crates normalized, marks and lists_links.
 
     python3 tools/text_cases.py --oracle ../shared/oracle --model ../shared/model
 

@@ -1,4 +1,4 @@
-// What the serializer asks of the nodes of a stored sheet, and what its element writers do that reach no other writer.
+// The element writers that reach no other writer, but for tables.
 pub mod code;
 pub mod code_language;
 pub mod item_steps;

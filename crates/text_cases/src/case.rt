@@ -63,15 +63,6 @@ pub fn field(line: &[u8], k: usize) -> &[u8] {
     &line[at..end]
 }
 
-// The first n bytes, or all where there are fewer.
-pub fn front(s: &[u8], n: usize) -> &[u8] {
-    if s.len() < n {
-        return s;
-    }
-    let start = 0;
-    &s[start..n]
-}
-
 // The value of a hexadecimal digit; of any other byte, 16.
 fn digit(b: u8) -> u8
     ensures { λ r. ⌜ r < 17 ⌝ }

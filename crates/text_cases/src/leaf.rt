@@ -1,4 +1,4 @@
-// The leaf functions of the crate text by the Rust's files and names. `text` has `len` bytes; a and b are the further byte strings
+// The leaf functions of normalized, marks and lists_links by the Rust's files and names. `text` has `len` bytes; a and b are the further byte strings
 // of a case.
 ghost use Prim.Native.Nat.{_≤_};
 ghost use lib.ListN.{length};

@@ -1,4 +1,4 @@
-// Replays the cases of standard input, a line each, on the leaf functions of the crate text. A line has eleven fields with a
+// Replays the cases of standard input, a line each, on the leaf functions of normalized, marks and lists_links. A line has eleven fields with a
 // blank between them: the Rust's file and function (or a part of one), the room of the text, three numbers, the text and two further byte strings in
 // hexadecimal, the answer (a number, or F where there is no room or no number), the bytes that stand at the front of the text
 // then. Writes each line whose answer or bytes are others, then how many lines there are and how many of them differ.
@@ -9,7 +9,6 @@ mod setup;
 
 use case::decode;
 use case::field;
-use case::front;
 use case::line_end;
 use case::next_line;
 use case::number;
@@ -17,6 +16,7 @@ use input::fields::is_same;
 use leaf::run;
 use setup::Case;
 use text::buffer::Wrote;
+use text::buffer::front;
 ghost use mathlib.Core.Path.{_≡_};
 ghost use Prim.Native.Nat.{_≤_};
 ghost use lib.ListN.{length};

@@ -1,4 +1,4 @@
-// The sheet: the questions put to it, and its tree in node memory.
+// The tree of a sheet in node memory, and access to it.
 pub mod attributes;
 pub mod memory;
 pub mod names;
