@@ -1,13 +1,13 @@
 // Puts questions 1 to 9 to each sheet of a stored list, and writes the number of the first no and the nodes of an accepted sheet.
 mod dump;
-mod input;
+mod list;
 
 ghost use Prim.Native.Nat.{_≤_, _<_};
 ghost use lib.ListN.{length};
 use crate::dump::print_nodes;
 use crate::dump::put;
-use crate::input::build_sheet;
-use crate::input::read_head;
+use crate::list::build_sheet;
+use crate::list::read_head;
 use input::questions::first_refusal;
 use libc::STDOUT_FILENO;
 use tree::memory::clear;

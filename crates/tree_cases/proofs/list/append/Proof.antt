@@ -1,11 +1,11 @@
--- `tree_cases::input::append` meets its contract. Assumes nothing.
+-- `tree_cases::list::append` meets its contract. Assumes nothing.
 use Prim.Native.Nat.{_≤_, _-_, _+_}
 use mathlib.Core.Path.{_≡_, refl}
 use lib.ListN.{length, length-set}
 use borrow.Author.Needs.{needs}
 use native.Mathlib.Omega.{arith}
-use Rattle.tree_cases.proofs.input.append.Statement.{statement}
-use Rattle.tree_cases.proofs.input.append.Tie as tie
+use Rattle.tree_cases.proofs.list.append.Statement.{statement}
+use Rattle.tree_cases.proofs.list.append.Tie as tie
 
 abbrev Inv-loop : tie.InvT-loop
 Inv-loop input from to sheet₀ len i₀ n₀ sheet i n = (n ≤ length sheet) × (length sheet ≡ length sheet₀)

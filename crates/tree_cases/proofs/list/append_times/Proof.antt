@@ -1,10 +1,10 @@
--- `tree_cases::input::append_times` meets its contract. Assumes nothing.
+-- `tree_cases::list::append_times` meets its contract. Assumes nothing.
 use Prim.Native.Nat.{_≤_, _-_}
 use mathlib.Core.Path.{_≡_, refl}
 use lib.ListN.{length}
 use borrow.Author.Needs.{needs}
-use Rattle.tree_cases.proofs.input.append_times.Statement.{statement}
-use Rattle.tree_cases.proofs.input.append_times.Tie as tie
+use Rattle.tree_cases.proofs.list.append_times.Statement.{statement}
+use Rattle.tree_cases.proofs.list.append_times.Tie as tie
 
 abbrev Inv-loop : tie.InvT-loop
 Inv-loop input from to times sheet₀ len k₀ n₀ sheet k n = (n ≤ length sheet) × (length sheet ≡ length sheet₀)

@@ -1,11 +1,11 @@
--- `tree_cases::input::build_sheet` meets its contract. Assumes nothing.
+-- `tree_cases::list::build_sheet` meets its contract. Assumes nothing.
 use Prim.Native.Nat.{_≤_, _-_}
 use mathlib.Core.Path.{_≡_, refl}
 use lib.ListN.{length}
 use borrow.Author.Needs.{needs}
 use native.Mathlib.Omega.{arith}
-use Rattle.tree_cases.proofs.input.build_sheet.Statement.{statement}
-use Rattle.tree_cases.proofs.input.build_sheet.Tie as tie
+use Rattle.tree_cases.proofs.list.build_sheet.Statement.{statement}
+use Rattle.tree_cases.proofs.list.build_sheet.Tie as tie
 
 abbrev Inv-loop : tie.InvT-loop
 Inv-loop input at pieces sheet₀ k₀ p₀ len₀ sheet k p len = (at ≤ p) × (p ≤ length input) × (len ≤ length sheet) × (length sheet ≡ length sheet₀)
