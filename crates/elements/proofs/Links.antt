@@ -5,7 +5,7 @@ use mathlib.Core.Bool.{Bool, true, false, cond}
 use mathlib.Core.List.{List, [], _∷_}
 use native.Mathlib.Omega.{arith}
 use lib.ListN.{length, take, drop, length-drop}
-use lib.Seq.{length-take-le, take-take, slice}
+use lib.Seq.{length-take-le, take-take}
 use Rattle.spec.specs.Bytes.{Bytes, ascii, null, every, white, isBlank}
 use Rattle.spec.specs.Tree.{Attr, Forest}
 use Rattle.spec.specs.Out.{Out, Step, keep, andThen, beside, nested}
@@ -15,23 +15,16 @@ use Rattle.spec.specs.Md.MDSerializer.{Ancestors, MDSerializer}
 use Rattle.spec.specs.Md.Elements.Emphasis.{«md_emphasis», «push_emphasis», «write_emphasis»}
 use Rattle.spec.specs.Md.Elements.Link.{linkOf, blankLink, textLink}
 use Rattle.spec.specs.declared.ctx.FormatOpts.{FormatOpts}
-use Rattle.text.specs.Source.{Apart, WritesIn}
+use Rattle.text.specs.Source.{WritesIn}
 use Rattle.text.specs.Writes.{Written, Refused, Says, Writes}
 use Rattle.text.specs.declared.buffer.Wrote.{Wrote}
 use Rattle.text.specs.declared.buffer.Wrote.the-variants.{Done, Full}
-use Rattle.text.proofs.Reading.{rest-part, null-some}
-use Rattle.text.proofs.Sourcing.{part-is}
+use Rattle.text.proofs.Reading.{null-some}
 use Rattle.text.proofs.Writing.{yes, no, done, full, reaches}
 use Rattle.elements.specs.EmphasisStep.{emphasisStep}
 use Rattle.elements.specs.LinkStep.{appendBy, bracket, linkFront, linkShown, linkStep, plainStep, textLinkStep}
 
 -- ---- the temporary is what stands from base on
-
-pub temp-apart : (d : List ℕ) (base : ℕ) → base ≤ length d → Apart true d [] base base (length d)
-temp-apart d base g = record { inside = g; ordered = g; within = omega arith; behind = λ e. omega arith }
-
-pub temp-part : (d : List ℕ) (base : ℕ) → slice base (length d) d ≡ drop base d
-temp-part d base = sym (part-is base (length d) d) ∙ rest-part base d
 
 -- what is written before it; it counts meanwhile
 pub before-temp : {d final : List ℕ} {base : ℕ} {r : Wrote} {o : Out} → base ≤ length d → WritesIn base d final r o → Writes (length d) final r (beside (length (drop base d)) o)

@@ -6,7 +6,7 @@ ghost use Rattle.text.specs.Writes.{Writes};
 ghost use Rattle.spec.specs.Out.{beside};
 ghost use Rattle.elements.specs.LinkStep.{appendBy, bracket, linkFront, linkShown, linkStep, plainStep, textLinkStep};
 use lists_links::link::push_link_end;
-use normalized::normalize::push_normalized;
+use normalized::normalize_own::push_normalized_own;
 use normalized::text_utils::escape_trailing_bang;
 use spec::ctx::FormatOpts;
 use text::buffer::Class;
@@ -32,8 +32,7 @@ fn push_plain(text: &mut [u8], base: usize, len: usize, opts: FormatOpts) -> Wro
     requires { ⌜ (len ≤ base) × (base ≤ length (now text)) ⌝ }
     ensures { λ r. ⌜ Writes (length (now (text .entry))) (now (text .exit)) r (plainStep opts (drop base (now (text .entry))) (take len (now (text .entry)))) ⌝ }
 {
-    let to = text.len();
-    push_normalized(b"", text, true, base, to, base, len, opts)
+    push_normalized_own(text, base, len, opts)
 }
 
 // What stands from base on, by its words or as it stands.

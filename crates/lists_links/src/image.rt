@@ -11,7 +11,7 @@ ghost use Rattle.tree.specs.Attributes.{Valued};
 ghost use Rattle.tree.specs.Represents.{attrsBehind};
 ghost use Rattle.text.specs.Writes.{Writes};
 use crate::link::push_link_end;
-use normalized::text_utils::push_normalized_text;
+use normalized::normalize::push_normalized_text;
 use spec::ctx::FormatOpts;
 use text::buffer::Class;
 use text::buffer::Wrote;

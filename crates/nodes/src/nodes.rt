@@ -18,7 +18,7 @@ ghost use Rattle.nodes.specs.TextStep.{textStep};
 use crate::white_space::Begun;
 use crate::white_space::has_ended;
 use crate::white_space::white_state;
-use normalized::text_utils::push_text_part;
+use normalized::normalize::push_text_part;
 use spec::ctx::FormatOpts;
 use text::buffer::Wrote;
 use text::buffer::push_all;

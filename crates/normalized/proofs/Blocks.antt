@@ -16,13 +16,13 @@ use Rattle.spec.specs.Md.Constants.{«ALWAYS_ESCAPED»}
 use Rattle.spec.specs.Md.TextUtils.{isEscaped}
 use Rattle.normalized.specs.Blocks.{signed, Signs, BlockAt, Appends}
 use Rattle.text.specs.Flow.{added, flowBefore, plain, Plain}
-use Rattle.text.specs.Source.{store, Apart, WritesIn}
-use Rattle.text.specs.Writes.{Written}
-use Rattle.normalized.specs.declared.normalize.Block.{Block}
+use Rattle.text.specs.Writes.{Writes, Written}
+use Rattle.normalized.specs.declared.fast_copy.Block.{Block}
 use Rattle.text.specs.declared.buffer.Wrote.the-variants.{Done}
 use Rattle.text.proofs.Ordinary.{not-escaped}
 use Rattle.normalized.proofs.Flowing.{blank-added, less-or-not}
-use Rattle.text.proofs.Sourcing.{slice-on, follows-some, alike-in}
+use Rattle.text.proofs.Sourcing.{slice-on, follows-some}
+use Rattle.text.proofs.Writing.{alike}
 use Rattle.normalized.proofs.Streaming.{added-black, slice-join}
 use Rattle.normalized.proofs.Wording.{slice-front}
 
@@ -172,59 +172,37 @@ block-step {d} {now} {len} {n} signs s at i p h k =
     subst₂ (λ (m j : ℕ). Appends d (set (set now n 92) (n + getD signs i 0) b) len (n + getD signs i 0 + 1) m (signed signs s at j)) z (sym (add-one i)) (appends-next p h (getD signs i 0) b k)
 
 -- what is appended where there is room for the most that it may be
-pub appends-in : {d after : Bytes} {len n most room : ℕ} {x : Bytes} → Appends d after len n most x → len + most ≤ room → room ≤ length d → WritesIn room d after (Done n) (push x (take len d))
+pub appends-done : {d after : Bytes} {len n most : ℕ} {x : Bytes} → Appends d after len n most x → len + most ≤ length d → Writes (length d) after (Done n) (push x (take len d))
 unfolding push
-appends-in {d} {after} {len} {n} {most} {room} {x} p h k =
+appends-done {d} {after} {len} {n} {most} {x} p h =
     let c : n ≡ length (take len d ++ x) = sym (length-take-le n after (omega (arith, p .reach, p .long))) ∙ ap length (p .text-is) in
-    let z : len + most + (room - (len + most)) ≡ room = omega arith in
-    record {
-      long = p .long;
-      writes = record {
-        says = record {
-          long = length-take-le room after (omega (arith, p .long));
-          fits = omega (arith, c, p .reach, length-append (take len d) x);
-          count = c;
-          text-is = take-take n room after (omega (arith, p .reach)) ∙ p .text-is;
-        };
-      };
-      behind = ap (λ (j : ℕ). drop j after) (sym z) ∙ sym (drop-drop (room - (len + most)) (len + most) after) ∙ ap (drop (room - (len + most))) (p .behind) ∙ drop-drop (room - (len + most)) (len + most) d
-          ∙ ap (λ (j : ℕ). drop j d) z;
-    }
+    record { says = record { long = p .long; fits = omega (arith, c, p .reach, length-append (take len d) x); count = c; text-is = p .text-is } }
 
 -- ---- a stretch that is a block
 
--- a stretch of another slice, with a byte behind it, and room for the most that it may add
-pub record Fit (own : Bool) (from stop to room len : ℕ) : Type 0 where
-  pub other : own ≡ false
+-- 16 bytes, with a byte behind them, and room for the most that they may add
+pub record Fit (from stop to room len : ℕ) : Type 0 where
   pub sixteen : stop ≡ from + 16
   pub followed : stop < to
   pub roomy : len + 32 ≤ room
 
-pub fit : (own : Bool) (from stop to room len : ℕ) → from ≤ stop → len ≤ room → not own && (eqb (stop - from) 16 && (ltb stop to && leb 32 (room - len))) ≡ true → Fit own from stop to room len
-fit own from stop to room len h k e =
-    let a = and-eq-true-iff (not own) (eqb (stop - from) 16 && (ltb stop to && leb 32 (room - len))) .0 e in
-    let b = and-eq-true-iff (eqb (stop - from) 16) (ltb stop to && leb 32 (room - len)) .0 (a .1) in
+pub fit : (from stop to room len : ℕ) → from ≤ stop → len ≤ room → eqb (stop - from) 16 && (ltb stop to && leb 32 (room - len)) ≡ true → Fit from stop to room len
+fit from stop to room len h k e =
+    let b = and-eq-true-iff (eqb (stop - from) 16) (ltb stop to && leb 32 (room - len)) .0 e in
     let c = and-eq-true-iff (ltb stop to) (leb 32 (room - len)) .0 (b .1) in
     record {
-      other = not-true own (a .0);
       sixteen = omega (arith, eqb-true (stop - from) 16 (b .0));
       followed = ltb-true stop to (c .0);
       roomy = omega (arith, leb-true 32 (room - len) (c .1));
     }
 
-module _ {own : Bool} {text src : List ℕ} {room from stop to len : ℕ} (p : Apart own text src room from to) (f : Fit own from stop to room len) where
-  pub source-long : (from + 16 < to) × (to ≤ length src)
-  source-long =
-      (omega (arith, f .sixteen, f .followed), subst (λ (o : Bool). to ≤ length (store o text src)) (f .other) (p .within))
-
-  pub block-writes : {escape : Bool} {block : Block} {after : Bytes} {n : ℕ} → BlockAt escape src from block → block .even ≡ true → Appends text after len n 32 (signed (block .signs) src from 16)
-      → WritesIn room text after (Done n) (push (flowBefore escape (slice from stop (store own text src)) (slice stop to (store own text src))) (take len text))
-  block-writes {escape} b e a =
-      alike-in
-      (ap (λ (o : Bool). push (flowBefore escape (slice from stop (store o text src)) (slice stop to (store o text src))) (take len text)) (f .other)
-      ∙ ap (λ (j : ℕ). push (flowBefore escape (slice from j src) (slice j to src)) (take len text)) (f .sixteen)
-      ∙ ap (λ (x : Bytes). push x (take len text)) (sym (signed-flow (b .marked) (b .spaced e) (source-long .0) (source-long .1))))
-      (appends-in a (f .roomy) (p .inside))
+pub block-writes : {escape : Bool} {s text after : Bytes} {from stop len n : ℕ} {block : Block} → Fit from stop (length s) (length text) len → BlockAt escape s from block → block .even ≡ true
+    → Appends text after len n 32 (signed (block .signs) s from 16) → Writes (length text) after (Done n) (push (flowBefore escape (slice from stop s) (slice stop (length s) s)) (take len text))
+block-writes {escape} {s} {text} {after} {from} {stop} {len} f b e a =
+    alike
+    (ap (λ (j : ℕ). push (flowBefore escape (slice from j s) (slice j (length s) s)) (take len text)) (f .sixteen)
+    ∙ ap (λ (x : Bytes). push x (take len text)) (sym (signed-flow {to = length s} (b .marked) (b .spaced e) (omega (arith, f .sixteen, f .followed)) (omega arith))))
+    (appends-done a (f .roomy))
 
 -- ---- a part that is copied in blocks, the last of which may reach behind it
 

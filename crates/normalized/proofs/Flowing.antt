@@ -16,6 +16,7 @@ use Rattle.spec.specs.declared.ctx.FormatOpts as Opts
 use Rattle.text.specs.Class.{ordinary}
 use Rattle.text.specs.Flow.{startsBlack, MayStart, added, flow, flowBefore, kept, plain, Plain, Flows}
 use Rattle.text.specs.Marks.{marks}
+use Rattle.normalized.specs.Verbatim.{Whole}
 use Rattle.spec.proofs.Order.{le-or-lt}
 use Rattle.text.proofs.Reading.{same-self, not-long}
 use Rattle.text.proofs.Sourcing.{part-byte}
@@ -105,12 +106,12 @@ block-next {signs} {s} {all} {one} at i h before here e j l m =
     less-or-not j (at + i) (before (q .0) j l) (λ k. subst (Plain signs s) (omega arith) (record { followed = h; adds-itself = here (q .1) }))
 
 -- the same where only the first n bytes count, `past` says that this one is none of them
-pub front-next : {s : Bytes} {all past one : Bool} (at i n : ℕ) → at + i + 1 < length s → (all ≡ true → (j : ℕ) → at ≤ j → j < at + i → j < at + n → Plain true s j)
-    → (past ≡ true → n ≤ i) → (one ≡ true → plain true (getD s (at + i) 0) (getD s (at + i + 1) 0) ≡ true) → all && (past || one) ≡ true
-    → (j : ℕ) → at ≤ j → j < at + (i + 1) → j < at + n → Plain true s j
-front-next {s} {all} {past} {one} at i n h before gone here e j l m k =
+pub front-next : {signs : Bool} {s : Bytes} {all past one : Bool} (at i n : ℕ) → at + i + 1 < length s → (all ≡ true → (j : ℕ) → at ≤ j → j < at + i → j < at + n → Plain signs s j)
+    → (past ≡ true → n ≤ i) → (one ≡ true → plain signs (getD s (at + i) 0) (getD s (at + i + 1) 0) ≡ true) → all && (past || one) ≡ true
+    → (j : ℕ) → at ≤ j → j < at + (i + 1) → j < at + n → Plain signs s j
+front-next {signs} {s} {all} {past} {one} at i n h before gone here e j l m k =
     let q = and-eq-true-iff all (past || one) .0 e in
-    less-or-not j (at + i) (λ b. before (q .0) j l b k) (λ b. subst (Plain true s) (omega arith) (record { followed = h; adds-itself = here (on past one gone (omega arith) (q .1)) }))
+    less-or-not j (at + i) (λ b. before (q .0) j l b k) (λ b. subst (Plain signs s) (omega arith) (record { followed = h; adds-itself = here (on past one gone (omega arith) (q .1)) }))
   where
     on : (p o : Bool) → (p ≡ true → n ≤ i) → i < n → p || o ≡ true → o ≡ true
     on true o g less t = absurd (omega (arith, g refl))
@@ -255,7 +256,7 @@ ends-last s n long = on (white (getD s n 0)) refl
     on false w = ap (λ (x : Bytes). not (same x s)) (trim-whole white s n long w) ∙ ap not (same-self s)
 
 -- what stands from the last byte on
-drop-last : (s : Bytes) (n : ℕ) → length s ≡ n + 1 → drop n s ≡ getD s n 0 ∷ []
+pub drop-last : (s : Bytes) (n : ℕ) → length s ≡ n + 1 → drop n s ≡ getD s n 0 ∷ []
 drop-last s n long = drop-cons s n 0 (omega arith) ∙ ap (λ (r : Bytes). getD s n 0 ∷ r) (drop-of-length-le s {i = suc n} (omega arith))
 
 -- no backslash stands before the first word
@@ -343,26 +344,12 @@ module _ (signs : Bool) (b : ℕ) (s : Bytes) (n : ℕ) (long : length (b ∷ s)
 
 -- a text of plain bytes, of which the last may be a blank, is appended as it is: where signs are escaped, if its first word
 -- may start a line
-pub bare-flow : {signs : Bool} {s : Bytes} {n : ℕ} → length s ≡ n + 1 → white (getD s 0 0) ≡ false → (signs ≡ true → MayStart (parts white s .0)) → Flows signs s n → kept signs (getD s n 0) || eqb (getD s n 0) 32 ≡ true
+pub bare-flow : {signs : Bool} (s : Bytes) → Whole signs s → white (getD s 0 0) ≡ false → (signs ≡ true → MayStart (parts white s .0))
     → (opts : Opts.FormatOpts) (text : List ℕ) → (not (opts .«skip_escape») ≡ true → signs ≡ true) → def.normalized opts text s ≡ s
 unfolding parts cutAt
-bare-flow {signs} {s} {n} = on s n
-  where
-    on : (s : Bytes) (n : ℕ) → length s ≡ n + 1 → white (getD s 0 0) ≡ false → (signs ≡ true → MayStart (parts white s .0)) → Flows signs s n → kept signs (getD s n 0) || eqb (getD s n 0) 32 ≡ true
-        → (opts : Opts.FormatOpts) (text : List ℕ) → (not (opts .«skip_escape») ≡ true → signs ≡ true) → def.normalized opts text s ≡ s
-    on [] n long black starts f last = absurd (omega arith)
-    on (b ∷ s) n long black starts f last =
-        bare-from signs b s n long black (λ e. subst (λ (t : Bool). MayStart (cutAt t b (parts white s) .0)) black (starts e)) f last
-
--- a word that may start a line has a byte, and none is white
-pub start-black : (s : Bytes) → MayStart (parts white s .0) → white (getD s 0 0) ≡ false
-unfolding parts cutAt
-start-black [] m = absurd (omega (arith, m .above-dot))
-start-black (b ∷ s) m = on (white b) m
-  where
-    on : (t : Bool) → MayStart (cutAt t b (parts white s) .0) → t ≡ false
-    on true k = absurd (omega (arith, k .above-dot))
-    on false k = refl
+bare-flow [] v black starts = absurd (omega (arith, v .long))
+bare-flow {signs} (b ∷ s) v black starts =
+    bare-from signs b s (v .last) (v .long) black (λ e. subst (λ (t : Bool). MayStart (cutAt t b (parts white s) .0)) black (starts e)) (v .flows) (v .ends)
 
 -- ---- behind a text that ends inside a line
 
@@ -432,42 +419,39 @@ module _ (opts : Opts.FormatOpts) (text : Bytes) (h : Inside text) (l : opts .«
       (inner-words opts text (32 ∷ b ∷ s) (first b s black) (more b s black) h l ∙ inner-from true b s black (end (32 ∷ b ∷ s)) ∙ ap (λ (x : Bytes). x ++ end (32 ∷ b ∷ s)) (flow-blank b s black))
 
 -- a blank that is plain stands before a word
-plain-blank : (b y : ℕ) → white b ≡ true → plain true b y ≡ true → (b ≡ 32) × (white y ≡ false)
-plain-blank b y w h = on (kept true b) refl h
+plain-blank : (signs : Bool) (b y : ℕ) → white b ≡ true → plain signs b y ≡ true → (b ≡ 32) × (white y ≡ false)
+plain-blank signs b y w h = on (kept signs b) refl h
   where
-    on : (o : Bool) → kept true b ≡ o → o || (eqb b 32 && not (white y)) ≡ true → (b ≡ 32) × (white y ≡ false)
-    on true k h = absurd (false≢true (sym (kept-black true b k) ∙ w))
+    on : (o : Bool) → kept signs b ≡ o → o || (eqb b 32 && not (white y)) ≡ true → (b ≡ 32) × (white y ≡ false)
+    on true k h = absurd (false≢true (sym (kept-black signs b k) ∙ w))
     on false k h = let q = and-eq-true-iff (eqb b 32) (not (white y)) .0 h in (eqb-true b 32 (q .0), not-true (white y) (q .1))
 
 -- a text of plain bytes, of which the last may be a blank, is appended as it is behind a text that ends inside a line, unless it is a
 -- blank alone
-pub inner-flow : (s : Bytes) (n : ℕ) → length s ≡ n + 1 → Flows true s n → kept true (getD s n 0) || eqb (getD s n 0) 32 ≡ true → eqb n 0 && eqb (getD s 0 0) 32 ≡ false
-    → (opts : Opts.FormatOpts) (text : Bytes) → Inside text → opts .«list_item» ≡ false → def.normalized opts text s ≡ s
-inner-flow s n long f last more opts text h l = go s n long f last more
+pub inner-flow : {signs : Bool} (s : Bytes) → Whole signs s → eqb (length s) 1 && eqb (getD s 0 0) 32 ≡ false
+    → (opts : Opts.FormatOpts) (text : Bytes) → (not (opts .«skip_escape») ≡ true → signs ≡ true) → Inside text → opts .«list_item» ≡ false → def.normalized opts text s ≡ s
+inner-flow {signs} s v more opts text only h l = go s v more
   where
-    whole : (s : Bytes) (n : ℕ) → length s ≡ n + 1 → Flows true s n → kept true (getD s n 0) || eqb (getD s n 0) 32 ≡ true → flow (escape opts text h l) s ++ end opts text h l s ≡ s
-    whole s n long f last = flow-whole true (escape opts text h l) s n long f last (λ e. refl)
+    whole : (s : Bytes) → Whole signs s → flow (escape opts text h l) s ++ end opts text h l s ≡ s
+    whole s v = flow-whole signs (escape opts text h l) s (v .last) (v .long) (v .flows) (v .ends) only
 
-    behind : (b c : ℕ) (r : Bytes) (n : ℕ) → b ≡ 32 → white c ≡ false → length (b ∷ c ∷ r) ≡ n + 1 → Flows true (b ∷ c ∷ r) n → kept true (getD (b ∷ c ∷ r) n 0) || eqb (getD (b ∷ c ∷ r) n 0) 32 ≡ true
-        → def.normalized opts text (b ∷ c ∷ r) ≡ b ∷ c ∷ r
-    behind b c r n e w =
-        subst (λ (x : ℕ). length (x ∷ c ∷ r) ≡ n + 1 → Flows true (x ∷ c ∷ r) n → kept true (getD (x ∷ c ∷ r) n 0) || eqb (getD (x ∷ c ∷ r) n 0) 32 ≡ true → def.normalized opts text (x ∷ c ∷ r) ≡ x ∷ c ∷ r) (sym e)
-        (λ long f last. inner-blank opts text h l c r w ∙ whole (32 ∷ c ∷ r) n long f last)
+    behind : (b c : ℕ) (r : Bytes) → b ≡ 32 → white c ≡ false → Whole signs (b ∷ c ∷ r) → def.normalized opts text (b ∷ c ∷ r) ≡ b ∷ c ∷ r
+    behind b c r e w =
+        subst (λ (x : ℕ). Whole signs (x ∷ c ∷ r) → def.normalized opts text (x ∷ c ∷ r) ≡ x ∷ c ∷ r) (sym e) (λ v. inner-blank opts text h l c r w ∙ whole (32 ∷ c ∷ r) v)
 
-    go : (s : Bytes) (n : ℕ) → length s ≡ n + 1 → Flows true s n → kept true (getD s n 0) || eqb (getD s n 0) 32 ≡ true → eqb n 0 && eqb (getD s 0 0) 32 ≡ false → def.normalized opts text s ≡ s
-    go [] n long f last more = absurd (omega arith)
-    go (b ∷ s) n long f last more = on (white b) refl s n long f last more
+    go : (s : Bytes) → Whole signs s → eqb (length s) 1 && eqb (getD s 0 0) 32 ≡ false → def.normalized opts text s ≡ s
+    go [] v more = absurd (omega (arith, v .long))
+    go (b ∷ s) v more = on (white b) refl s v more
       where
-        on : (t : Bool) → white b ≡ t → (s : Bytes) (n : ℕ) → length (b ∷ s) ≡ n + 1 → Flows true (b ∷ s) n → kept true (getD (b ∷ s) n 0) || eqb (getD (b ∷ s) n 0) 32 ≡ true → eqb n 0 && eqb b 32 ≡ false
-            → def.normalized opts text (b ∷ s) ≡ b ∷ s
-        on false w s n long f last more = inner-black opts text h l b s w ∙ whole (b ∷ s) n long f last
-        on true w [] n long f last more = absurd (alone (kept true b) refl (subst (λ (k : ℕ). kept true (getD (b ∷ []) k 0) || eqb (getD (b ∷ []) k 0) 32 ≡ true) z last))
+        on : (t : Bool) → white b ≡ t → (s : Bytes) → Whole signs (b ∷ s) → eqb (length (b ∷ s)) 1 && eqb b 32 ≡ false → def.normalized opts text (b ∷ s) ≡ b ∷ s
+        on false w s v more = inner-black opts text h l b s w ∙ whole (b ∷ s) v
+        on true w [] v more = absurd (alone (kept signs b) refl (subst (λ (k : ℕ). kept signs (getD (b ∷ []) k 0) || eqb (getD (b ∷ []) k 0) 32 ≡ true) z (v .ends)))
           where
-            z : n ≡ 0
-            z = omega arith
+            z : v .last ≡ 0
+            z = omega (arith, v .long)
 
-            alone : (o : Bool) → kept true b ≡ o → o || eqb b 32 ≡ true → ⊥
-            alone true k e = false≢true (sym (kept-black true b k) ∙ w)
-            alone false k e = false≢true (sym more ∙ ap (λ (t : Bool). t && eqb b 32) (eq-eqb n 0 z) ∙ e)
-        on true w (c ∷ s) n long f last more =
-            let q = plain-blank b c w (f .each 0 (omega arith) .adds-itself) in behind b c s n (q .0) (q .1) long f last
+            alone : (o : Bool) → kept signs b ≡ o → o || eqb b 32 ≡ true → ⊥
+            alone true k e = false≢true (sym (kept-black signs b k) ∙ w)
+            alone false k e = false≢true (sym more ∙ e)
+        on true w (c ∷ s) v more =
+            let q = plain-blank signs b c w (v .flows .each 0 (omega (arith, v .long)) .adds-itself) in behind b c s (q .0) (q .1) v

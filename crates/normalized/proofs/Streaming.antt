@@ -1,25 +1,25 @@
 -- How a flow is appended: its bytes one by one, and plain bytes at once. Assumes nothing.
 use Prim.Native.Nat.{ℕ, _+_, _-_, _≤_, _<_}
-use mathlib.Core.Path.{_≡_, refl, sym, ap, _∙_}
+use mathlib.Core.Path.{_≡_, refl, sym, ap, ap₂, _∙_}
 use mathlib.Core.Bool.{Bool, true, false, cond, not, _&&_, and-true}
-use mathlib.Core.List.{List, [], _∷_, _++_}
+use mathlib.Core.List.{List, [], _∷_, _++_, append-nil}
 use native.Mathlib.Omega.{arith}
-use lib.ListN.{length, take, drop, getD, take-append-drop}
-use lib.Seq.{slice, slice-cons, length-slice, drop-drop}
+use lib.ListN.{length, take, drop, getD, length-drop, take-append-drop}
+use lib.Seq.{slice, slice-cons, slice-empty, drop-drop}
 use Rattle.spec.specs.Bytes.{ascii, isin, white, words, startsWith}
-use Rattle.spec.specs.Out.{Out, Step, andThen, push}
-use Rattle.spec.specs.Md.TextUtils.{isEscaped, moreWords}
+use Rattle.spec.specs.Out.{Out, andThen, push}
+use Rattle.spec.specs.Md.TextUtils.{isEscaped}
 use Rattle.text.specs.Class.{ordinary}
 use Rattle.text.specs.Flow.{startsBlack, added, flow, flowBefore, Flows}
-use Rattle.text.specs.Source.{store, Apart, WritesIn}
-use Rattle.normalized.specs.Words.{WordAt}
+use Rattle.text.proofs.Writing.{push-both}
+use Rattle.text.specs.Source.{Apart, WritesIn}
 use Rattle.text.specs.declared.buffer.Wrote.{Wrote}
 use Rattle.text.specs.declared.buffer.Wrote.the-variants.{Done, Full}
-use Rattle.text.proofs.Writing.{push-both}
-use Rattle.text.proofs.Sourcing.{Still, OwesIn, owed-all, owed-step, owed-stop, owed-nothing, slice-kept, getD-kept, store-long, part-none, slice-on}
-use Rattle.normalized.proofs.Wording.{slice-front, more-none}
+use Rattle.text.proofs.Reading.{drop-take}
+use Rattle.text.proofs.Sourcing.{Still, OwesIn, owed-as, owed-step, owed-stop, slice-kept, getD-kept, part-none, slice-on}
+use Rattle.normalized.proofs.Wording.{slice-front}
 use Rattle.text.proofs.Ordinary.{escaped-inside, bang-inside}
-use Rattle.normalized.proofs.Flowing.{flows-flow, flow-split, words-flow}
+use Rattle.normalized.proofs.Flowing.{flows-flow, flow-split}
 
 -- ---- where a word begins
 
@@ -70,105 +70,87 @@ pub flow-ended : (s : List ℕ) (i to : ℕ) (escape : Bool) (t : List ℕ) → 
 unfolding flow
 flow-ended s i to escape t h = ap (λ (x : List ℕ). push (flow escape x) t) (part-none i to s h)
 
--- ---- a part of what is read: what is left behind a step
+-- ---- a flow in two parts
 
-module _ {own : Bool} {text src : List ℕ} {room from to : ℕ} (p : Apart own text src room from to) where
-  pub plain-reach : {now : List ℕ} → Still room text now → (i k : ℕ) → i ≤ to → Flows true (slice i to (store own now src)) k → i + k ≤ to
-  plain-reach {now} q i k l f = omega (arith, l, f .within, length-slice i to (store own now src) (omega (arith, p .within, store-long p q)))
+pub flow-from : (s : List ℕ) (escape : Bool) (i stop : ℕ) → i ≤ stop → stop ≤ length s
+    → flow escape (slice i (length s) s) ≡ flowBefore escape (slice i stop s) (slice stop (length s) s) ++ flow escape (slice stop (length s) s)
+flow-from s escape i stop h l =
+    ap (flow escape) (sym (slice-join s i stop (length s) h l)) ∙ flow-split escape (slice i stop s) (slice stop (length s) s)
 
-  -- one byte
-  module _ {now : List ℕ} {n : ℕ} {whole : Out} (escape : Bool) (i stop : ℕ) (o : OwesIn room text now n (push (flowBefore escape (slice i stop (store own text src)) (slice stop to (store own text src)))) whole) (h : from ≤ i) (l : i < stop) (m : stop ≤ to) where
-    abbrev byte-step : Step
-    byte-step = push (added escape (getD (store own now src) i 0) (slice (i + 1) to (store own now src)))
+-- all of it byte by byte
+pub flow-bytes : (s : List ℕ) (escape : Bool) (i : ℕ) → i ≤ length s → flow escape (slice i (length s) s) ≡ flowBefore escape (slice i (length s) s) (slice (length s) (length s) s)
+unfolding flow
+flow-bytes s escape i h =
+    flow-from s escape i (length s) h (omega arith)
+    ∙ ap (λ (x : List ℕ). flowBefore escape (slice i (length s) s) (slice (length s) (length s) s) ++ flow escape x) (slice-empty (length s) s)
+    ∙ append-nil (flowBefore escape (slice i (length s) s) (slice (length s) (length s) s))
 
-    abbrev byte-left : Step
-    byte-left = push (flowBefore escape (slice (i + 1) stop (store own text src)) (slice stop to (store own text src)))
+-- ---- the steps, one by one
 
-    byte-turn : (t : List ℕ) → push (flowBefore escape (slice i stop (store own text src)) (slice stop to (store own text src))) t ≡ andThen (byte-step t) byte-left
-    unfolding flowBefore
-    byte-turn t =
-        let s = store own text src in
-        let g = flowBefore escape (slice (i + 1) stop s) (slice stop to s) in
-        ap (λ (x : List ℕ). push (flowBefore escape x (slice stop to s)) t) (slice-on s i stop l (omega (arith, p .within)))
-        ∙ ap (λ (x : List ℕ). push (added escape (getD s i 0) x ++ g) t) (slice-join s (i + 1) stop to (omega arith) m ∙ sym (slice-kept p (o .still) (i + 1) to (omega (arith, h))))
-        ∙ ap (λ (x : ℕ). push (added escape x (slice (i + 1) to (store own now src)) ++ g) t) (sym (getD-kept p (o .still) i h))
-        ∙ push-both (added escape (getD (store own now src) i 0) (slice (i + 1) to (store own now src))) g t
+module _ (s : List ℕ) (escape : Bool) (t : List ℕ) where
+  pub byte-turn : (i stop : ℕ) → i < stop → stop ≤ length s → push (flowBefore escape (slice i stop s) (slice stop (length s) s)) t
+      ≡ andThen (push (added escape (getD s i 0) (slice (i + 1) (length s) s)) t) (push (flowBefore escape (slice (i + 1) stop s) (slice stop (length s) s)))
+  unfolding flowBefore
+  byte-turn i stop h l =
+      let rest = slice stop (length s) s in
+      let g = flowBefore escape (slice (i + 1) stop s) rest in
+      ap (λ (x : List ℕ). push (flowBefore escape x rest) t) (slice-on s i stop h l)
+      ∙ ap (λ (x : List ℕ). push (added escape (getD s i 0) x ++ g) t) (slice-join s (i + 1) stop (length s) (omega arith) l)
+      ∙ push-both (added escape (getD s i 0) (slice (i + 1) (length s) s)) g t
 
-    module _ {after : List ℕ} {r : Wrote} (w : WritesIn room now after r (byte-step (take n now))) where
-      pub byte-go : {j : ℕ} → r ≡ Done j → OwesIn room text after j byte-left whole
-      byte-go e = owed-step o byte-step byte-left (byte-turn (take n now)) e w
+  -- k plain bytes at once
+  pub plain-turn : (i k : ℕ) → i + k ≤ length s → Flows escape (slice i (length s) s) k
+      → push (flow escape (slice i (length s) s)) t ≡ andThen (push (slice i (i + k) s) t) (push (flow escape (slice (i + k) (length s) s)))
+  plain-turn i k h f =
+      ap (λ (x : List ℕ). push x t)
+      (flows-flow escape (λ e. e) f ∙ ap (λ (x : List ℕ). x ++ flow escape (drop k (slice i (length s) s))) (slice-front s i (length s) k h)
+      ∙ ap (λ (x : List ℕ). slice i (i + k) s ++ flow escape x) (drop-drop k i (take (length s) s)))
+      ∙ push-both (slice i (i + k) s) (flow escape (slice (i + k) (length s) s)) t
 
-      pub byte-stop : r ≡ Full → WritesIn room text after Full whole
-      byte-stop e = owed-stop o byte-step byte-left (byte-turn (take n now)) e w
+  -- the bytes up to `stop`
+  pub stretch-turn : (i stop : ℕ) → i ≤ stop → stop ≤ length s → push (flow escape (slice i (length s) s)) t
+      ≡ andThen (push (flowBefore escape (slice i stop s) (slice stop (length s) s)) t) (push (flow escape (slice stop (length s) s)))
+  stretch-turn i stop h l =
+      ap (λ (x : List ℕ). push x t) (flow-from s escape i stop h l)
+      ∙ push-both (flowBefore escape (slice i stop s) (slice stop (length s) s)) (flow escape (slice stop (length s) s)) t
 
-  module _ {now : List ℕ} {n : ℕ} {whole : Out} (escape : Bool) (i : ℕ) (o : OwesIn room text now n (push (flow escape (slice i to (store own text src)))) whole) (h : from ≤ i) where
-    abbrev flow-left : ℕ → Step
-    flow-left j = push (flow escape (slice j to (store own text src)))
+-- ---- a text in the own memory, from `base` on, of which nothing changes
 
-    -- k plain bytes at once
-    module _ (k : ℕ) (l : i ≤ to) (f : Flows true (slice i to (store own now src)) k) {after : List ℕ} {r : Wrote} (w : WritesIn room now after r (push (slice i (i + k) (store own now src)) (take n now))) where
-      plain-turn : (t : List ℕ) → flow-left i t ≡ andThen (push (slice i (i + k) (store own now src)) t) (flow-left (i + k))
-      plain-turn t =
-          let s = store own now src in
-          let q = o .still in
-          ap (λ (x : List ℕ). push (flow escape x) t) (sym (slice-kept p q i to h))
-          ∙ ap (λ (x : List ℕ). push x t)
-          (flows-flow escape (λ e. refl) f ∙ ap (λ (x : List ℕ). x ++ flow escape (drop k (slice i to s))) (slice-front s i to k (plain-reach q i k l f))
-          ∙ ap (λ (x : List ℕ). slice i (i + k) s ++ flow escape x) (drop-drop k i (take to s) ∙ slice-kept p q (i + k) to (omega (arith, h))))
-          ∙ push-both (slice i (i + k) s) (flow escape (slice (i + k) to (store own text src))) t
+module _ {base : ℕ} {text now : List ℕ} (escape : Bool) (h : base ≤ length text) (q : Still base text now) where
+  pub own-byte : (i : ℕ) → base ≤ i → added escape (getD text i 0) (slice (i + 1) (length text) text) ≡ added escape (getD now i 0) (slice (i + 1) (length now) now)
+  own-byte i k =
+      let p : Apart true text [] base base (length text) = record { inside = h; ordered = h; within = omega arith; behind = λ e. omega arith } in
+      sym (ap (λ (j : ℕ). added escape (getD now i 0) (slice (i + 1) j now)) (q .long)
+      ∙ ap (added escape (getD now i 0)) (slice-kept p q (i + 1) (length text) (omega arith))
+      ∙ ap (λ (b : ℕ). added escape b (slice (i + 1) (length text) text)) (getD-kept p q i k))
 
-      pub plain-go : {j : ℕ} → r ≡ Done j → OwesIn room text after j (flow-left (i + k)) whole
-      plain-go e = owed-step o (push (slice i (i + k) (store own now src))) (flow-left (i + k)) (plain-turn (take n now)) e w
+  here : (i j : ℕ) → slice i j (drop base text) ≡ slice (base + i) (base + j) now
+  here i j =
+      let z : base + j - base ≡ j = omega arith in
+      ap (λ (x : List ℕ). slice i j x) (sym (q .behind))
+      ∙ ap (drop i) (ap (λ (k : ℕ). take k (drop base now)) (sym z) ∙ sym (drop-take base (base + j) now))
+      ∙ drop-drop i base (take (base + j) now)
 
-      pub plain-stop : r ≡ Full → WritesIn room text after Full whole
-      plain-stop e = owed-stop o (push (slice i (i + k) (store own now src))) (flow-left (i + k)) (plain-turn (take n now)) e w
+  rest-here : (i : ℕ) → slice i (length (drop base text)) (drop base text) ≡ slice (base + i) (length now) now
+  rest-here i =
+      let z : base + length (drop base text) ≡ length now = omega (arith, length-drop base text, q .long) in
+      here i (length (drop base text)) ∙ ap (λ (k : ℕ). slice (base + i) k now) z
 
-    -- the bytes up to `stop`
-    module _ (stop : ℕ) (l : i ≤ stop) (m : stop ≤ to) where
-      abbrev stretch-step : Step
-      stretch-step = push (flowBefore escape (slice i stop (store own now src)) (slice stop to (store own now src)))
+  pub own-bytes : (i j : ℕ) → flowBefore escape (slice i j (drop base text)) (slice j (length (drop base text)) (drop base text)) ≡ flowBefore escape (slice (base + i) (base + j) now) (slice (base + j) (length now) now)
+  own-bytes i j = ap₂ (λ (x y : List ℕ). flowBefore escape x y) (here i j) (rest-here j)
 
-      stretch-turn : (t : List ℕ) → flow-left i t ≡ andThen (stretch-step t) (flow-left stop)
-      stretch-turn t =
-          let s = store own now src in
-          let q = o .still in
-          ap (λ (x : List ℕ). push (flow escape x) t) (sym (slice-kept p q i to h) ∙ sym (slice-join s i stop to l m))
-          ∙ ap (λ (x : List ℕ). push x t)
-          (flow-split escape (slice i stop s) (slice stop to s) ∙ ap (λ (x : List ℕ). flowBefore escape (slice i stop s) (slice stop to s) ++ flow escape x) (slice-kept p q stop to (omega (arith, h))))
-          ∙ push-both (flowBefore escape (slice i stop s) (slice stop to s)) (flow escape (slice stop to (store own text src))) t
+  pub own-flow : (i : ℕ) → base + i ≤ length text → flow escape (slice i (length (drop base text)) (drop base text)) ≡ flowBefore escape (slice (base + i) (length text) now) (slice (length text) (length now) now)
+  own-flow i k =
+      ap (flow escape) (rest-here i) ∙ flow-bytes now escape (base + i) (omega (arith, q .long))
+      ∙ ap (λ (j : ℕ). flowBefore escape (slice (base + i) j now) (slice j (length now) now)) (q .long)
 
-      module _ {after : List ℕ} {r : Wrote} (w : WritesIn room now after r (stretch-step (take n now))) where
-        pub stretch-go : {j : ℕ} → r ≡ Done j → OwesIn room text after j (flow-left stop) whole
-        stretch-go e = owed-step o stretch-step (flow-left stop) (stretch-turn (take n now)) e w
+-- y is appended in other words, and z is left
+module _ {room n : ℕ} {d mid after : List ℕ} {whole : Out} {r : Wrote} {x y : List ℕ} (z : List ℕ) (e : x ≡ y) (o : OwesIn room d mid n (push (x ++ z)) whole) (w : WritesIn room mid after r (push y (take n mid))) where
+  as-said : OwesIn room d mid n (push (y ++ z)) whole
+  as-said = owed-as (ap (λ (v : List ℕ). v ++ z) e) o
 
-        pub stretch-stop : r ≡ Full → WritesIn room text after Full whole
-        stretch-stop e = owed-stop o stretch-step (flow-left stop) (stretch-turn (take n now)) e w
+  pub next-go : {m : ℕ} → r ≡ Done m → OwesIn room d after m (push z) whole
+  next-go q = owed-step as-said (push y) (push z) (push-both y z (take n mid)) q w
 
-  module _ (escape : Bool) {len : ℕ} (h : len ≤ room) (i : ℕ) (a : WordAt (store own text src) from to i) where
-    abbrev words-step : Step
-    words-step = push (moreWords escape (words (slice from to (store own text src))))
-
-    from-word : (t : List ℕ) → words-step t ≡ push (moreWords escape (words (slice i to (store own text src)))) t
-    from-word t = ap (λ (x : List (List ℕ)). push (moreWords escape x) t) (a .same-words)
-
-    pub words-none : i ≡ to → WritesIn room text text (Done len) (words-step (take len text))
-    words-none e =
-        owed-nothing (owed-all room text len words-step h (p .inside) refl) (from-word (take len text) ∙ more-none (store own text src) i to escape (take len text) (omega arith))
-
-    -- the blank before the first word
-    module _ (k : i ≡ to → ⊥) {after : List ℕ} {r : Wrote} (w : WritesIn room text after r (push (ascii " ") (take len text))) where
-      abbrev words-left : Step
-      words-left = push (flow escape (slice i to (store own text src)))
-
-      words-turn : (t : List ℕ) → words-step t ≡ andThen (push (ascii " ") t) words-left
-      words-turn t =
-          let s = store own text src in
-          let z : i < to = omega (arith, a .within, k) in
-          let b : startsBlack (slice i to s) ≡ true = sym (begins-some i to s z (p .within)) ∙ ap not (a .black z) in
-          from-word t ∙ ap (λ (x : List ℕ). push x t) (words-flow (slice i to s) b escape) ∙ push-both (ascii " ") (flow escape (slice i to s)) t
-
-      pub words-go : {j : ℕ} → r ≡ Done j → OwesIn room text after j words-left (words-step (take len text))
-      words-go e = owed-step (owed-all room text len words-step h (p .inside) refl) (push (ascii " ")) words-left (words-turn (take len text)) e w
-
-      pub words-stop : r ≡ Full → WritesIn room text after Full (words-step (take len text))
-      words-stop e = owed-stop (owed-all room text len words-step h (p .inside) refl) (push (ascii " ")) words-left (words-turn (take len text)) e w
+  pub next-stop : r ≡ Full → WritesIn room d after Full whole
+  next-stop q = owed-stop as-said (push y) (push z) (push-both y z (take n mid)) q w

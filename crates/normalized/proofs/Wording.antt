@@ -2,7 +2,7 @@
 use Prim.Native.Nat.{ℕ, zero, suc, _+_, _-_, _≤_, _<_}
 use mathlib.Core.Path.{_≡_, refl, sym, ap, _∙_}
 use mathlib.Core.Bool.{Bool, true, false, cond, not, _&&_}
-use mathlib.Core.List.{List, [], _∷_, _++_}
+use mathlib.Core.List.{List, [], _∷_}
 use native.Mathlib.Omega.{arith}
 use lib.ListN.{length, take, drop, getD, length-drop}
 use lib.Seq.{slice, length-slice, drop-drop, length-take-le, take-take, take-nil, drop-nil}
@@ -10,12 +10,9 @@ use lib.Dec.{eqb}
 use borrow.Author.Tests.{eq-eqb, ne-eqb, eqb-true, eqb-false}
 use Rattle.spec.specs.Bytes.{white, null, every, isBlank, words, split, parts, cutAt, filled, «trim_start_matches»}
 use Rattle.spec.specs.Bytes.{firstWord}
-use Rattle.spec.specs.Out.{push}
-use Rattle.spec.specs.Md.TextUtils.{startsWithWhite, moreWords, escapedChunk}
-use Rattle.text.specs.Marks.{leadOf, firstAndMore}
-use Rattle.text.specs.Source.{store, Apart}
+use Rattle.spec.specs.Md.TextUtils.{startsWithWhite}
 use Rattle.input.proofs.Rules.{null-length}
-use Rattle.text.proofs.Sourcing.{Still, slice-kept, part-byte, part-none}
+use Rattle.text.proofs.Sourcing.{part-byte}
 use Rattle.text.specs.Trimmed.{Skipped}
 use Rattle.normalized.specs.Words.{WordAt, WordEnd}
 use Rattle.text.proofs.Reading.{drop-take, null-some}
@@ -158,18 +155,6 @@ word-end s i to k h l b p =
       first = words-first (slice i to s) k pos p ∙ ap (λ (x : List ℕ). x ∷ words (drop k (slice i to s))) (slice-front s i to k w)
           ∙ ap (λ (x : List ℕ). slice i (i + k) s ∷ words x) (drop-drop k i (take to s));
     }
-
--- ---- the words of a text that is read
-
-module _ {own : Bool} {text src : List ℕ} {room from to : ℕ} (p : Apart own text src room from to) {now : List ℕ} (q : Still room text now) where
-  pub first-kept : (i e : ℕ) (escape start : Bool) (last : ℕ) → from ≤ i → i ≤ e → firstAndMore (store own text src) i e to escape start last ≡ firstAndMore (store own now src) i e to escape start last
-  first-kept i e escape start last h k =
-      ap (λ (z : List ℕ). escapedChunk z escape start ++ (moreWords escape (words (slice e to (store own text src))) ++ leadOf last)) (sym (slice-kept p q i e h))
-      ∙ ap (λ (z : List ℕ). escapedChunk (slice i e (store own now src)) escape start ++ (moreWords escape (words z) ++ leadOf last)) (sym (slice-kept p q e to (omega arith)))
-
-pub more-none : (s : List ℕ) (i to : ℕ) (escape : Bool) (t : List ℕ) → to ≤ i → push (moreWords escape (words (slice i to s))) t ≡ push [] t
-unfolding moreWords words split parts filled null
-more-none s i to escape t h = ap (λ (x : List ℕ). push (moreWords escape (words x)) t) (part-none i to s h)
 
 -- ---- the first word of a text
 

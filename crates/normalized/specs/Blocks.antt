@@ -8,7 +8,7 @@ use lib.Dec.{eqb}
 use Rattle.spec.specs.Bytes.{Bytes, ascii, startsWith}
 use Rattle.spec.specs.Md.TextUtils.{isEscaped}
 use Rattle.text.specs.Flow.{Plain}
-use Rattle.normalized.specs.declared.normalize.Block.{Block}
+use Rattle.normalized.specs.declared.fast_copy.Block.{Block}
 
 -- the n bytes of s at `at`, each behind a backslash where its sign is 1
 unfoldable pub signed : Bytes → Bytes → ℕ → ℕ → Bytes

@@ -11,12 +11,7 @@ ghost use Rattle.spec.specs.Md.TextUtils as def;
 ghost use Rattle.spec.specs.declared.ctx.FormatOpts as Opts;
 ghost use Rattle.text.specs.Trimmed.{Trimmed};
 ghost use Rattle.text.specs.Writes.{Writes, Written};
-use crate::normalize::is_inner_part;
-use crate::normalize::is_kept_part;
-use crate::normalize::push_normalized;
-use crate::normalize::push_part;
 use input::fields::is_same;
-use spec::ctx::FormatOpts;
 use text::buffer::Class;
 use text::buffer::Wrote;
 use text::buffer::all_in;
@@ -27,7 +22,6 @@ use text::buffer::ends_with_either;
 use text::buffer::ends_with_white;
 use text::buffer::push_all;
 use text::buffer::push_byte;
-use text::buffer::reread;
 use text::buffer::trim_end_matches;
 use text::buffer::trim_start_matches;
 
@@ -81,62 +75,6 @@ fn at_indent(text: &[u8]) -> bool
         return true;
     }
     ends_with_byte(&text[..n], 10)
-}
-
-// Appends a text of another slice, its words parted by blanks. For one of the own memory, see `normalize::push_normalized`.
-pub fn push_normalized_text(
-    text: &mut [u8],
-    len: usize,
-    new_text: &[u8],
-    f_opts: FormatOpts,
-) -> Wrote
-    requires { ⌜ len ≤ length (now text) ⌝ }
-    ensures { λ r. ⌜ Writes (length (now (text .entry))) (now (text .exit)) r (def.«push_normalized_text» (now («new_text» .entry)) «f_opts» (take len (now (text .entry)))) ⌝ }
-{
-    let n = new_text.len();
-    let inline = f_opts.inline;
-    let skip_escape = f_opts.skip_escape;
-    let list_item = f_opts.list_item;
-    push_text_part(
-        text,
-        len,
-        &new_text[..n],
-        0,
-        n,
-        inline,
-        skip_escape,
-        list_item,
-    )
-}
-
-// The same for a part of a slice, with the options that matter one by one: a record would be copied through memory.
-pub fn push_text_part(
-    text: &mut [u8],
-    len: usize,
-    src: &[u8],
-    from: usize,
-    to: usize,
-    inline: bool,
-    skip_escape: bool,
-    list_item: bool,
-) -> Wrote
-    requires { ⌜ (len ≤ length (now text)) × (from ≤ to) × (to ≤ length (now src)) ⌝ }
-    ensures { λ r. ⌜ ((opts : Opts.FormatOpts) → opts .inline ≡ inline → opts .«skip_escape» ≡ «skip_escape» → opts .«list_item» ≡ «list_item» → Writes (length (now (text .entry))) (now (text .exit)) r (def.«push_normalized_text» (slice from to (now (src .entry))) opts (take len (now (text .entry))))) ⌝ }
-{
-    if is_kept_part(src, from, to, skip_escape) {
-        return push_part(text, len, src, from, to);
-    }
-    if !list_item & is_inner_part(&text[..len], src, from, to) {
-        return push_part(text, len, src, from, to);
-    }
-    let room = text.len();
-    let n = src.len();
-    let mut opts = FormatOpts::new();
-    opts.inline = inline;
-    opts.skip_escape = skip_escape;
-    opts.list_item = list_item;
-    // a new slice: the address of `src` itself would keep it in memory
-    reread(push_normalized(&src[..n], text, false, from, to, room, len, opts))
 }
 
 // Whether the text ends with one to nine digits that begin a line or an item.

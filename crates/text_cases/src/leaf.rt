@@ -27,7 +27,7 @@ fn text_utils(name: &[u8], text: &mut [u8], len: usize, case: Case, a: &[u8], b:
     requires { ⌜ len ≤ length (now text) ⌝ }
 {
     if is_same(name, b"push_normalized_text") {
-        return normalized::text_utils::push_normalized_text(text, len, a, options(case));
+        return normalized::normalize::push_normalized_text(text, len, a, options(case));
     }
     if is_same(name, b"ends_with_marker_digits") {
         return truth(normalized::text_utils::ends_with_marker_digits(a));
