@@ -1,4 +1,4 @@
-"""Makes what the program crates/quay_cases must write: the cases of document 01 that are run and not proved.
+"""Makes what the program crates/quay_cases must write: the cases of document 01 that are run and not proved, and inputs of the program `sheet`.
 
     python3 tools/quay_cases.py --oracle ../shared/oracle --model ../shared/model
 
@@ -13,11 +13,15 @@ from sheets import Gen, field
 
 OUT = os.path.join(os.path.dirname(os.path.abspath(__file__)), "..", "crates", "quay_cases", "stdout")
 LARGE = 4194304
+SPACE = 65536           # the longest input of `sheet`, its node memory, its text memory
 END = field(6, b"")
 
 el = Gen(0).el
 X = el("p", "x")
 TABLE = el("table", el("tr", el("td", "010"), el("td", "a|b")))
+ASTERISKS = b"*" * 125
+LONGEST = field(5, ASTERISKS) * 511 + field(4, ASTERISKS)
+assert len(LONGEST) == SPACE
 
 
 def deep(n):
@@ -40,7 +44,10 @@ CASES = [  # title, sheet, start, with the node, node memory, text memory, answe
     ("101 open", deep(101), 0, False, LARGE, 4096, 5),
     ("table, 47 bytes", TABLE, 0, False, 1000, 47, "|   |   |/| - | - |/| 010 | a\\|b |"),
     ("table, 46 bytes", TABLE, 0, False, 1000, 46, 10),
+    ("sheet, 40,000 asterisks", field(4, ASTERISKS) * 320, 0, False, SPACE, SPACE, 10),
+    ("sheet, 65,536 bytes", LONGEST, 0, False, SPACE, SPACE, "\\*" * 125),
 ]
+LONGER = "sheet, more bytes: 1\n"  # "a longer input prints `no 1`", whatever the sheet
 
 
 def answer(reference, sheet, start, include, memory, room):
@@ -60,6 +67,7 @@ def main():
         a = answer(reference, sheet, start, include, memory, room)
         assert expected in (None, a), (title, a, expected)
         lines.append("%s: %s\n" % (title, a if isinstance(a, int) else "0 %d %s" % (len(a.encode()), a)))
+    lines.append(LONGER)
     with open(OUT, "w") as f:
         f.write("".join(lines))
     print("".join(lines), end="")

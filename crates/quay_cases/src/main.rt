@@ -1,5 +1,6 @@
-// The cases of document 01 that are run and not proved: a line for each with what is called, then the number of the question that
-// says no, or 0, the length of the text and the text, with `/` for LF. tools/quay_cases.py has what they must be.
+// The cases of document 01 that are run and not proved, and inputs of the program `sheet`: a line for each with what is called, then
+// the number of the question that says no, or 0, the length of the text and the text, with `/` for LF. tools/quay_cases.py has what
+// they must be.
 mod build;
 
 use build::field;
@@ -9,6 +10,7 @@ use build::two_cells;
 use libc::STDOUT_FILENO;
 use md::call::Answer;
 use md::call::serialize_md;
+use sheet_main::answer_to;
 
 // The first n bytes, or all where there are fewer.
 fn front(s: &[u8], n: usize) -> &[u8] {
@@ -159,11 +161,51 @@ fn limits(sheet: &mut [u8], nodes: &mut [u8], text: &mut [u8]) {
     deep(b"101 open", 101, sheet, nodes, text);
 }
 
+// What the program `sheet` answers to an input, which may be longer than the sheet that it reads.
+fn show_input(title: &[u8], sheet: &[u8], longer: bool, nodes: &mut [u8], text: &mut [u8]) {
+    io::write_all(STDOUT_FILENO, title);
+    io::write_all(STDOUT_FILENO, b": ");
+    let answer = answer_to(sheet, longer, nodes, text);
+    print_answer(answer, text);
+}
+
+// 40,000 asterisks in texts of 125: each is escaped, so that their text is longer than the text memory.
+fn too_much(asterisks: &[u8], sheet: &mut [u8], nodes: &mut [u8], text: &mut [u8]) {
+    let n = fields(sheet, 0, 4, asterisks, 320);
+    show_input(
+        b"sheet, 40,000 asterisks",
+        front(sheet, n),
+        false,
+        nodes,
+        text,
+    );
+}
+
+// 512 fields of 128 bytes: comments and a text.
+fn longest(asterisks: &[u8], sheet: &mut [u8], nodes: &mut [u8], text: &mut [u8]) {
+    let mut n = fields(sheet, 0, 5, asterisks, 511);
+    n = field(sheet, n, 4, asterisks);
+    show_input(b"sheet, 65,536 bytes", front(sheet, n), false, nodes, text);
+    show_input(b"sheet, more bytes", front(sheet, n), true, nodes, text);
+}
+
+// The memories of the program `sheet`, 65,536 bytes each.
+fn inputs(asterisks: &[u8]) {
+    let mut sheet = io::large_buffer();
+    let mut nodes = io::large_buffer();
+    let mut text = io::large_buffer();
+    too_much(asterisks, &mut sheet, &mut nodes, &mut text);
+    longest(asterisks, &mut sheet, &mut nodes, &mut text);
+}
+
 fn show_all(sheet: &mut [u8], nodes: &mut [u8], text: &mut [u8]) {
     links(sheet, nodes, text);
     paragraph(sheet, nodes, text);
     limits(sheet, nodes, text);
     table(sheet, nodes, text);
+    inputs(
+        b"*****************************************************************************************************************************",
+    );
 }
 
 // Room for 65,536 nodes: 3 bytes in the sheet for each empty text, and 64 of node memory.
