@@ -5,6 +5,7 @@ pub mod RowTests
 pub mod Putting
 pub mod Gathering
 pub mod Cutting
+pub mod Columns
 pub mod Lines
 pub mod Tables
 pub mod Scratch

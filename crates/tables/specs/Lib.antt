@@ -2,4 +2,5 @@
 pub mod Rows
 pub mod Puts
 pub mod Spans
+pub mod Columns
 pub mod TableSteps

@@ -1,9 +1,11 @@
 // The cells of a table's lines, put where room is known to be.
 ghost use mathlib.Core.Path.{_≡_};
+ghost use mathlib.Core.Bool.{false};
 ghost use mathlib.Core.List.{[], _∷_};
 ghost use Prim.Native.Nat.{_+_, _*_, _≤_, _<_, max};
 ghost use lib.ListN.{length, take, drop, replicate};
 ghost use Rattle.tables.specs.Puts.{Puts, bar, bars};
+ghost use Rattle.tables.specs.Columns.{column};
 
 // Puts the n bytes at `src`, which is not before `len`.
 fn put_from(text: &mut [u8], len: usize, src: usize, n: usize) -> usize
@@ -42,7 +44,7 @@ fn put_bar(text: &mut [u8], len: usize) -> usize
 }
 
 // Puts a cell with the n bytes at `src`.
-pub fn put_cell(text: &mut [u8], len: usize, src: usize, n: usize) -> usize
+fn put_cell(text: &mut [u8], len: usize, src: usize, n: usize) -> usize
     requires { ⌜ (len < src) × (len + n + 3 ≤ length (now text)) × (src + n ≤ length (now text)) ⌝ }
     ensures { λ r. ⌜ Puts (now (text .entry)) (now (text .exit)) len r (bar (take n (drop src (now (text .entry))))) ⌝ }
 {
@@ -61,7 +63,7 @@ pub fn at_least_one(n: usize) -> usize
 }
 
 // Puts hyphens under a heading of n bytes.
-pub fn put_hyphens(text: &mut [u8], len: usize, n: usize) -> usize
+fn put_hyphens(text: &mut [u8], len: usize, n: usize) -> usize
     requires { ⌜ len + max n 1 + 3 ≤ length (now text) ⌝ }
     ensures { λ r. ⌜ Puts (now (text .entry)) (now (text .exit)) len r (bar (replicate (max n 1) 45)) ⌝ }
 {
@@ -69,6 +71,17 @@ pub fn put_hyphens(text: &mut [u8], len: usize, n: usize) -> usize
     let k = at_least_one(n);
     let end = put_repeated(text, len + 1, 45, k);
     put_bar(text, end)
+}
+
+// Puts the cell of a column: hyphens under a heading of n bytes where `under`, else the n bytes at `src`.
+pub fn put_column(text: &mut [u8], len: usize, src: usize, n: usize, under: bool) -> usize
+    requires { ⌜ (under ≡ false → len < src) × (len + length (column under n (drop src (now text))) + 3 ≤ length (now text)) × (src + n ≤ length (now text)) ⌝ }
+    ensures { λ r. ⌜ Puts (now (text .entry)) (now (text .exit)) len r (bar (column under n (drop src (now (text .entry))))) ⌝ }
+{
+    if under {
+        return put_hyphens(text, len, n);
+    }
+    put_cell(text, len, src, n)
 }
 
 // Puts a cell of one byte.

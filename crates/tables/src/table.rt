@@ -1,5 +1,6 @@
 // elements/table.rs: a table from the texts of its cells.
 ghost use mathlib.Core.Path.{_≡_};
+ghost use mathlib.Core.Bool.{false};
 ghost use mathlib.Core.List.{List, [], _∷_, _++_};
 ghost use Prim.Native.Nat.{_+_, _-_, _*_, _≤_, _<_};
 ghost use lib.Dec.{leb};
@@ -12,12 +13,12 @@ ghost use Rattle.nodes.specs.Stands.{Siblings};
 ghost use Rattle.tables.specs.Puts.{Puts, bars, barLine, barLines};
 ghost use Rattle.tables.specs.Rows.{SomeRows, RowsAt};
 ghost use Rattle.tables.specs.Spans.{lengthsTo, tableLengths, lineLengths, sum, zeros, cuts, cutRows, unders, marks, width, tableBytes, Kids, NextCell};
+ghost use Rattle.tables.specs.Columns.{columns};
 ghost use Rattle.tables.specs.TableSteps.{rowsTexts, rowsLengths, tableStep, tableSized, TableAt};
 ghost use Rattle.text.specs.Writes.{Writes};
 use crate::bars::at_least_one;
 use crate::bars::put_byte_cells;
-use crate::bars::put_cell;
-use crate::bars::put_hyphens;
+use crate::bars::put_column;
 use crate::rows::all_th;
 use crate::rows::count_cells;
 use crate::rows::is_table_cell;
@@ -97,8 +98,8 @@ fn row_bytes(sheet: &[u8], nodes: &[u8], row: usize, to: usize) -> usize
     size.bytes
 }
 
-// Puts the cells of a row up to number `to`; their texts stand at `src`.
-fn put_cells(
+// Puts the cells of a row up to number `to`: hyphens where `under`, else their texts, which stand at `src`.
+fn put_columns(
     sheet: &[u8],
     nodes: &[u8],
     text: &mut [u8],
@@ -106,40 +107,18 @@ fn put_cells(
     row: usize,
     to: usize,
     src: usize,
+    under: bool,
 ) -> usize
-    requires { ⌜ Kids (now sheet) (now nodes) row to × (len + sum (lengthsTo (now sheet) (now nodes) row to) + 3 * length (lengthsTo (now sheet) (now nodes) row to) ≤ src) × (src + sum (lengthsTo (now sheet) (now nodes) row to) ≤ length (now text)) ⌝ }
-    ensures { λ r. ⌜ Puts (now (text .entry)) (now (text .exit)) len r (bars (cuts (lengthsTo (now (sheet .entry)) (now (nodes .entry)) row to) (drop src (now (text .entry))))) ⌝ }
+    requires { ⌜ Kids (now sheet) (now nodes) row to × (len + length (bars (columns under (lengthsTo (now sheet) (now nodes) row to) (drop src (now text)))) ≤ length (now text)) × (src + sum (lengthsTo (now sheet) (now nodes) row to) ≤ length (now text)) × (under ≡ false → len + length (bars (columns under (lengthsTo (now sheet) (now nodes) row to) (drop src (now text)))) ≤ src) ⌝ }
+    ensures { λ r. ⌜ Puts (now (text .entry)) (now (text .exit)) len r (bars (columns under (lengthsTo (now (sheet .entry)) (now (nodes .entry)) row to) (drop src (now (text .entry))))) ⌝ }
 {
     let mut end = len;
     let mut at = src;
     let mut c = next_cell(sheet, nodes, row + 1, to);
     while c < to {
         let n = read_long(nodes, c * 24 + 16);
-        end = put_cell(text, end, at, n);
+        end = put_column(text, end, at, n, under);
         at += n;
-        let after = node_end(nodes, c);
-        c = next_cell(sheet, nodes, after, to);
-    }
-    end
-}
-
-// Puts hyphens under the cells of a row up to number `to`.
-fn put_unders(
-    sheet: &[u8],
-    nodes: &[u8],
-    text: &mut [u8],
-    len: usize,
-    row: usize,
-    to: usize,
-) -> usize
-    requires { ⌜ Kids (now sheet) (now nodes) row to × (len + sum (lengthsTo (now sheet) (now nodes) row to) + zeros (lengthsTo (now sheet) (now nodes) row to) + 3 * length (lengthsTo (now sheet) (now nodes) row to) ≤ length (now text)) ⌝ }
-    ensures { λ r. ⌜ Puts (now (text .entry)) (now (text .exit)) len r (bars (unders (lengthsTo (now (sheet .entry)) (now (nodes .entry)) row to))) ⌝ }
-{
-    let mut end = len;
-    let mut c = next_cell(sheet, nodes, row + 1, to);
-    while c < to {
-        let n = read_long(nodes, c * 24 + 16);
-        end = put_hyphens(text, end, n);
         let after = node_end(nodes, c);
         c = next_cell(sheet, nodes, after, to);
     }
@@ -161,7 +140,7 @@ fn put_row(
     ensures { λ r. ⌜ Puts (now (text .entry)) (now (text .exit)) len r (barLine (cuts (lengthsTo (now (sheet .entry)) (now (nodes .entry)) row to) (drop src (now (text .entry))) ++ replicate blanks (32 ∷ []))) ⌝ }
 {
     text[len] = 124;
-    let a = put_cells(sheet, nodes, text, len + 1, row, to, src);
+    let a = put_columns(sheet, nodes, text, len + 1, row, to, src, false);
     let b = put_byte_cells(text, a, 32, blanks);
     text[b] = 10;
     b + 1
@@ -181,7 +160,7 @@ fn put_rule(
     ensures { λ r. ⌜ Puts (now (text .entry)) (now (text .exit)) len r (barLine (unders (lengthsTo (now (sheet .entry)) (now (nodes .entry)) row to) ++ replicate blanks (45 ∷ []))) ⌝ }
 {
     text[len] = 124;
-    let a = put_unders(sheet, nodes, text, len + 1, row, to);
+    let a = put_columns(sheet, nodes, text, len + 1, row, to, 0, true);
     let b = put_byte_cells(text, a, 45, blanks);
     text[b] = 10;
     b + 1

@@ -16,14 +16,21 @@ slice-write-text : tie.Need-slice-write-text
 slice-write-text c =
     omega (arith, c .before .before .before .pre .1, c .before .before .before .pre .2)
 
-add-put-cells : tie.Need-add-put-cells
-add-put-cells c =
+add-put-columns : tie.Need-add-put-columns
+add-put-columns c =
     omega (arith, c .before .before .before .before .pre .1)
 
-put-cells-requires : tie.Need-put-cells-requires
-put-cells-requires c κs =
+put-columns-requires : tie.Need-put-columns-requires
+put-columns-requires c κs =
     let a = c .before .before .before .before .args in
-    ((c .before .before .before .before .pre .0 .0, c .before .before .before .before .pre .0 .1), omega (arith, c .before .before .before .before .pre .1), omega (arith, c .before .before .before .before .pre .2, length-set (a .text .now) (a .len) 124))
+    let pre = c .before .before .before .before .pre in
+    let t = set (a .text .now) (a .len) 124 in
+    let n = cuts-length (cellLengths (a .sheet .now) (a .nodes .now) (a .row) (a .row + 1) (a .to)) (drop (a .src) t) (omega (arith, length-drop (a .src) t, length-set (a .text .now) (a .len) 124, pre .2)) in (
+      (pre .0 .0, pre .0 .1),
+      omega (arith, n, pre .1, pre .2, length-set (a .text .now) (a .len) 124),
+      omega (arith, pre .2, length-set (a .text .now) (a .len) 124),
+      λ q. omega (arith, n, pre .1),
+    )
 
 put-byte-cells-requires : tie.Need-put-byte-cells-requires
 put-byte-cells-requires c κs =
@@ -33,8 +40,8 @@ put-byte-cells-requires c κs =
       arith,
       c .before .before .before .before .before .before .before .before .pre .1,
       c .before .before .before .before .before .before .before .before .pre .2,
-      c .before .before .before .put-cells .ensures .count,
-      c .before .before .before .put-cells .ensures .long,
+      c .before .before .before .put-columns .ensures .count,
+      c .before .before .before .put-columns .ensures .long,
       length-set (a .text .now) (a .len) 124,
       cuts-length (cellLengths (a .sheet .now) (a .nodes .now) (a .row) (a .row + 1) (a .to)) (drop (a .src) t) (omega (arith, length-drop (a .src) t, length-set (a .text .now) (a .len) 124, c .before .before .before .before .before .before .before .before .pre .2)),
     )
@@ -47,8 +54,8 @@ slice-write-text-2 c =
       arith,
       c .before .before .before .before .before .before .before .before .before .before .before .pre .1,
       c .before .before .before .before .before .before .before .before .before .before .before .pre .2,
-      c .before .before .before .before .before .before .put-cells .ensures .count,
-      c .before .before .before .before .before .before .put-cells .ensures .long,
+      c .before .before .before .before .before .before .put-columns .ensures .count,
+      c .before .before .before .before .before .before .put-columns .ensures .long,
       c .before .before .put-byte-cells .ensures .count,
       c .before .before .put-byte-cells .ensures .long,
       length-set (a .text .now) (a .len) 124,
@@ -64,8 +71,8 @@ add-result c =
       arith,
       c .before .before .before .before .before .before .before .before .before .before .before .pre .1,
       c .before .before .before .before .before .before .before .before .before .before .before .pre .2,
-      c .before .before .before .before .before .before .put-cells .ensures .count,
-      c .before .before .before .before .before .before .put-cells .ensures .long,
+      c .before .before .before .before .before .before .put-columns .ensures .count,
+      c .before .before .before .before .before .before .put-columns .ensures .long,
       c .before .before .put-byte-cells .ensures .count,
       c .before .before .put-byte-cells .ensures .long,
       length-set (a .text .now) (a .len) 124,
@@ -75,7 +82,7 @@ add-result c =
 
 same-length : tie.Need-same-length
 same-length c =
-    simp length-set (c .before .before .put-byte-cells .ensures .long ∙ (c .before .before .before .before .before .before .put-cells .ensures .long ∙ simp length-set))
+    simp length-set (c .before .before .put-byte-cells .ensures .long ∙ (c .before .before .before .before .before .before .put-columns .ensures .long ∙ simp length-set))
 
 returns : tie.Need-returns
 returns c =
@@ -85,13 +92,13 @@ returns c =
     puts-as
     (line-parts (cuts lens (drop (a .src) t)) (replicate (a .blanks) (32 ∷ []))
     ∙ ap (λ (z : List ℕ). barLine (cuts lens z ++ replicate (a .blanks) (32 ∷ []))) (drop-set-lt (a .src) (a .text .now) (a .len) 124 (omega (arith, c .before .before .before .before .before .before .before .before .before .before .before .pre .1))))
-    (puts-then (puts-byte (a .text .now) (a .len) 124 (omega (arith, c .before .before .before .before .before .before .before .before .before .before .before .pre .1, c .before .before .before .before .before .before .before .before .before .before .before .pre .2))) (puts-then (c .before .before .before .before .before .before .put-cells .ensures) (puts-then (c .before .before .put-byte-cells .ensures) (puts-byte _ _ 10
+    (puts-then (puts-byte (a .text .now) (a .len) 124 (omega (arith, c .before .before .before .before .before .before .before .before .before .before .before .pre .1, c .before .before .before .before .before .before .before .before .before .before .before .pre .2))) (puts-then (c .before .before .before .before .before .before .put-columns .ensures) (puts-then (c .before .before .put-byte-cells .ensures) (puts-byte _ _ 10
     (omega (
       arith,
       c .before .before .before .before .before .before .before .before .before .before .before .pre .1,
       c .before .before .before .before .before .before .before .before .before .before .before .pre .2,
-      c .before .before .before .before .before .before .put-cells .ensures .count,
-      c .before .before .before .before .before .before .put-cells .ensures .long,
+      c .before .before .before .before .before .before .put-columns .ensures .count,
+      c .before .before .before .before .before .before .put-columns .ensures .long,
       c .before .before .put-byte-cells .ensures .count,
       c .before .before .put-byte-cells .ensures .long,
       length-set (a .text .now) (a .len) 124,
@@ -100,4 +107,4 @@ returns c =
     ))))))
 
 pub put-row-spec : {M : Type 1} → statement M
-put-row-spec = tie.close (tie.spec slice-write-text add-put-cells put-cells-requires put-byte-cells-requires slice-write-text-2 add-result same-length returns)
+put-row-spec = tie.close (tie.spec slice-write-text add-put-columns put-columns-requires put-byte-cells-requires slice-write-text-2 add-result same-length returns)

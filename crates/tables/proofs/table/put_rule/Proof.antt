@@ -1,6 +1,7 @@
 -- `tables::table::put_rule` meets its contract. Assumes nothing.
 use Prim.Native.Nat.{_+_}
 use mathlib.Core.List.{[], _∷_}
+use mathlib.Core.Bool.{true≢false}
 use mathlib.Core.Path.{_∙_}
 use lib.ListN.{replicate, length-set}
 use Rattle.tables.specs.Spans.{cellLengths, unders}
@@ -14,14 +15,19 @@ slice-write-text : tie.Need-slice-write-text
 slice-write-text c =
     omega (arith, c .before .before .before .pre .1)
 
-add-put-unders : tie.Need-add-put-unders
-add-put-unders c =
+add-put-columns : tie.Need-add-put-columns
+add-put-columns c =
     omega (arith, c .before .before .before .before .pre .1)
 
-put-unders-requires : tie.Need-put-unders-requires
-put-unders-requires c κs =
+put-columns-requires : tie.Need-put-columns-requires
+put-columns-requires c κs =
     let a = c .before .before .before .before .args in
-    ((c .before .before .before .before .pre .0 .0, c .before .before .before .before .pre .0 .1), omega (arith, c .before .before .before .before .pre .1, length-set (a .text .now) (a .len) 124))
+    let pre = c .before .before .before .before .pre in (
+      (pre .0 .0, pre .0 .1),
+      omega (arith, unders-length (cellLengths (a .sheet .now) (a .nodes .now) (a .row) (a .row + 1) (a .to)), pre .1, length-set (a .text .now) (a .len) 124),
+      omega (arith, pre .1, length-set (a .text .now) (a .len) 124),
+      λ q. absurd (true≢false q),
+    )
 
 put-byte-cells-requires : tie.Need-put-byte-cells-requires
 put-byte-cells-requires c κs =
@@ -29,8 +35,8 @@ put-byte-cells-requires c κs =
     omega (
       arith,
       c .before .before .before .before .before .before .before .before .pre .1,
-      c .before .before .before .put-unders .ensures .count,
-      c .before .before .before .put-unders .ensures .long,
+      c .before .before .before .put-columns .ensures .count,
+      c .before .before .before .put-columns .ensures .long,
       length-set (a .text .now) (a .len) 124,
       unders-length (cellLengths (a .sheet .now) (a .nodes .now) (a .row) (a .row + 1) (a .to)),
     )
@@ -41,8 +47,8 @@ slice-write-text-2 c =
     omega (
       arith,
       c .before .before .before .before .before .before .before .before .before .before .before .pre .1,
-      c .before .before .before .before .before .before .put-unders .ensures .count,
-      c .before .before .before .before .before .before .put-unders .ensures .long,
+      c .before .before .before .before .before .before .put-columns .ensures .count,
+      c .before .before .before .before .before .before .put-columns .ensures .long,
       c .before .before .put-byte-cells .ensures .count,
       c .before .before .put-byte-cells .ensures .long,
       length-set (a .text .now) (a .len) 124,
@@ -56,8 +62,8 @@ add-result c =
     omega (
       arith,
       c .before .before .before .before .before .before .before .before .before .before .before .pre .1,
-      c .before .before .before .before .before .before .put-unders .ensures .count,
-      c .before .before .before .before .before .before .put-unders .ensures .long,
+      c .before .before .before .before .before .before .put-columns .ensures .count,
+      c .before .before .before .before .before .before .put-columns .ensures .long,
       c .before .before .put-byte-cells .ensures .count,
       c .before .before .put-byte-cells .ensures .long,
       length-set (a .text .now) (a .len) 124,
@@ -67,19 +73,19 @@ add-result c =
 
 same-length : tie.Need-same-length
 same-length c =
-    simp length-set (c .before .before .put-byte-cells .ensures .long ∙ (c .before .before .before .before .before .before .put-unders .ensures .long ∙ simp length-set))
+    simp length-set (c .before .before .put-byte-cells .ensures .long ∙ (c .before .before .before .before .before .before .put-columns .ensures .long ∙ simp length-set))
 
 returns : tie.Need-returns
 returns c =
     let a = c .before .before .before .before .before .before .before .before .before .before .before .args in
     let lens = cellLengths (a .sheet .now) (a .nodes .now) (a .row) (a .row + 1) (a .to) in
     puts-as (line-parts (unders lens) (replicate (a .blanks) (45 ∷ [])))
-    (puts-then (puts-byte (a .text .now) (a .len) 124 (omega (arith, c .before .before .before .before .before .before .before .before .before .before .before .pre .1))) (puts-then (c .before .before .before .before .before .before .put-unders .ensures) (puts-then (c .before .before .put-byte-cells .ensures) (puts-byte _ _ 10
+    (puts-then (puts-byte (a .text .now) (a .len) 124 (omega (arith, c .before .before .before .before .before .before .before .before .before .before .before .pre .1))) (puts-then (c .before .before .before .before .before .before .put-columns .ensures) (puts-then (c .before .before .put-byte-cells .ensures) (puts-byte _ _ 10
     (omega (
       arith,
       c .before .before .before .before .before .before .before .before .before .before .before .pre .1,
-      c .before .before .before .before .before .before .put-unders .ensures .count,
-      c .before .before .before .before .before .before .put-unders .ensures .long,
+      c .before .before .before .before .before .before .put-columns .ensures .count,
+      c .before .before .before .before .before .before .put-columns .ensures .long,
       c .before .before .put-byte-cells .ensures .count,
       c .before .before .put-byte-cells .ensures .long,
       length-set (a .text .now) (a .len) 124,
@@ -88,4 +94,4 @@ returns c =
     ))))))
 
 pub put-rule-spec : {M : Type 1} → statement M
-put-rule-spec = tie.close (tie.spec slice-write-text add-put-unders put-unders-requires put-byte-cells-requires slice-write-text-2 add-result same-length returns)
+put-rule-spec = tie.close (tie.spec slice-write-text add-put-columns put-columns-requires put-byte-cells-requires slice-write-text-2 add-result same-length returns)

@@ -1,28 +1,29 @@
--- `tables::table::put_cells` meets its contract. Assumes nothing.
+-- `tables::table::put_columns` meets its contract. Assumes nothing.
 use Prim.Native.Nat.{ℕ, _+_, _-_, _≤_}
 use mathlib.Core.List.{List}
 use mathlib.Core.Path.{_≡_, refl, ap, subst}
-use lib.ListN.{take, drop, length-drop}
+use lib.ListN.{drop}
 use Rattle.tree.specs.Memory.{endAt}
 use Rattle.tree.specs.Represents.{restOf}
 use Rattle.tree.proofs.Firsts.{rep-le}
-use Rattle.tables.specs.Puts.{bar, bars}
-use Rattle.tables.specs.Spans.{cellLengths, sum, cuts, CellFrom}
-use Rattle.tables.proofs.Putting.{Due, due-all, due-room, due-on, due-done, puts-as, puts-behind}
-use Rattle.tables.proofs.Cutting.{cuts-length, cuts-first, cuts-none}
-use Rattle.tables.proofs.Gathering.{from-none, from-first, from-rest, from-later, from-turn, sum-first, length-first}
+use Rattle.tables.specs.Puts.{bars}
+use Rattle.tables.specs.Spans.{cellLengths, sum, CellFrom}
+use Rattle.tables.specs.Columns.{columns}
+use Rattle.tables.proofs.Putting.{Due, due-all, due-done}
+use Rattle.tables.proofs.Columns.{columns-none, column-room, column-on}
+use Rattle.tables.proofs.Gathering.{from-none, from-first, from-rest, from-later, from-turn, sum-first}
 use native.Mathlib.Omega.{arith}
-use Rattle.tables.proofs.table.put_cells.Statement.{statement}
-use Rattle.tables.proofs.table.put_cells.Tie as tie
+use Rattle.tables.proofs.table.put_columns.Statement.{statement}
+use Rattle.tables.proofs.table.put_columns.Tie as tie
 
 abbrev Inv-loop : tie.InvT-loop
-Inv-loop sheet nodes text₀ len row to src end₀ at₀ c₀ text end at c =
+Inv-loop sheet nodes text₀ len row to src under end₀ at₀ c₀ text end at c =
     CellFrom sheet nodes row c to
-    × Due text₀ text len end (bars (cuts (cellLengths sheet nodes row c to) (drop at text₀))) (bars (cuts (cellLengths sheet nodes row (row + 1) to) (drop src text₀)))
+    × Due text₀ text len end (bars (columns under (cellLengths sheet nodes row c to) (drop at text₀))) (bars (columns under (cellLengths sheet nodes row (row + 1) to) (drop src text₀)))
     × (src ≤ at) × (at + sum (cellLengths sheet nodes row c to) ≡ src + sum (cellLengths sheet nodes row (row + 1) to))
 
 abbrev μ-loop : tie.MeasureT-loop
-μ-loop sheet nodes text₀ len row to src end₀ at₀ c₀ text end at c = to - c
+μ-loop sheet nodes text₀ len row to src under end₀ at₀ c₀ text end at c = to - c
 
 add-next-cell : tie.Need-add-next-cell Inv-loop μ-loop
 add-next-cell c =
@@ -37,8 +38,8 @@ loop-holds c =
     let a = c .before .before .before .before .args in
     let n = c .next-cell .ensures .1 (a .row) (c .before .before .before .before .pre .0 .0) (omega arith) (c .before .before .before .before .pre .0 .1) in (
       n .0,
-      subst (λ (l : List ℕ). Due (a .text .now) (a .text .now) (a .len) (a .len) (bars (cuts l (drop (a .src) (a .text .now)))) (bars (cuts (cellLengths (a .sheet .now) (a .nodes .now) (a .row) (a .row + 1) (a .to)) (drop (a .src) (a .text .now))))) (n .1)
-          (due-all (a .text .now) (a .len) (bars (cuts (cellLengths (a .sheet .now) (a .nodes .now) (a .row) (a .row + 1) (a .to)) (drop (a .src) (a .text .now))))),
+      subst (λ (l : List ℕ). Due (a .text .now) (a .text .now) (a .len) (a .len) (bars (columns (a .under) l (drop (a .src) (a .text .now)))) (bars (columns (a .under) (cellLengths (a .sheet .now) (a .nodes .now) (a .row) (a .row + 1) (a .to)) (drop (a .src) (a .text .now))))) (n .1)
+          (due-all (a .text .now) (a .len) (bars (columns (a .under) (cellLengths (a .sheet .now) (a .nodes .now) (a .row) (a .row + 1) (a .to)) (drop (a .src) (a .text .now))))),
       omega arith,
       omega (arith, ap sum (n .1)),
     )
@@ -55,18 +56,16 @@ read-long-requires : tie.Need-read-long-requires Inv-loop μ-loop
 read-long-requires c κs =
     omega (arith, from-first (c .before .loop .inv .0) (c .loop-test .taken) .inside)
 
-put-cell-requires : tie.Need-put-cell-requires Inv-loop μ-loop
-put-cell-requires c κs =
+put-column-requires : tie.Need-put-column-requires Inv-loop μ-loop
+put-column-requires c κs =
     let a = c .before .before .before .before .before .before .before .before .args in
+    let pre = c .before .before .before .before .before .before .before .before .pre in
     let l = c .before .before .before .loop in
-    let whole = cellLengths (a .sheet .now) (a .nodes .now) (a .row) (a .row + 1) (a .to) in
-    let left = cellLengths (a .sheet .now) (a .nodes .now) (a .row) (l .c) (a .to) in
     let e = from-turn (l .inv .0) (c .before .before .loop-test .taken) refl (endAt (a .nodes .now) (l .c)) (c .before .read-long .ensures) refl in
-    let p = cuts-length left (drop (l .at) (a .text .now)) (omega (arith, length-drop (l .at) (a .text .now), l .inv .3, c .before .before .before .before .before .before .before .before .pre .2)) in
-    let q = cuts-length whole (drop (a .src) (a .text .now)) (omega (arith, length-drop (a .src) (a .text .now), c .before .before .before .before .before .before .before .before .pre .2)) in (
-      omega (arith, p, q, due-room (l .inv .1), sum-first e, length-first e, c .before .before .before .before .before .before .before .before .pre .1, l .inv .2),
-      omega (arith, p, q, due-room (l .inv .1), l .inv .1 .puts .long, sum-first e, length-first e, c .before .before .before .before .before .before .before .before .pre .1, c .before .before .before .before .before .before .before .before .pre .2),
-      omega (arith, l .inv .1 .puts .long, sum-first e, l .inv .3, c .before .before .before .before .before .before .before .before .pre .2),
+    let room = column-room (a .under) e (l .at) (l .inv .1) (λ q. omega (arith, pre .3 q, l .inv .2)) in (
+      λ q. omega (arith, room, pre .3 q, l .inv .2),
+      omega (arith, room, l .inv .1 .puts .long, pre .1),
+      omega (arith, l .inv .1 .puts .long, sum-first e, l .inv .3, pre .2),
     )
 
 add-at : tie.Need-add-at Inv-loop μ-loop
@@ -94,14 +93,9 @@ loop-again c =
     let l = c .before .before .before .before .before .before .before .before .loop in
     let x = l .inv .0 in
     let n = c .next-cell2 .ensures .1 (a .row) (restOf (x .rest)) (from-later x (c .before .before .before .before .before .before .before .loop-test .taken) (c .before .node-end .ensures)) (from-rest x (c .before .before .before .before .before .before .before .loop-test .taken) (c .before .node-end .ensures)) in
-    let e = from-turn x (c .before .before .before .before .before .before .before .loop-test .taken) (c .before .node-end .ensures) (c .next-cell2 .result) (c .before .before .before .before .before .before .read-long .ensures) (n .1) in
-    let whole = cellLengths (a .sheet .now) (a .nodes .now) (a .row) (a .row + 1) (a .to) in
-    let left = cellLengths (a .sheet .now) (a .nodes .now) (a .row) (l .c) (a .to) in
-    let p = cuts-length left (drop (l .at) (a .text .now)) (omega (arith, length-drop (l .at) (a .text .now), l .inv .3, c .before .before .before .before .before .before .before .before .before .before .before .before .before .pre .2)) in
-    let q = cuts-length whole (drop (a .src) (a .text .now)) (omega (arith, length-drop (a .src) (a .text .now), c .before .before .before .before .before .before .before .before .before .before .before .before .before .pre .2)) in (
+    let e = from-turn x (c .before .before .before .before .before .before .before .loop-test .taken) (c .before .node-end .ensures) (c .next-cell2 .result) (c .before .before .before .before .before .before .read-long .ensures) (n .1) in (
       n .0,
-      due-on (l .inv .1) (cuts-first e (l .at) (a .text .now))
-          (puts-as (ap (λ (z : List ℕ). bar (take (c .before .before .before .before .before .before .read-long .result) z)) (puts-behind (l .at) (l .inv .1 .puts) (omega (arith, p, q, due-room (l .inv .1), c .before .before .before .before .before .before .before .before .before .before .before .before .before .pre .1, l .inv .2)))) (c .before .before .before .before .put-cell .ensures)),
+      column-on (a .under) e (l .at) (l .inv .1) (λ q. omega (arith, c .before .before .before .before .before .before .before .before .before .before .before .before .before .pre .3 q, l .inv .2)) (c .before .before .before .before .put-column .ensures),
       omega arith,
       omega (arith, sum-first e, l .inv .3),
     )
@@ -112,7 +106,8 @@ same-length c =
 
 returns : tie.Need-returns Inv-loop μ-loop
 returns c =
-    due-done (c .before .loop .inv .1) (cuts-none _ (from-none (c .before .loop .inv .0) (c .loop-test .left)))
+    let a = c .before .before .before .before .before .before .args in
+    due-done (c .before .loop .inv .1) (columns-none (a .under) (drop (c .before .loop .at) (a .text .now)) (from-none (c .before .loop .inv .0) (c .loop-test .left)))
 
-pub put-cells-spec : {M : Type 1} → statement M
-put-cells-spec = tie.close (tie.spec Inv-loop μ-loop add-next-cell next-cell-requires loop-holds mul-read-long add-read-long read-long-requires put-cell-requires add-at node-end-requires next-cell-requires-2 loop-less loop-again same-length returns)
+pub put-columns-spec : {M : Type 1} → statement M
+put-columns-spec = tie.close (tie.spec Inv-loop μ-loop add-next-cell next-cell-requires loop-holds mul-read-long add-read-long read-long-requires put-column-requires add-at node-end-requires next-cell-requires-2 loop-less loop-again same-length returns)
