@@ -12,6 +12,7 @@ use borrow.Author.Tests.{leb-true, ne-eqb, eqb-true}
 use Rattle.spec.specs.Bytes.{Bytes, ascii, isin, null, same, endsWith, every, white, digit, parts, cutAt}
 use Rattle.spec.specs.Md.Constants.{«ALWAYS_ESCAPED», «LINE_START_ESCAPED»}
 use Rattle.spec.specs.Md.TextUtils.{«is_ordered_list_marker», isEscaped, escapedFrom, escapedChunk}
+use Rattle.spec.proofs.Order.{one-less}
 use Rattle.text.specs.Class.{ordinary}
 use Rattle.text.specs.Flow.{startsBlack, lastDot, MayStart}
 use Rattle.normalized.proofs.Markers.{marker-short}
@@ -33,9 +34,6 @@ digit-some [] h = absurd (omega (arith, digit-range 0 h .0))
 digit-some (b ∷ s) h = omega arith
 
 -- ---- a marker byte by byte
-
-one-less : (n : ℕ) → suc n - 1 ≡ n
-one-less n = omega arith
 
 -- behind a digit, another counts for nothing
 marker-on : (b c : ℕ) (w : Bytes) → digit b ≡ true → digit c ≡ true → «is_ordered_list_marker» (b ∷ c ∷ w) ≡ «is_ordered_list_marker» (c ∷ w)

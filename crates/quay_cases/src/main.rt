@@ -11,15 +11,7 @@ use libc::STDOUT_FILENO;
 use md::call::Answer;
 use md::call::serialize_md;
 use sheet_main::answer_to;
-
-// The first n bytes, or all where there are fewer.
-fn front(s: &[u8], n: usize) -> &[u8] {
-    if s.len() < n {
-        return s;
-    }
-    let start = 0;
-    &s[start..n]
-}
+use text::buffer::front;
 
 // The bytes, with `/` for LF.
 fn print_slashed(s: &[u8]) {

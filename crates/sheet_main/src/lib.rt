@@ -4,15 +4,7 @@ use libc::STDIN_FILENO;
 use libc::STDOUT_FILENO;
 use md::call::Answer;
 use md::call::serialize_md;
-
-// The first n bytes, or all where there are fewer.
-fn front(s: &[u8], n: usize) -> &[u8] {
-    if s.len() < n {
-        return s;
-    }
-    let start = 0;
-    &s[start..n]
-}
+use text::buffer::front;
 
 // Whether standard input has a byte more.
 fn has_more() -> bool {

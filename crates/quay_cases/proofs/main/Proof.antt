@@ -1,7 +1,6 @@
 -- `quay_cases::main` meets its contract. Assumes nothing.
-use Prim.Native.Nat.{ℕ}
-use mathlib.Core.Path.{_≡_, sym}
-use lib.ListN.{length, replicate, length-replicate}
+use mathlib.Core.Path.{sym}
+use lib.ListN.{length-replicate}
 use borrow.Author.Needs.{needs}
 use Rattle.quay_cases.proofs.main.Statement.{statement}
 use Rattle.quay_cases.proofs.main.Tie as tie
@@ -9,14 +8,11 @@ use Rattle.quay_cases.proofs.main.Tie as tie
 buffer-requires : tie.Need-buffer-requires
 buffer-requires c κs = search needs
 
-zeros : (n : ℕ) → n ≡ length (replicate {A = ℕ} n 0)
-zeros n = sym (length-replicate n 0)
-
 slice-aggregate-show-all : tie.Need-slice-aggregate-show-all
-slice-aggregate-show-all c = zeros 196608
+slice-aggregate-show-all c = sym (length-replicate 196608 0)
 
 slice-aggregate-show-all-2 : tie.Need-slice-aggregate-show-all-2
-slice-aggregate-show-all-2 c = zeros 4194304
+slice-aggregate-show-all-2 c = sym (length-replicate 4194304 0)
 
 slice-aggregate-show-all-3 : tie.Need-slice-aggregate-show-all-3
 slice-aggregate-show-all-3 c = search needs
