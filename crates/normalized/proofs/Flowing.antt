@@ -32,7 +32,7 @@ added-ordinary escape b rest h =
     rw (r .0, not-escaped false b rest (r .1) (r .2), and-false escape)
 
 -- nothing is escaped but where signs are
-pub added-kept : (signs escape : Bool) (b : ℕ) (rest : Bytes) → (escape ≡ true → signs ≡ true) → kept signs b ≡ true → added escape b rest ≡ b ∷ []
+added-kept : (signs escape : Bool) (b : ℕ) (rest : Bytes) → (escape ≡ true → signs ≡ true) → kept signs b ≡ true → added escape b rest ≡ b ∷ []
 unfolding added
 added-kept true escape b rest only h = added-ordinary escape b rest h
 added-kept false true b rest only h = absurd (false≢true (only refl))
@@ -75,10 +75,6 @@ module _ {signs : Bool} (escape : Bool) (only : escape ≡ true → signs ≡ tr
 
   pub flows-flow : {s : Bytes} {n : ℕ} → Flows signs s n → flow escape s ≡ take n s ++ flow escape (drop n s)
   flows-flow {s} {n} f = front-flow s n f
-
--- a blank before a word
-pub blank-plain : (signs : Bool) (b next : ℕ) → b ≡ 32 → 33 ≤ next → plain signs b next ≡ true
-blank-plain signs b next e h = rw (not-white next h, eq-eqb b 32 e, or-true)
 
 -- below k, or not
 pub less-or-not : {A : Type 0} (i k : ℕ) → (i < k → A) → (k ≤ i → A) → A

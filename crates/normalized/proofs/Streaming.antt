@@ -1,24 +1,22 @@
 -- How a flow is appended: its bytes one by one, and plain bytes at once. Assumes nothing.
 use Prim.Native.Nat.{ℕ, _+_, _-_, _≤_, _<_}
 use mathlib.Core.Path.{_≡_, refl, sym, ap, ap₂, _∙_}
-use mathlib.Core.Bool.{Bool, true, false, cond, not, _&&_, and-true}
+use mathlib.Core.Bool.{Bool, true, false, cond, not, _&&_}
 use mathlib.Core.List.{List, [], _∷_, _++_, append-nil}
 use native.Mathlib.Omega.{arith}
 use lib.ListN.{length, take, drop, getD, length-drop, take-append-drop}
 use lib.Seq.{slice, slice-cons, slice-empty, drop-drop}
-use Rattle.spec.specs.Bytes.{ascii, isin, white, words, startsWith}
+use Rattle.spec.specs.Bytes.{ascii, white}
 use Rattle.spec.specs.Out.{Out, andThen, push}
 use Rattle.spec.specs.Md.TextUtils.{isEscaped}
-use Rattle.text.specs.Class.{ordinary}
 use Rattle.text.specs.Flow.{startsBlack, added, flow, flowBefore, Flows}
 use Rattle.text.proofs.Writing.{push-both}
-use Rattle.text.specs.Source.{Apart, WritesIn}
+use Rattle.text.specs.Source.{WritesIn}
 use Rattle.text.specs.declared.buffer.Wrote.{Wrote}
 use Rattle.text.specs.declared.buffer.Wrote.the-variants.{Done, Full}
 use Rattle.text.proofs.Reading.{drop-take}
 use Rattle.text.proofs.Sourcing.{Still, OwesIn, owed-as, owed-step, owed-stop, slice-kept, getD-kept, part-none, slice-on}
 use Rattle.normalized.proofs.Wording.{slice-front}
-use Rattle.text.proofs.Ordinary.{escaped-inside, bang-inside}
 use Rattle.normalized.proofs.Flowing.{flows-flow, flow-split}
 
 -- ---- where a word begins
@@ -41,17 +39,6 @@ module _ (escape : Bool) (b : ℕ) (rest : List ℕ) where
   pub added-black : {t : Bool} → white b ≡ false → t ≡ isEscaped false false false b rest → added escape b rest ≡ cond (escape && t) (ascii "\\") [] ++ (b ∷ [])
   unfolding added
   added-black h e = rw (h, e) refl
-
-  -- `!`
-  pub added-bang : {t : Bool} → b ≡ 33 → t ≡ startsWith (ascii "[") rest → added escape b rest ≡ cond (escape && t) (ascii "\\") [] ++ (b ∷ [])
-  unfolding white isin
-  added-bang h e = added-black (ap white h) (e ∙ bang-inside false b rest h)
-
-  -- a byte that is escaped wherever it stands
-  pub added-other : b < 256 → (b ≡ 33 → ⊥) → ordinary b ≡ false → white b ≡ false → added escape b rest ≡ cond escape (ascii "\\") [] ++ (b ∷ [])
-  added-other h k o w =
-      let e : true ≡ isEscaped false false false b rest = rw (o, w) refl ∙ escaped-inside false b rest h k in
-      added-black w e ∙ ap (λ (t : Bool). cond t (ascii "\\") [] ++ (b ∷ [])) (and-true escape)
 
 -- ---- byte by byte
 
@@ -119,10 +106,9 @@ module _ (s : List ℕ) (escape : Bool) (t : List ℕ) where
 module _ {base : ℕ} {text now : List ℕ} (escape : Bool) (h : base ≤ length text) (q : Still base text now) where
   pub own-byte : (i : ℕ) → base ≤ i → added escape (getD text i 0) (slice (i + 1) (length text) text) ≡ added escape (getD now i 0) (slice (i + 1) (length now) now)
   own-byte i k =
-      let p : Apart true text [] base base (length text) = record { inside = h; ordered = h; within = omega arith; behind = λ e. omega arith } in
       sym (ap (λ (j : ℕ). added escape (getD now i 0) (slice (i + 1) j now)) (q .long)
-      ∙ ap (added escape (getD now i 0)) (slice-kept p q (i + 1) (length text) (omega arith))
-      ∙ ap (λ (b : ℕ). added escape b (slice (i + 1) (length text) text)) (getD-kept p q i k))
+      ∙ ap (added escape (getD now i 0)) (slice-kept q (i + 1) (length text) (omega arith))
+      ∙ ap (λ (b : ℕ). added escape b (slice (i + 1) (length text) text)) (getD-kept q i k))
 
   here : (i j : ℕ) → slice i j (drop base text) ≡ slice (base + i) (base + j) now
   here i j =

@@ -1,19 +1,18 @@
 -- Words of ordinary bytes: they are appended as they are. Assumes nothing.
 use Prim.Native.Nat.{ℕ, suc, _-_, _≤_, _<_}
 use mathlib.Core.Path.{_≡_, refl, sym, ap, _∙_}
-use mathlib.Core.Bool.{Bool, true, false, cond, not, _&&_, _||_, false≢true, and-false, or-false, and-eq-true-iff}
+use mathlib.Core.Bool.{Bool, true, false, cond, not, _&&_, _||_, false≢true, and-false, and-eq-true-iff}
 use mathlib.Core.List.{List, [], _∷_, _++_}
 use native.Mathlib.Omega.{arith}
 use lib.ListN.{length, take, getD}
 use lib.Dec.{eqb}
 use borrow.Author.Tests.{ne-eqb, le-leb, lt-leb}
-use Rattle.spec.specs.Bytes.{ascii, null, isin, white, digit, every, startsWith, endsWith}
+use Rattle.spec.specs.Bytes.{ascii, null, isin, white, digit, every, endsWith}
 use Rattle.spec.specs.Md.Constants.{«ALWAYS_ESCAPED»}
 use Rattle.spec.specs.Md.TextUtils.{isEscaped, escapedFrom, escapedChunk, «is_ordered_list_marker»}
 use Rattle.text.specs.Class.{ordinary}
 use Rattle.text.specs.Flow.{MayStart}
 use Rattle.text.specs.Marks.{marks}
-use Rattle.input.proofs.Sequences.{below, below-at}
 
 -- neither of two
 pub neither : (a b : Bool) → a || b ≡ false → (a ≡ false) × (b ≡ false)
@@ -49,34 +48,13 @@ ordinary-escaped u (b ∷ s) h =
     ap (λ (t : Bool). cond t (ascii "\\") [] ++ (b ∷ escapedFrom false false u s)) (not-escaped u b s (r .1) (r .2))
     ∙ ap (λ (x : List ℕ). b ∷ x) (ordinary-escaped u s (q .1))
 
--- behind the beginning of a line, a byte but `!` is escaped that is neither ordinary nor white
-inside : ℕ → Bool
-inside b =
-    cond (eqb b 33) true (cond (not (ordinary b) && not (white b)) (isin b «ALWAYS_ESCAPED») (not (isin b «ALWAYS_ESCAPED»)))
-
-all-inside : below inside 256 ≡ true
-unfolding below inside white isin
-all-inside = refl
-
 pub agree : (x y : Bool) → cond x y (not y) ≡ true → x ≡ y
 agree true true e = refl
 agree true false e = sym e
 agree false true e = e
 agree false false e = refl
 
-pub escaped-inside : (u : Bool) (b : ℕ) (rest : List ℕ) → b < 256 → (b ≡ 33 → ⊥) → not (ordinary b) && not (white b) ≡ isEscaped false false u b rest
-unfolding isEscaped inside
-escaped-inside u b rest h k =
-    let e = ne-eqb b 33 k in
-    agree (not (ordinary b) && not (white b)) (isin b «ALWAYS_ESCAPED») (sym (ap (λ (t : Bool). cond t true (cond (not (ordinary b) && not (white b)) (isin b «ALWAYS_ESCAPED») (not (isin b «ALWAYS_ESCAPED»)))) e) ∙ below-at inside 256 b all-inside h)
-    ∙ rw (e, or-false (isin b «ALWAYS_ESCAPED»)) refl
-
--- `!` is escaped before `[`
-pub bang-inside : (u : Bool) (b : ℕ) (rest : List ℕ) → b ≡ 33 → startsWith (ascii "[") rest ≡ isEscaped false false u b rest
-unfolding isEscaped isin
-bang-inside u b rest e = rw (e, or-false (startsWith (ascii "[") rest)) refl
-
--- which bytes are escaped there does not depend on the underline
+-- which bytes are escaped behind the beginning of a line does not depend on the underline
 inner-marks : (u : Bool) (s : List ℕ) → escapedFrom false false u s ≡ escapedFrom false false false s
 unfolding escapedFrom isEscaped
 inner-marks u [] = refl

@@ -1,18 +1,16 @@
--- Texts that are appended from a source: what is read stays as it is, and what is written stays before the room. Assumes nothing.
+-- Texts that are appended before a room, behind which the memory stays as it is. Assumes nothing.
 use Prim.Native.Nat.{ℕ, suc, _+_, _-_, _≤_, _<_}
 use mathlib.Core.Path.{_≡_, refl, sym, ap, subst, subst₂, _∙_}
-use mathlib.Core.Bool.{Bool, true, false, cond, _&&_, false≢true}
-use mathlib.Core.List.{List, [], _∷_, _++_, append-assoc}
+use mathlib.Core.Bool.{false}
+use mathlib.Core.List.{List, [], _∷_, _++_}
 use native.Mathlib.Omega.{arith}
 use native.Mathlib.Numerals.{add-one}
 use lib.ListN.{length, take, drop, getD, length-append, length-take, length-drop, drop-of-length-le}
-use lib.Seq.{length-take-le, take-take, getD-drop, getD-take, drop-drop, slice, slice-cons, take-at, drop-at, take-all, paste, length-paste, take-paste, drop-paste}
+use lib.Seq.{length-take-le, take-take, getD-drop, getD-take, drop-drop, slice, slice-cons, take-at, drop-at}
 use lib.Dec.{eqb}
-use Rattle.spec.specs.Bytes.{ascii, startsWith, every}
+use Rattle.spec.specs.Bytes.{startsWith}
 use Rattle.spec.specs.Out.{Out, Step, andThen, push}
-use Rattle.spec.specs.Md.TextUtils.{isEscaped, escapedFrom, escapedChunk, «push_escaped_chunk», «is_ordered_list_marker»}
-use Rattle.text.specs.Marks.{marks}
-use Rattle.text.specs.Source.{store, Apart, WritesIn}
+use Rattle.text.specs.Source.{WritesIn}
 use Rattle.text.specs.Writes.{Writes}
 use Rattle.text.specs.declared.buffer.Wrote.{Wrote}
 use Rattle.text.specs.declared.buffer.Wrote.the-variants.{Done, Full}
@@ -39,40 +37,20 @@ pub record Still (room : ℕ) (text now : List ℕ) : Type 0 where
   pub long : length now ≡ length text
   pub behind : drop room now ≡ drop room text
 
-module _ {own : Bool} {text src : List ℕ} {room from to : ℕ} (p : Apart own text src room from to) {now : List ℕ} (q : Still room text now) where
-  pub store-long : length (store own now src) ≡ length (store own text src)
-  store-long = go own
-    where
-      go : (o : Bool) → length (store o now src) ≡ length (store o text src)
-      go true = q .long
-      go false = refl
-
+module _ {room : ℕ} {text now : List ℕ} (q : Still room text now) where
   drop-kept : (i : ℕ) → room ≤ i → drop i now ≡ drop i text
   drop-kept i h =
       let z : i ≡ room + (i - room) = omega arith in
       ap (λ (k : ℕ). drop k now) z ∙ sym (drop-drop (i - room) room now) ∙ ap (drop (i - room)) (q .behind) ∙ drop-drop (i - room) room text ∙ ap (λ (k : ℕ). drop k text) (sym z)
 
-  pub slice-kept : (i t : ℕ) → from ≤ i → slice i t (store own now src) ≡ slice i t (store own text src)
-  slice-kept i t h = go own (p .behind)
-    where
-      go : (o : Bool) → (o ≡ true → room ≤ from) → slice i t (store o now src) ≡ slice i t (store o text src)
-      go true b = sym (part-is i t now) ∙ ap (take (t - i)) (drop-kept i (omega (arith, b refl))) ∙ part-is i t text
-      go false b = refl
+  pub slice-kept : (i t : ℕ) → room ≤ i → slice i t now ≡ slice i t text
+  slice-kept i t h = sym (part-is i t now) ∙ ap (take (t - i)) (drop-kept i h) ∙ part-is i t text
 
-  pub getD-kept : (i : ℕ) → from ≤ i → getD (store own now src) i 0 ≡ getD (store own text src) i 0
-  getD-kept i h = go own (p .behind)
+  pub getD-kept : (i : ℕ) → room ≤ i → getD now i 0 ≡ getD text i 0
+  getD-kept i h = sym (here now) ∙ ap (λ (s : List ℕ). getD s 0 0) (drop-kept i h) ∙ here text
     where
       here : (s : List ℕ) → getD (drop i s) 0 0 ≡ getD s i 0
       here s = let z : i + 0 ≡ i = omega arith in getD-drop i s 0 0 ∙ ap (λ (k : ℕ). getD s k 0) z
-
-      go : (o : Bool) → (o ≡ true → room ≤ from) → getD (store o now src) i 0 ≡ getD (store o text src) i 0
-      go true b = sym (here now) ∙ ap (λ (s : List ℕ). getD s 0 0) (drop-kept i (omega (arith, b refl))) ∙ here text
-      go false b = refl
-
-  -- a later part of what is read
-  pub apart-kept : (f t : ℕ) → from ≤ f → f ≤ t → t ≤ to → Apart own now src room f t
-  apart-kept f t h k m =
-      record { inside = omega (arith, p .inside, q .long); ordered = k; within = omega (arith, p .within, store-long); behind = λ o. omega (arith, p .behind o) }
 
 pub follows-some : (i to b : ℕ) (s : List ℕ) → i < to → to ≤ length s → eqb (getD s i 0) b ≡ startsWith (b ∷ []) (slice i to s)
 follows-some i to b s h k =
@@ -152,85 +130,3 @@ lent-front room len d ys {r} f h k l w =
       writes = subst₂ (λ (j : ℕ) (z : List ℕ). Writes j z r (f (take len d))) q (sym (take-at ys (drop room d) room (l ∙ q))) (alike (ap f (sym (front d h))) w);
       behind = drop-at ys (drop room d) room (l ∙ q);
     }
-
--- ---- a chunk, byte by byte
-
-pub marks-on : (escape start m u : Bool) (b : ℕ) (rest : List ℕ)
-    → marks escape start m u (b ∷ rest) ≡ (cond (escape && isEscaped start m u b rest) (ascii "\\") [] ++ (b ∷ [])) ++ marks escape false m u rest
-unfolding escapedFrom
-marks-on true start m u b rest = sym (append-assoc (cond (isEscaped start m u b rest) (ascii "\\") []) (b ∷ []) (escapedFrom false m u rest))
-marks-on false start m u b rest = refl
-
-pub marks-none : (escape start m u : Bool) → marks escape start m u [] ≡ []
-unfolding escapedFrom
-marks-none true start m u = refl
-marks-none false start m u = refl
-
-pub marks-turn : (s : List ℕ) (i to : ℕ) (escape start m u esc : Bool) (b : ℕ) (t : List ℕ) → i < to → to ≤ length s → b ≡ getD s i 0 → esc ≡ isEscaped start m u b (slice (i + 1) to s)
-    → push (marks escape start m u (slice i to s)) t ≡ andThen (push (cond (escape && esc) (ascii "\\") [] ++ (b ∷ [])) t) (push (marks escape false m u (slice (i + 1) to s)))
-marks-turn s i to escape start m u esc b t h k e f =
-    let c : slice i to s ≡ b ∷ slice (i + 1) to s = slice-on s i to h k ∙ ap (λ (x : ℕ). x ∷ slice (i + 1) to s) (sym e) in
-    ap (λ (x : List ℕ). push x t)
-    (ap (marks escape start m u) c ∙ marks-on escape start m u b (slice (i + 1) to s)
-    ∙ ap (λ (x : Bool). (cond (escape && x) (ascii "\\") [] ++ (b ∷ [])) ++ marks escape false m u (slice (i + 1) to s)) (sym f))
-    ∙ push-both (cond (escape && esc) (ascii "\\") [] ++ (b ∷ [])) (marks escape false m u (slice (i + 1) to s)) t
-
-pub marks-ended : (s : List ℕ) (i to : ℕ) (escape start m u : Bool) (t : List ℕ) → to ≤ i → push (marks escape start m u (slice i to s)) t ≡ push [] t
-marks-ended s i to escape start m u t h = ap (λ (x : List ℕ). push x t) (ap (marks escape start m u) (part-none i to s h) ∙ marks-none escape start m u)
-
-pub chunk-is : (s : List ℕ) (escape start m u : Bool) (t : List ℕ) → m ≡ «is_ordered_list_marker» s → u ≡ every (λ b. eqb b 61) s
-    → «push_escaped_chunk» s escape start t ≡ push (marks escape start (start && m) u s) t
-unfolding «push_escaped_chunk» escapedChunk
-chunk-is s escape start m u t e f = rw (e, f)
-
--- the room is the whole memory, and the source another slice
-pub whole-apart : (text src : List ℕ) (from to : ℕ) → from ≤ to → to ≤ length src → Apart false text src (length text) from to
-whole-apart text src from to h k = record { inside = omega arith; ordered = h; within = k; behind = λ e. absurd (false≢true e) }
-
-pub whole-writes : {text after : List ℕ} {r : Wrote} {o : Out} → WritesIn (length text) text after r o → Writes (length text) after r o
-whole-writes {text} {after} {r} {o} w = subst (λ (x : List ℕ). Writes (length text) x r o) (take-all (length text) after (omega (arith, w .long))) (w .writes)
-
--- ---- bytes behind the room, copied before it: i of them so far
-
-module _ (d : List ℕ) (room len from : ℕ) (h : len ≤ room) (k : room ≤ from) where
-  pub own-byte : (i : ℕ) → len + i < room → from + i < length d → getD (paste d len (drop from d) i) (from + i) 0 ≡ getD (drop from d) i 0
-  own-byte i l m =
-      let a : len + i + (from - len) ≡ from + i = omega arith in
-      ap (λ (j : ℕ). getD (paste d len (drop from d) i) j 0) (sym a)
-      ∙ sym (getD-drop (len + i) (paste d len (drop from d) i) (from - len) 0)
-      ∙ ap (λ (x : List ℕ). getD x (from - len) 0) (drop-paste d len (drop from d) i (omega arith) (omega (arith, length-drop from d)))
-      ∙ getD-drop (len + i) d (from - len) 0 ∙ ap (λ (j : ℕ). getD d j 0) a ∙ sym (getD-drop from d i 0)
-
-  module _ (n : ℕ) (m : from + n ≤ length d) where
-    part : slice from (from + n) d ≡ take n (drop from d)
-    part = let a : from + n - from ≡ n = omega arith in sym (part-is from (from + n) d) ∙ ap (λ (j : ℕ). take j (drop from d)) a
-
-    pub own-full : room - len < n → WritesIn room d d Full (push (slice from (from + n) d) (take len d))
-    unfolding push
-    own-full q =
-        record {
-          long = refl;
-          writes = record { says = record { over = omega (arith, q, length-append (take len d) (slice from (from + n) d), length-take-le len d (omega arith), ap length part, length-take-le n (drop from d) (omega (arith, length-drop from d))) } };
-          behind = refl;
-        }
-
-    pub own-done : (after : List ℕ) → n ≤ room - len → after ≡ paste d len (drop from d) n → WritesIn room d after (Done (len + n)) (push (slice from (from + n) d) (take len d))
-    unfolding push
-    own-done after q e =
-        let s = drop from d in
-        let ls : n ≤ length s = omega (arith, length-drop from d) in
-        let long : length after ≡ length d = ap length e ∙ length-paste d len s n (omega arith) ls in
-        let z : len + n + (room - (len + n)) ≡ room = omega arith in
-        record {
-          long = long;
-          writes = record {
-            says = record {
-              long = length-take-le room after (omega arith);
-              fits = omega (arith, length-append (take len d) (slice from (from + n) d), length-take-le len d (omega arith), ap length part, length-take-le n s ls);
-              count = omega (arith, length-append (take len d) (slice from (from + n) d), length-take-le len d (omega arith), ap length part, length-take-le n s ls);
-              text-is = take-take (len + n) room after (omega arith) ∙ ap (take (len + n)) e ∙ take-paste d len s n (omega arith) ls ∙ ap (λ (x : List ℕ). take len d ++ x) (sym part);
-            };
-          };
-          behind = ap (λ (j : ℕ). drop j after) (sym z) ∙ sym (drop-drop (room - (len + n)) (len + n) after) ∙ ap (drop (room - (len + n))) (ap (drop (len + n)) e ∙ drop-paste d len s n (omega arith) ls)
-              ∙ drop-drop (room - (len + n)) (len + n) d ∙ ap (λ (j : ℕ). drop j d) z;
-        }

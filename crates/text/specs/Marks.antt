@@ -1,11 +1,10 @@
 -- The parts of a text that is appended word by word. Assumes nothing.
 use Prim.Native.Nat.{ℕ}
 use mathlib.Core.Bool.{Bool, cond, not, _&&_, _||_}
-use mathlib.Core.List.{[], _∷_, _++_}
+use mathlib.Core.List.{[], _∷_}
 use lib.Dec.{eqb}
-use lib.Seq.{slice}
-use Rattle.spec.specs.Bytes.{Bytes, ascii, null, same, endsWith, words}
-use Rattle.spec.specs.Md.TextUtils.{escapedFrom, escapedChunk, moreWords, «ends_with_marker_digits»}
+use Rattle.spec.specs.Bytes.{Bytes, ascii, null, same, endsWith}
+use Rattle.spec.specs.Md.TextUtils.{escapedFrom, «ends_with_marker_digits»}
 use Rattle.spec.specs.declared.ctx.FormatOpts.{FormatOpts}
 
 -- a chunk with its escapes, or as it is
@@ -15,11 +14,6 @@ marks escape start marker underline chunk = cond escape (escapedFrom start marke
 -- a byte, or nothing for 0
 abbrev pub leadOf : ℕ → Bytes
 leadOf b = cond (eqb b 0) [] (b ∷ [])
-
--- the word of s between `from` and `end`, the words behind it, and `last`
-abbrev pub firstAndMore : Bytes → ℕ → ℕ → ℕ → Bool → Bool → ℕ → Bytes
-firstAndMore s from end to escape start last =
-    escapedChunk (slice from end s) escape start ++ (moreWords escape (words (slice end to s)) ++ leadOf last)
 
 abbrev pub dotWord : Bytes → Bool
 dotWord word = same word (ascii ".") || same word (ascii ")")

@@ -9,7 +9,6 @@ use Rattle.spec.specs.Bytes.{null, parts, split}
 use Rattle.spec.specs.Out.{push}
 use Rattle.spec.specs.Md.Elements.List.{blockLines, isLineEnd}
 use Rattle.lists_links.specs.Items.{itemOf, lineByte}
-use Rattle.text.specs.Source.{Apart}
 use Rattle.lists_links.proofs.ItemLines.{lines-turn, lines-end}
 use Rattle.text.proofs.Sourcing.{OwesIn, owed-all, owed-step, owed-stop, owed-nothing, owed-reach, getD-kept, slice-kept, lent-front}
 use borrow.Author.Needs.{needs}
@@ -62,12 +61,11 @@ loop-less c =
 
 loop-again : tie.Need-loop-again Inv-loop μ-loop
 loop-again c =
-    let pre = c .before .before .before .before .before .before .before .before .before .before .before .before .before .pre in
-    let p : Apart true (c .before .before .before .before .before .before .before .before .before .before .before .before .before .args .text .now) [] (c .before .before .before .before .before .before .before .before .before .before .before .before .before .args .room) (c .before .before .before .before .before .before .before .before .before .before .before .before .before .args .from) (c .before .before .before .before .before .before .before .before .before .before .before .before .before .args .to) = record { inside = omega (arith, pre .1, pre .2, pre .3); ordered = pre .2; within = pre .3; behind = λ e. pre .1 } in (
+    let pre = c .before .before .before .before .before .before .before .before .before .before .before .before .before .pre in (
       omega (arith, c .before .before .before .before .before .before .before .before .before .before .before .loop .inv .0),
       omega (arith, c .before .before .before .before .before .before .before .before .before .before .loop-test .taken),
-      owed-step (c .before .before .before .before .before .before .before .before .before .before .before .loop .inv .2) (push (lineByte (itemOf (c .before .before .before .before .before .before .before .before .before .before .before .before .before .args .item)) (c .before .before .before .before .before .before .before .ends-line .result) (getD (c .before .before .before .before .before .before .before .before .before .before .before .loop .text) (c .before .before .before .before .before .before .before .before .before .before .before .loop .i) 0))) (push (blockLines (itemOf (c .before .before .before .before .before .before .before .before .before .before .before .before .before .args .item)) (split isLineEnd (slice (c .before .before .before .before .before .before .before .before .before .before .before .loop .i + 1) (c .before .before .before .before .before .before .before .before .before .before .before .before .before .args .to) (c .before .before .before .before .before .before .before .before .before .before .before .before .before .args .text .now))))) (lines-turn (itemOf (c .before .before .before .before .before .before .before .before .before .before .before .before .before .args .item)) (c .before .before .before .before .before .before .before .before .before .before .before .before .before .args .text .now) (c .before .before .before .before .before .before .before .before .before .before .before .loop .i) (c .before .before .before .before .before .before .before .before .before .before .before .before .before .args .to) (getD (c .before .before .before .before .before .before .before .before .before .before .before .loop .text) (c .before .before .before .before .before .before .before .before .before .before .before .loop .i) 0) (c .before .before .before .before .before .before .before .ends-line .result) (take (c .before .before .before .before .before .before .before .before .before .before .before .loop .m) (c .before .before .before .before .before .before .before .before .before .before .before .loop .text)) (c .before .before .before .before .before .before .before .before .before .before .loop-test .taken) (c .before .before .before .before .before .before .before .before .before .before .before .before .before .pre .3) (getD-kept p (c .before .before .before .before .before .before .before .before .before .before .before .loop .inv .2 .still) (c .before .before .before .before .before .before .before .before .before .before .before .loop .i) (c .before .before .before .before .before .before .before .before .before .before .before .loop .inv .0))
-          (c .before .before .before .before .before .before .before .ends-line .ensures ∙ ap (λ (x : List ℕ). null (parts isLineEnd x .0)) (slice-kept p (c .before .before .before .before .before .before .before .before .before .before .before .loop .inv .2 .still) (c .before .before .before .before .before .before .before .before .before .before .before .loop .i + 1) (c .before .before .before .before .before .before .before .before .before .before .before .before .before .args .to) (omega (arith, c .before .before .before .before .before .before .before .before .before .before .before .loop .inv .0))))) (c .before .k .given .1) (lent-front (c .before .before .before .before .before .before .before .before .before .before .before .before .before .args .room) (c .before .before .before .before .before .before .before .before .before .before .before .loop .m) (c .before .before .before .before .before .before .before .before .before .before .before .loop .text) _ (push (lineByte (itemOf (c .before .before .before .before .before .before .before .before .before .before .before .before .before .args .item)) (c .before .before .before .before .before .before .before .ends-line .result) (getD (c .before .before .before .before .before .before .before .before .before .before .before .loop .text) (c .before .before .before .before .before .before .before .before .before .before .before .loop .i) 0))) (owed-reach (c .before .before .before .before .before .before .before .before .before .before .before .loop .inv .2)) (omega (arith, c .before .before .before .before .before .before .before .before .before .before .before .loop .inv .2 .still .long, c .before .before .before .before .before .before .before .before .before .before .before .before .before .pre .1, c .before .before .before .before .before .before .before .before .before .before .before .before .before .pre .2, c .before .before .before .before .before .before .before .before .before .before .before .before .before .pre .3)) (c .before .before .before .before .before .push-line-byte .kept .0) (c .before .before .before .before .before .push-line-byte .ensures)),
+      owed-step (c .before .before .before .before .before .before .before .before .before .before .before .loop .inv .2) (push (lineByte (itemOf (c .before .before .before .before .before .before .before .before .before .before .before .before .before .args .item)) (c .before .before .before .before .before .before .before .ends-line .result) (getD (c .before .before .before .before .before .before .before .before .before .before .before .loop .text) (c .before .before .before .before .before .before .before .before .before .before .before .loop .i) 0))) (push (blockLines (itemOf (c .before .before .before .before .before .before .before .before .before .before .before .before .before .args .item)) (split isLineEnd (slice (c .before .before .before .before .before .before .before .before .before .before .before .loop .i + 1) (c .before .before .before .before .before .before .before .before .before .before .before .before .before .args .to) (c .before .before .before .before .before .before .before .before .before .before .before .before .before .args .text .now))))) (lines-turn (itemOf (c .before .before .before .before .before .before .before .before .before .before .before .before .before .args .item)) (c .before .before .before .before .before .before .before .before .before .before .before .before .before .args .text .now) (c .before .before .before .before .before .before .before .before .before .before .before .loop .i) (c .before .before .before .before .before .before .before .before .before .before .before .before .before .args .to) (getD (c .before .before .before .before .before .before .before .before .before .before .before .loop .text) (c .before .before .before .before .before .before .before .before .before .before .before .loop .i) 0) (c .before .before .before .before .before .before .before .ends-line .result) (take (c .before .before .before .before .before .before .before .before .before .before .before .loop .m) (c .before .before .before .before .before .before .before .before .before .before .before .loop .text)) (c .before .before .before .before .before .before .before .before .before .before .loop-test .taken) (c .before .before .before .before .before .before .before .before .before .before .before .before .before .pre .3) (getD-kept (c .before .before .before .before .before .before .before .before .before .before .before .loop .inv .2 .still) (c .before .before .before .before .before .before .before .before .before .before .before .loop .i) (omega (arith, pre .1, c .before .before .before .before .before .before .before .before .before .before .before .loop .inv .0)))
+          (c .before .before .before .before .before .before .before .ends-line .ensures ∙ ap (λ (x : List ℕ). null (parts isLineEnd x .0)) (slice-kept (c .before .before .before .before .before .before .before .before .before .before .before .loop .inv .2 .still) (c .before .before .before .before .before .before .before .before .before .before .before .loop .i + 1) (c .before .before .before .before .before .before .before .before .before .before .before .before .before .args .to) (omega (arith, pre .1, c .before .before .before .before .before .before .before .before .before .before .before .loop .inv .0))))) (c .before .k .given .1) (lent-front (c .before .before .before .before .before .before .before .before .before .before .before .before .before .args .room) (c .before .before .before .before .before .before .before .before .before .before .before .loop .m) (c .before .before .before .before .before .before .before .before .before .before .before .loop .text) _ (push (lineByte (itemOf (c .before .before .before .before .before .before .before .before .before .before .before .before .before .args .item)) (c .before .before .before .before .before .before .before .ends-line .result) (getD (c .before .before .before .before .before .before .before .before .before .before .before .loop .text) (c .before .before .before .before .before .before .before .before .before .before .before .loop .i) 0))) (owed-reach (c .before .before .before .before .before .before .before .before .before .before .before .loop .inv .2)) (omega (arith, c .before .before .before .before .before .before .before .before .before .before .before .loop .inv .2 .still .long, c .before .before .before .before .before .before .before .before .before .before .before .before .before .pre .1, c .before .before .before .before .before .before .before .before .before .before .before .before .before .pre .2, c .before .before .before .before .before .before .before .before .before .before .before .before .before .pre .3)) (c .before .before .before .before .before .push-line-byte .kept .0) (c .before .before .before .before .before .push-line-byte .ensures)),
     )
 
 enum-told : tie.Need-enum-told Inv-loop μ-loop
@@ -80,9 +78,8 @@ same-length c =
 returns : tie.Need-returns Inv-loop μ-loop
 returns c =
     let pre = c .before .before .before .before .before .before .before .before .before .before .before .before .pre in
-    let p : Apart true (c .before .before .before .before .before .before .before .before .before .before .before .before .args .text .now) [] (c .before .before .before .before .before .before .before .before .before .before .before .before .args .room) (c .before .before .before .before .before .before .before .before .before .before .before .before .args .from) (c .before .before .before .before .before .before .before .before .before .before .before .before .args .to) = record { inside = omega (arith, pre .1, pre .2, pre .3); ordered = pre .2; within = pre .3; behind = λ e. pre .1 } in
-    owed-stop (c .before .before .before .before .before .before .before .before .before .before .loop .inv .2) (push (lineByte (itemOf (c .before .before .before .before .before .before .before .before .before .before .before .before .args .item)) (c .before .before .before .before .before .before .ends-line .result) (getD (c .before .before .before .before .before .before .before .before .before .before .loop .text) (c .before .before .before .before .before .before .before .before .before .before .loop .i) 0))) (push (blockLines (itemOf (c .before .before .before .before .before .before .before .before .before .before .before .before .args .item)) (split isLineEnd (slice (c .before .before .before .before .before .before .before .before .before .before .loop .i + 1) (c .before .before .before .before .before .before .before .before .before .before .before .before .args .to) (c .before .before .before .before .before .before .before .before .before .before .before .before .args .text .now))))) (lines-turn (itemOf (c .before .before .before .before .before .before .before .before .before .before .before .before .args .item)) (c .before .before .before .before .before .before .before .before .before .before .before .before .args .text .now) (c .before .before .before .before .before .before .before .before .before .before .loop .i) (c .before .before .before .before .before .before .before .before .before .before .before .before .args .to) (getD (c .before .before .before .before .before .before .before .before .before .before .loop .text) (c .before .before .before .before .before .before .before .before .before .before .loop .i) 0) (c .before .before .before .before .before .before .ends-line .result) (take (c .before .before .before .before .before .before .before .before .before .before .loop .m) (c .before .before .before .before .before .before .before .before .before .before .loop .text)) (c .before .before .before .before .before .before .before .before .before .loop-test .taken) (c .before .before .before .before .before .before .before .before .before .before .before .before .pre .3) (getD-kept p (c .before .before .before .before .before .before .before .before .before .before .loop .inv .2 .still) (c .before .before .before .before .before .before .before .before .before .before .loop .i) (c .before .before .before .before .before .before .before .before .before .before .loop .inv .0))
-    (c .before .before .before .before .before .before .ends-line .ensures ∙ ap (λ (x : List ℕ). null (parts isLineEnd x .0)) (slice-kept p (c .before .before .before .before .before .before .before .before .before .before .loop .inv .2 .still) (c .before .before .before .before .before .before .before .before .before .before .loop .i + 1) (c .before .before .before .before .before .before .before .before .before .before .before .before .args .to) (omega (arith, c .before .before .before .before .before .before .before .before .before .before .loop .inv .0))))) (c .enum-told .given .1) (lent-front (c .before .before .before .before .before .before .before .before .before .before .before .before .args .room) (c .before .before .before .before .before .before .before .before .before .before .loop .m) (c .before .before .before .before .before .before .before .before .before .before .loop .text) _ (push (lineByte (itemOf (c .before .before .before .before .before .before .before .before .before .before .before .before .args .item)) (c .before .before .before .before .before .before .ends-line .result) (getD (c .before .before .before .before .before .before .before .before .before .before .loop .text) (c .before .before .before .before .before .before .before .before .before .before .loop .i) 0))) (owed-reach (c .before .before .before .before .before .before .before .before .before .before .loop .inv .2)) (omega (arith, c .before .before .before .before .before .before .before .before .before .before .loop .inv .2 .still .long, c .before .before .before .before .before .before .before .before .before .before .before .before .pre .1, c .before .before .before .before .before .before .before .before .before .before .before .before .pre .2, c .before .before .before .before .before .before .before .before .before .before .before .before .pre .3)) (c .before .before .before .before .push-line-byte .kept .0) (c .before .before .before .before .push-line-byte .ensures))
+    owed-stop (c .before .before .before .before .before .before .before .before .before .before .loop .inv .2) (push (lineByte (itemOf (c .before .before .before .before .before .before .before .before .before .before .before .before .args .item)) (c .before .before .before .before .before .before .ends-line .result) (getD (c .before .before .before .before .before .before .before .before .before .before .loop .text) (c .before .before .before .before .before .before .before .before .before .before .loop .i) 0))) (push (blockLines (itemOf (c .before .before .before .before .before .before .before .before .before .before .before .before .args .item)) (split isLineEnd (slice (c .before .before .before .before .before .before .before .before .before .before .loop .i + 1) (c .before .before .before .before .before .before .before .before .before .before .before .before .args .to) (c .before .before .before .before .before .before .before .before .before .before .before .before .args .text .now))))) (lines-turn (itemOf (c .before .before .before .before .before .before .before .before .before .before .before .before .args .item)) (c .before .before .before .before .before .before .before .before .before .before .before .before .args .text .now) (c .before .before .before .before .before .before .before .before .before .before .loop .i) (c .before .before .before .before .before .before .before .before .before .before .before .before .args .to) (getD (c .before .before .before .before .before .before .before .before .before .before .loop .text) (c .before .before .before .before .before .before .before .before .before .before .loop .i) 0) (c .before .before .before .before .before .before .ends-line .result) (take (c .before .before .before .before .before .before .before .before .before .before .loop .m) (c .before .before .before .before .before .before .before .before .before .before .loop .text)) (c .before .before .before .before .before .before .before .before .before .loop-test .taken) (c .before .before .before .before .before .before .before .before .before .before .before .before .pre .3) (getD-kept (c .before .before .before .before .before .before .before .before .before .before .loop .inv .2 .still) (c .before .before .before .before .before .before .before .before .before .before .loop .i) (omega (arith, pre .1, c .before .before .before .before .before .before .before .before .before .before .loop .inv .0)))
+    (c .before .before .before .before .before .before .ends-line .ensures ∙ ap (λ (x : List ℕ). null (parts isLineEnd x .0)) (slice-kept (c .before .before .before .before .before .before .before .before .before .before .loop .inv .2 .still) (c .before .before .before .before .before .before .before .before .before .before .loop .i + 1) (c .before .before .before .before .before .before .before .before .before .before .before .before .args .to) (omega (arith, pre .1, c .before .before .before .before .before .before .before .before .before .before .loop .inv .0))))) (c .enum-told .given .1) (lent-front (c .before .before .before .before .before .before .before .before .before .before .before .before .args .room) (c .before .before .before .before .before .before .before .before .before .before .loop .m) (c .before .before .before .before .before .before .before .before .before .before .loop .text) _ (push (lineByte (itemOf (c .before .before .before .before .before .before .before .before .before .before .before .before .args .item)) (c .before .before .before .before .before .before .ends-line .result) (getD (c .before .before .before .before .before .before .before .before .before .before .loop .text) (c .before .before .before .before .before .before .before .before .before .before .loop .i) 0))) (owed-reach (c .before .before .before .before .before .before .before .before .before .before .loop .inv .2)) (omega (arith, c .before .before .before .before .before .before .before .before .before .before .loop .inv .2 .still .long, c .before .before .before .before .before .before .before .before .before .before .before .before .pre .1, c .before .before .before .before .before .before .before .before .before .before .before .before .pre .2, c .before .before .before .before .before .before .before .before .before .before .before .before .pre .3)) (c .before .before .before .before .push-line-byte .kept .0) (c .before .before .before .before .push-line-byte .ensures))
 
 same-length-2 : tie.Need-same-length-2 Inv-loop μ-loop
 same-length-2 c =

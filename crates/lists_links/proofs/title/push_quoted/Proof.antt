@@ -9,7 +9,6 @@ use lib.Seq.{slice}
 use Rattle.spec.specs.Bytes.{ascii}
 use Rattle.spec.specs.Out.{push}
 use Rattle.spec.specs.Md.TextUtils.{eachByte, quoteEscaped}
-use Rattle.text.specs.Source.{Apart}
 use Rattle.text.proofs.Sourcing.{OwesIn, owed-all, owed-step, owed-stop, owed-nothing, owed-reach, getD-kept}
 use Rattle.text.proofs.Temporary.{quote-turn, quotes-end}
 use borrow.Author.Needs.{needs}
@@ -56,9 +55,8 @@ returns c =
     let a = c .before .before .before .before .before .before .before .before .before .before .args in
     let l = c .before .before .before .before .before .before .before .before .loop in
     let o = l .inv .2 in
-    let p : Apart true (a .text .now) [] (a .base) (a .base) (a .base + a .n) = record { inside = omega (arith, c .before .before .before .before .before .before .before .before .before .before .pre .1); ordered = omega arith; within = c .before .before .before .before .before .before .before .before .before .before .pre .1; behind = λ e. omega arith } in
     owed-stop o (push (cond (eqb (getD (l .text) (l .i) 0) 34) (ascii "\\") [] ++ (getD (l .text) (l .i) 0 ∷ []))) (push (eachByte quoteEscaped (slice (l .i + 1) (a .base + a .n) (a .text .now))))
-    (quote-turn (a .text .now) (l .i) (a .base + a .n) (getD (l .text) (l .i) 0) (take (l .m) (l .text)) (c .before .before .before .before .before .before .before .loop-test .taken) (c .before .before .before .before .before .before .before .before .before .before .pre .1) (getD-kept p (o .still) (l .i) (l .inv .0))) (c .enum-told .given .1) (c .before .before .before .before .put-escaped .ensures)
+    (quote-turn (a .text .now) (l .i) (a .base + a .n) (getD (l .text) (l .i) 0) (take (l .m) (l .text)) (c .before .before .before .before .before .before .before .loop-test .taken) (c .before .before .before .before .before .before .before .before .before .before .pre .1) (getD-kept (o .still) (l .i) (l .inv .0))) (c .enum-told .given .1) (c .before .before .before .before .put-escaped .ensures)
 
 add-i : tie.Need-add-i Inv-loop μ-loop
 add-i c =
@@ -72,12 +70,11 @@ loop-again : tie.Need-loop-again Inv-loop μ-loop
 loop-again c =
     let a = c .before .before .before .before .before .before .before .before .before .before .before .args in
     let l = c .before .before .before .before .before .before .before .before .before .loop in
-    let o = l .inv .2 in
-    let p : Apart true (a .text .now) [] (a .base) (a .base) (a .base + a .n) = record { inside = omega (arith, c .before .before .before .before .before .before .before .before .before .before .before .pre .1); ordered = omega arith; within = c .before .before .before .before .before .before .before .before .before .before .before .pre .1; behind = λ e. omega arith } in (
+    let o = l .inv .2 in (
       omega (arith, l .inv .0),
       omega (arith, c .before .before .before .before .before .before .before .before .loop-test .taken),
       owed-step o (push (cond (eqb (getD (l .text) (l .i) 0) 34) (ascii "\\") [] ++ (getD (l .text) (l .i) 0 ∷ []))) (push (eachByte quoteEscaped (slice (l .i + 1) (a .base + a .n) (a .text .now))))
-          (quote-turn (a .text .now) (l .i) (a .base + a .n) (getD (l .text) (l .i) 0) (take (l .m) (l .text)) (c .before .before .before .before .before .before .before .before .loop-test .taken) (c .before .before .before .before .before .before .before .before .before .before .before .pre .1) (getD-kept p (o .still) (l .i) (l .inv .0))) (c .before .k .given .1) (c .before .before .before .before .before .put-escaped .ensures),
+          (quote-turn (a .text .now) (l .i) (a .base + a .n) (getD (l .text) (l .i) 0) (take (l .m) (l .text)) (c .before .before .before .before .before .before .before .before .loop-test .taken) (c .before .before .before .before .before .before .before .before .before .before .before .pre .1) (getD-kept (o .still) (l .i) (l .inv .0))) (c .before .k .given .1) (c .before .before .before .before .before .put-escaped .ensures),
     )
 
 same-length-2 : tie.Need-same-length-2 Inv-loop μ-loop
