@@ -1,5 +1,5 @@
 -- The place of a name among the bytes of a run's fields, from field to field. Assumes nothing.
-use Prim.Native.Nat.{ℕ, suc, _+_, _-_, _<_, _≤_}
+use Prim.Native.Nat.{ℕ, suc, _+_, _-_, _*_, _/_, _%_, _<_, _≤_}
 use native.Mathlib.Numerals.{add-one}
 use mathlib.Core.Path.{_≡_, refl, ap, ap₂, _∙_, sym}
 use native.Mathlib.Omega.{arith}
@@ -75,9 +75,6 @@ number-of : (k : ℕ) (x : Bytes) → length x ≡ k → tagOf x ≡ placeOf k 1
 unfolding tagOf
 number-of k x e = rw (← e) (place-of 1 x names)
 
-pub of-two : (a b : ℕ) → tagOf (a ∷ b ∷ []) ≡ placeOf 2 1 (a ∷ b ∷ []) names
-of-two a b = number-of 2 (a ∷ b ∷ []) refl
-
 pub of-three : (x : Bytes) → length x ≡ 3 → tagOf x ≡ cond (same x (ascii "div")) 3 (cond (same x (ascii "img")) 22 (cond (same x (ascii "pre")) 23 0))
 unfolding placeOf names
 of-three x e = number-of 3 x e
@@ -145,3 +142,10 @@ pub no-number : (q : Bytes → Bool) (f : Bytes → ℕ) (ks : List ℕ) (x : By
     → covered q f ks names ≡ true → 0 ≡ tagOf x
 unfolding tagOf
 no-number q f ks x qx h e = sym (none q f ks x qx (others (f x) ks h) 1 names e)
+
+-- two bytes, known by the number that they make
+pub two-at : (a b : ℕ) {k : ℕ} → b < 256 → a * 256 + b ≡ k → tagOf (k / 256 ∷ k % 256 ∷ []) ≡ tagOf (a ∷ b ∷ [])
+two-at a b {k} l e =
+    let p : k / 256 ≡ a = omega arith in
+    let q : k % 256 ≡ b = omega arith in
+    rw (p, q)

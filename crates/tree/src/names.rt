@@ -4,7 +4,6 @@ ghost use mathlib.Core.Bool.{cond};
 ghost use mathlib.Core.List.{[], _∷_};
 ghost use Prim.Native.Nat.{_+_, _≤_};
 ghost use lib.ListN.{length};
-ghost use lib.Dec.{eqb};
 ghost use Rattle.spec.specs.Fields.{fields};
 ghost use Rattle.spec.specs.Bytes.{same, among};
 ghost use Rattle.spec.specs.Names.{place, tagOf};
@@ -47,54 +46,60 @@ fn number_of_one(a: u8) -> usize
     }
 }
 
-// The number of a name of two bytes that begins with `h`: the headings and `hr`.
-fn number_of_h(b: u8) -> usize
-    ensures { λ r. ⌜ r ≡ tagOf (104 ∷ b ∷ []) ⌝ }
-{
-    match b {
-        b'1' => 5,
-        b'2' => 6,
-        b'3' => 7,
-        b'4' => 8,
-        b'5' => 9,
-        b'6' => 10,
-        b'r' => 15,
-        _ => 0,
-    }
-}
+// The names of two bytes, each as one number with the first byte above the second.
+const H1: u16 = 0x6831;
 
-// The number of a name of two bytes that begins with `t`: the parts of a table.
-fn number_of_t(b: u8) -> usize
-    ensures { λ r. ⌜ r ≡ tagOf (116 ∷ b ∷ []) ⌝ }
-{
-    match b {
-        b'r' => 17,
-        b'h' => 18,
-        b'd' => 19,
-        _ => 0,
-    }
-}
+const H2: u16 = 0x6832;
 
-// The number of a name whose first byte begins one known name alone, with `second` behind it.
-fn number_at(b: u8, second: u8, number: usize) -> usize
-    ensures { λ r. ⌜ r ≡ cond (eqb b second) number 0 ⌝ }
-{
-    if b == second { number } else { 0 }
-}
+const H3: u16 = 0x6833;
+
+const H4: u16 = 0x6834;
+
+const H5: u16 = 0x6835;
+
+const H6: u16 = 0x6836;
+
+const UL: u16 = 0x756c;
+
+const OL: u16 = 0x6f6c;
+
+const DL: u16 = 0x646c;
+
+const HR: u16 = 0x6872;
+
+const LI: u16 = 0x6c69;
+
+const TR: u16 = 0x7472;
+
+const TH: u16 = 0x7468;
+
+const TD: u16 = 0x7464;
+
+const BR: u16 = 0x6272;
+
+const EM: u16 = 0x656d;
 
 // The number of a name of two bytes.
 fn number_of_two(a: u8, b: u8) -> usize
     ensures { λ r. ⌜ r ≡ tagOf (a ∷ b ∷ []) ⌝ }
 {
-    match a {
-        b'h' => number_of_h(b),
-        b't' => number_of_t(b),
-        b'l' => number_at(b, b'i', 16),
-        b'u' => number_at(b, b'l', 11),
-        b'o' => number_at(b, b'l', 12),
-        b'd' => number_at(b, b'l', 13),
-        b'b' => number_at(b, b'r', 20),
-        b'e' => number_at(b, b'm', 27),
+    match a as u16 * 256 + b as u16 {
+        H1 => 5,
+        H2 => 6,
+        H3 => 7,
+        H4 => 8,
+        H5 => 9,
+        H6 => 10,
+        UL => 11,
+        OL => 12,
+        DL => 13,
+        HR => 15,
+        LI => 16,
+        TR => 17,
+        TH => 18,
+        TD => 19,
+        BR => 20,
+        EM => 27,
         _ => 0,
     }
 }
