@@ -19,7 +19,7 @@ use Rattle.tree.proofs.Ranges.{text-pieces}
 use Rattle.text.specs.Trimmed.{Trimmed, Skipped}
 use Rattle.text.proofs.Reading.{starts-byte, ends-byte, drop-take}
 use Rattle.elements.specs.Edges.{endedBy}
-use Rattle.nodes.proofs.Numbers.{pieces, pieces-on, pieces-none}
+use Rattle.nodes.proofs.Numbers.{Folds, pieces, pieces-on, pieces-none}
 
 -- ---- the beginning
 
@@ -128,7 +128,7 @@ module _ (s : Bytes) (before : Bool) (n : ℕ) (w : Trimmed s n (trimmed s)) whe
       go [] e l = absurd (omega arith)
       go (b ∷ t) e l = rw (sym e)
 
-ended-plain : (s : Bytes) → endsWith (10 ∷ []) (trimmed s) ≡ endedBy false s
+pub ended-plain : (s : Bytes) → endsWith (10 ∷ []) (trimmed s) ≡ endedBy false s
 unfolding endedBy null endsWith same
 ended-plain s = go (trimmed s)
   where
@@ -136,17 +136,9 @@ ended-plain s = go (trimmed s)
     go [] = refl
     go (b ∷ t) = refl
 
-module _ (sh ns : Bytes) where
-  pub ended-turn : (before : Bool) (e i : ℕ) {p : ℕ} {s : Bytes} → i < e → p ≡ placeAt ns i → textAt sh p ≡ s
-      → endedBy before (pieces sh ns e i) ≡ endedBy (endedBy before s) (pieces sh ns e (i + 1))
-  ended-turn before e i {p} {s} l q h = ap (endedBy before) (pieces-on sh ns e i l q h) ∙ ended-then before s (pieces sh ns e (i + 1))
-
-  pub ended-end : (before : Bool) (e i : ℕ) → e ≤ i → endedBy before (pieces sh ns e i) ≡ before
-  unfolding endedBy «trim_end_matches» null
-  ended-end before e i l = ap (endedBy before) (pieces-none sh ns e i l)
-
-  pub ended-numbers : (parent i e : ℕ) (f : Forest) → Rep sh ns parent i e f → endsWith (ascii "\n") (trimmed («text_of» f)) ≡ endedBy false (pieces sh ns e i)
-  ended-numbers parent i e f h = ended-plain («text_of» f) ∙ ap (endedBy false) (text-pieces sh ns parent i e f h)
+pub ended-folds : Folds endedBy
+unfolding endedBy «trim_end_matches» null
+ended-folds = record { none = λ before. refl; joins = ended-then }
 
 -- ---- the code: n bytes of the text from len on; the first k of them are left, and of these those from m on
 

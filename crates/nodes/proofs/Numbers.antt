@@ -9,7 +9,7 @@ use lib.ListN.{getD}
 use lib.Dec.{eqb}
 use borrow.Author.Tests.{eq-eqb, ne-eqb}
 use Rattle.spec.specs.Bytes.{Bytes}
-use Rattle.spec.specs.Tree.{Forest, nothing, text, comment, element, kidsOf}
+use Rattle.spec.specs.Tree.{Forest, nothing, text, comment, element, kidsOf, «text_of»}
 use Rattle.spec.specs.Out.{Step, keep, push, andThen}
 use Rattle.spec.specs.Md.TextUtils.{«push_normalized_text»}
 use Rattle.spec.specs.Md.Elements.List.{nameOf}
@@ -21,7 +21,7 @@ use Rattle.tree.specs.Nodes.{nameAt, textAt}
 use Rattle.spec.proofs.Order.{le-or-lt}
 use Rattle.tree.proofs.Firsts.{First, first, its-tag, its-body}
 use Rattle.tree.proofs.Kin.{first-name, first-text}
-use Rattle.tree.proofs.Ranges.{total, total-rep, total-on, total-done}
+use Rattle.tree.proofs.Ranges.{total, total-rep, total-on, total-done, text-pieces}
 use Rattle.text.proofs.Writing.{keep-then, then-assoc, push-both}
 use Rattle.nodes.specs.Stands.{Siblings, NodeAt}
 use Rattle.nodes.specs.TextStep.{textStep}
@@ -106,6 +106,34 @@ module _ (sh ns : Bytes) (e i : ℕ) where
   pub pieces-turn : {p : ℕ} {x : Bytes} (t : Bytes) → i < e → p ≡ placeAt ns i → textAt sh p ≡ x
       → push (pieces sh ns e i) t ≡ andThen (push x t) (push (pieces sh ns e (i + 1)))
   pieces-turn {p} {x} t l q h = ap (λ (y : Bytes). push y t) (pieces-on l q h) ∙ push-both x (pieces sh ns e (i + 1)) t
+
+-- a state that goes through a text
+pub record Folds {S : Type 0} (go : S → Bytes → S) : Type 0 where
+  pub none : (x : S) → go x [] ≡ x
+  pub joins : (x : S) (s t : Bytes) → go x (s ++ t) ≡ go (go x s) t
+
+-- a loop that has come to node i in state x: the texts from there on lead where all of them lead from state a
+pub record Carried {S : Type 0} (go : S → Bytes → S) (sh ns : Bytes) (from e : ℕ) (a : S) (i : ℕ) (x : S) : Type 0 where
+  pub later : from ≤ i
+  pub leads : go a (pieces sh ns e from) ≡ go x (pieces sh ns e i)
+
+pub carried-all : {S : Type 0} (go : S → Bytes → S) (sh ns : Bytes) (from e : ℕ) (a : S) → Carried go sh ns from e a from a
+carried-all go sh ns from e a = record { later = omega arith; leads = refl }
+
+module _ {S : Type 0} {go : S → Bytes → S} {sh ns : Bytes} {from e i : ℕ} {a x : S} (c : Carried go sh ns from e a i x) where
+  pub carried-node : Siblings sh ns from e → i < e → NodeAt sh ns i
+  carried-node s l = node-in sh ns i from e s (c .later) l
+
+  module _ (w : Folds go) where
+    pub carried-on : {p : ℕ} {s : Bytes} {y : S} → i < e → p ≡ placeAt ns i → textAt sh p ≡ s → y ≡ go x s → Carried go sh ns from e a (i + 1) y
+    carried-on {p} {s} {y} l q h r =
+        record {
+          later = omega (arith, c .later);
+          leads = c .leads ∙ (ap (go x) (pieces-on sh ns e i l q h) ∙ (w .joins x s (pieces sh ns e (i + 1)) ∙ sym (ap (λ (z : S). go z (pieces sh ns e (i + 1))) r)));
+        }
+
+    pub carried-end : e ≤ i → (parent : ℕ) (f : Forest) → Rep sh ns parent from e f → go a («text_of» f) ≡ x
+    carried-end l parent f h = ap (go a) (text-pieces sh ns parent from e f h) ∙ (c .leads ∙ (ap (go x) (pieces-none sh ns e i l) ∙ w .none x))
 
 -- ---- `write_text`
 

@@ -13,15 +13,10 @@ use Rattle.spec.specs.Bytes.{Bytes, null, every, same, among, unless, whiteSpac
 use Rattle.spec.specs.Md.Elements.List.{continuation}
 use Rattle.text.proofs.WhiteSpace.{long}
 use Rattle.spec.proofs.Tests.{and-l, and-r, allOf, among-yes}
-use Rattle.spec.specs.Tree.{Forest, «text_of»}
-use Rattle.tree.specs.Memory.{placeAt}
-use Rattle.tree.specs.Represents.{Rep}
-use Rattle.tree.specs.Nodes.{textAt}
-use Rattle.tree.proofs.Ranges.{text-pieces}
 use Rattle.nodes.specs.Begun.{held, grown, nextWhite, whiteState, isNothing}
 use Rattle.nodes.specs.declared.white_space.Begun.{Begun}
 use Rattle.nodes.specs.declared.white_space.Begun.the-variants.{Nothing, One, Two, Other}
-use Rattle.nodes.proofs.Numbers.{pieces, pieces-on, pieces-none}
+use Rattle.nodes.proofs.Numbers.{Folds}
 
 -- ---- UTF-8: the first byte of a White_Space character tells how many continuation bytes follow it
 
@@ -154,7 +149,7 @@ state-done x (b ∷ s) n =
     state-done (nextWhite x b) s (next-not x b) ∙ (held-next x b («trim_end» s) ∙ byte-done (held x) b («trim_end» s) n (trimmed-not s))
 
 -- no White_Space is left exactly where every character that is begun has ended as White_Space
-white-space-is : (s : Bytes) → null («trim_end» s) ≡ isNothing (whiteState Nothing s)
+pub white-space-is : (s : Bytes) → null («trim_end» s) ≡ isNothing (whiteState Nothing s)
 unfolding held done
 white-space-is s = sym (state-done Nothing s no-space ∙ rw (trimmed-not s))
 
@@ -164,6 +159,10 @@ state-then : (x : Begun) (s t : Bytes) → whiteState x (s ++ t) ≡ whiteState 
 unfolding whiteState
 state-then x [] t = refl
 state-then x (b ∷ s) t = state-then (nextWhite x b) s t
+
+pub white-folds : Folds whiteState
+unfolding whiteState
+white-folds = record { none = λ x. refl; joins = state-then }
 
 -- ---- one byte more, in the arms of a `match`
 
@@ -202,19 +201,3 @@ pub state-other : (x : Begun) (s : Bytes) → x ≡ Other → whiteState x s ≡
 unfolding whiteState
 state-other x [] e = refl
 state-other x (b ∷ s) e = state-other (nextWhite x b) s (sym (next-other b e)) ∙ (sym (next-other b e) ∙ sym e)
-
--- ---- a loop through the numbers of a range
-
-module _ (sh ns : Bytes) where
-  pub white-turn : (x : Begun) (e i : ℕ) {p : ℕ} {s : Bytes} → i < e → p ≡ placeAt ns i → textAt sh p ≡ s
-      → whiteState x (pieces sh ns e i) ≡ whiteState (whiteState x s) (pieces sh ns e (i + 1))
-  white-turn x e i {p} {s} l q h = ap (whiteState x) (pieces-on sh ns e i l q h) ∙ state-then x s (pieces sh ns e (i + 1))
-
-  pub white-end : (x : Begun) (e i : ℕ) → e ≤ i → whiteState x (pieces sh ns e i) ≡ x
-  unfolding whiteState
-  white-end x e i l = ap (whiteState x) (pieces-none sh ns e i l)
-
-  pub white-numbers : (parent i e : ℕ) (f : Forest) → Rep sh ns parent i e f
-      → null («trim_end» («text_of» f)) ≡ isNothing (whiteState Nothing (pieces sh ns e i))
-  white-numbers parent i e f h =
-      white-space-is («text_of» f) ∙ ap (λ (s : Bytes). isNothing (whiteState Nothing s)) (text-pieces sh ns parent i e f h)

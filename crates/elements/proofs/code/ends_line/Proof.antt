@@ -1,50 +1,42 @@
 -- `elements::code::ends_line` meets its contract. Assumes nothing.
-use Prim.Native.Nat.{_≤_, _-_, _+_}
-use mathlib.Core.Path.{_≡_, refl, sym, ap, _∙_}
-use mathlib.Core.Bool.{Bool, false}
+use Prim.Native.Nat.{_-_}
+use mathlib.Core.Path.{sym, _∙_}
+use mathlib.Core.Bool.{false}
+use Rattle.spec.specs.Tree.{«text_of»}
+use Rattle.nodes.proofs.Numbers.{Carried, carried-all, carried-node, carried-on, carried-end}
 use Rattle.elements.specs.Edges.{endedBy}
-use Rattle.nodes.proofs.Numbers.{node-in, pieces}
-use Rattle.elements.proofs.Edges.{ended-turn, ended-end, ended-numbers}
+use Rattle.elements.proofs.Edges.{ended-folds, ended-plain}
 use borrow.Author.Needs.{needs}
 use native.Mathlib.Omega.{arith}
 use Rattle.elements.proofs.code.ends_line.Statement.{statement}
 use Rattle.elements.proofs.code.ends_line.Tie as tie
 
 abbrev Inv-loop : tie.InvT-loop
-Inv-loop sheet nodes from to ended₀ i₀ ended i = (from ≤ i) × (endedBy false (pieces sheet nodes to from) ≡ endedBy ended (pieces sheet nodes to i))
+Inv-loop sheet nodes from to ended₀ i₀ ended i = Carried endedBy sheet nodes from to false i ended
 
 abbrev μ-loop : tie.MeasureT-loop
 μ-loop sheet nodes from to ended₀ i₀ ended i = to - i
 
 loop-holds : tie.Need-loop-holds Inv-loop μ-loop
 loop-holds c =
-    (omega arith, refl)
+    let a = c .before .before .args in
+    carried-all endedBy (a .sheet .now) (a .nodes .now) (a .from) (a .to) false
 
 node-place-requires : tie.Need-node-place-requires Inv-loop μ-loop
 node-place-requires c κs =
-    let s = c .before .before .before .before in
-    node-in (s .args .sheet .now) (s .args .nodes .now) (c .before .loop .i) (s .args .from) (s .args .to) (s .pre) (c .before .loop .inv .0) (c .loop-test .taken) .inside
+    carried-node (c .before .loop .inv) (c .before .before .before .before .pre) (c .loop-test .taken) .inside
 
 text-at-requires : tie.Need-text-at-requires Inv-loop μ-loop
 text-at-requires c κs =
-    let s = c .before .before .before .before .before in
-    omega (arith, node-in (s .args .sheet .now) (s .args .nodes .now) (c .before .before .loop .i) (s .args .from) (s .args .to) (s .pre) (c .before .before .loop .inv .0) (c .before .loop-test .taken) .placed, c .node-place .ensures)
+    omega (arith, carried-node (c .before .before .loop .inv) (c .before .before .before .before .before .pre) (c .before .loop-test .taken) .placed, c .node-place .ensures)
 
 loop-again : tie.Need-loop-again Inv-loop μ-loop
 loop-again c =
-    let s = c .before .before .before .before .before .before .before .before in
-    let l = c .before .before .before .before .before .loop in (
-      omega arith,
-      l .inv .1 ∙ (ended-turn (s .args .sheet .now) (s .args .nodes .now) (l .ended) (s .args .to) (l .i) (c .before .before .before .before .loop-test .taken) (c .before .before .before .node-place .ensures) (c .before .before .text-at .ensures .bytes-are)
-          ∙ sym (ap (λ (x : Bool). endedBy x (pieces (s .args .sheet .now) (s .args .nodes .now) (s .args .to) (l .i + 1))) (c .ended-by .ensures))),
-    )
+    carried-on (c .before .before .before .before .before .loop .inv) ended-folds (c .before .before .before .before .loop-test .taken) (c .before .before .before .node-place .ensures) (c .before .before .text-at .ensures .bytes-are) (c .ended-by .ensures)
 
 returns : tie.Need-returns Inv-loop μ-loop
 returns c =
-    let s = c .before .before .before .before in
-    let l = c .before .loop in
-    λ parent f h. sym (ended-numbers (s .args .sheet .now) (s .args .nodes .now) parent (s .args .from) (s .args .to) f h
-    ∙ (l .inv .1 ∙ ended-end (s .args .sheet .now) (s .args .nodes .now) (l .ended) (s .args .to) (l .i) (c .loop-test .left)))
+    λ parent f h. sym (ended-plain («text_of» f) ∙ carried-end (c .before .loop .inv) ended-folds (c .loop-test .left) parent f h)
 
 sub-ended-by : tie.Need-sub-ended-by Inv-loop μ-loop
 sub-ended-by c = search needs

@@ -1,52 +1,42 @@
 -- `nodes::nodes::is_white_space` meets its contract. Assumes nothing.
-use Prim.Native.Nat.{_+_, _-_, _≤_}
-use mathlib.Core.Path.{_≡_, refl, sym, ap, _∙_}
+use Prim.Native.Nat.{_-_}
+use mathlib.Core.Path.{sym, ap, _∙_}
+use Rattle.spec.specs.Tree.{«text_of»}
 use Rattle.nodes.specs.Begun.{whiteState, isNothing}
-use Rattle.nodes.specs.declared.white_space.Begun.{Begun}
 use Rattle.nodes.specs.declared.white_space.Begun.the-variants.{Nothing}
-use Rattle.nodes.proofs.Numbers.{node-in, pieces}
-use Rattle.nodes.proofs.Whites.{white-turn, white-end, white-numbers}
+use Rattle.nodes.proofs.Numbers.{Carried, carried-all, carried-node, carried-on, carried-end}
+use Rattle.nodes.proofs.Whites.{white-folds, white-space-is}
 use borrow.Author.Needs.{needs}
 use native.Mathlib.Omega.{arith}
 use Rattle.nodes.proofs.nodes.is_white_space.Statement.{statement}
 use Rattle.nodes.proofs.nodes.is_white_space.Tie as tie
 
 abbrev Inv-loop : tie.InvT-loop
-Inv-loop sheet nodes from to state₀ i₀ state i = (from ≤ i) × (whiteState Nothing (pieces sheet nodes to from) ≡ whiteState state (pieces sheet nodes to i))
+Inv-loop sheet nodes from to state₀ i₀ state i = Carried whiteState sheet nodes from to Nothing i state
 
 abbrev μ-loop : tie.MeasureT-loop
 μ-loop sheet nodes from to state₀ i₀ state i = to - i
 
 loop-holds : tie.Need-loop-holds Inv-loop μ-loop
 loop-holds c =
-    (omega arith, refl)
+    let a = c .before .before .args in
+    carried-all whiteState (a .sheet .now) (a .nodes .now) (a .from) (a .to) Nothing
 
 node-place-requires : tie.Need-node-place-requires Inv-loop μ-loop
 node-place-requires c κs =
-    let s = c .before .before .before .before in
-    node-in (s .args .sheet .now) (s .args .nodes .now) (c .before .loop .i) (s .args .from) (s .args .to) (s .pre) (c .before .loop .inv .0) (c .loop-test .taken) .inside
+    carried-node (c .before .loop .inv) (c .before .before .before .before .pre) (c .loop-test .taken) .inside
 
 text-at-requires : tie.Need-text-at-requires Inv-loop μ-loop
 text-at-requires c κs =
-    let s = c .before .before .before .before .before in
-    omega (arith, node-in (s .args .sheet .now) (s .args .nodes .now) (c .before .before .loop .i) (s .args .from) (s .args .to) (s .pre) (c .before .before .loop .inv .0) (c .before .loop-test .taken) .placed, c .node-place .ensures)
+    omega (arith, carried-node (c .before .before .loop .inv) (c .before .before .before .before .before .pre) (c .before .loop-test .taken) .placed, c .node-place .ensures)
 
 loop-again : tie.Need-loop-again Inv-loop μ-loop
 loop-again c =
-    let s = c .before .before .before .before .before .before .before .before in
-    let l = c .before .before .before .before .before .loop in (
-      omega arith,
-      l .inv .1 ∙ (white-turn (s .args .sheet .now) (s .args .nodes .now) (l .state) (s .args .to) (l .i) (c .before .before .before .before .loop-test .taken) (c .before .before .before .node-place .ensures) (c .before .before .text-at .ensures .bytes-are)
-          ∙ sym (ap (λ (x : Begun). whiteState x (pieces (s .args .sheet .now) (s .args .nodes .now) (s .args .to) (l .i + 1))) (c .white-state .ensures))),
-    )
+    carried-on (c .before .before .before .before .before .loop .inv) white-folds (c .before .before .before .before .loop-test .taken) (c .before .before .before .node-place .ensures) (c .before .before .text-at .ensures .bytes-are) (c .white-state .ensures)
 
 returns : tie.Need-returns Inv-loop μ-loop
 returns c =
-    let s = c .before .before .before .before .before in
-    let l = c .before .before .loop in
-    λ parent f h. c .has-ended .ensures
-    ∙ sym (white-numbers (s .args .sheet .now) (s .args .nodes .now) parent (s .args .from) (s .args .to) f h
-    ∙ ap isNothing (l .inv .1 ∙ white-end (s .args .sheet .now) (s .args .nodes .now) (l .state) (s .args .to) (l .i) (c .before .loop-test .left)))
+    λ parent f h. c .has-ended .ensures ∙ sym (white-space-is («text_of» f) ∙ ap isNothing (carried-end (c .before .before .loop .inv) white-folds (c .before .loop-test .left) parent f h))
 
 sub-white-state : tie.Need-sub-white-state Inv-loop μ-loop
 sub-white-state c = search needs
