@@ -1,4 +1,5 @@
 -- `quay_cases::main` meets its contract. Assumes nothing.
+use Prim.Native.Nat.{ℕ}
 use mathlib.Core.Path.{sym}
 use lib.ListN.{length-replicate}
 use borrow.Author.Needs.{needs}
@@ -9,10 +10,10 @@ buffer-requires : tie.Need-buffer-requires
 buffer-requires c κs = search needs
 
 slice-aggregate-show-all : tie.Need-slice-aggregate-show-all
-slice-aggregate-show-all c = sym (length-replicate 196608 0)
+slice-aggregate-show-all c = sym (length-replicate {A = ℕ} 196608 0)
 
 slice-aggregate-show-all-2 : tie.Need-slice-aggregate-show-all-2
-slice-aggregate-show-all-2 c = sym (length-replicate 4194304 0)
+slice-aggregate-show-all-2 c = sym (length-replicate {A = ℕ} 4194304 0)
 
 slice-aggregate-show-all-3 : tie.Need-slice-aggregate-show-all-3
 slice-aggregate-show-all-3 c = search needs

@@ -1,4 +1,5 @@
 -- `tree_cases::main` meets its contract. Assumes nothing.
+use Prim.Native.Nat.{ℕ}
 use mathlib.Core.Path.{sym}
 use lib.ListN.{length-replicate}
 use borrow.Author.Needs.{needs}
@@ -6,13 +7,13 @@ use Rattle.tree_cases.proofs.main.Statement.{statement}
 use Rattle.tree_cases.proofs.main.Tie as tie
 
 slice-aggregate-run-all-2 : tie.Need-slice-aggregate-run-all-2
-slice-aggregate-run-all-2 c = sym (length-replicate 1048577 0)
+slice-aggregate-run-all-2 c = sym (length-replicate {A = ℕ} 1048577 0)
 
 slice-aggregate-run-all-3 : tie.Need-slice-aggregate-run-all-3
-slice-aggregate-run-all-3 c = sym (length-replicate 4194304 0)
+slice-aggregate-run-all-3 c = sym (length-replicate {A = ℕ} 4194304 0)
 
 slice-aggregate-read-full : tie.Need-slice-aggregate-read-full
-slice-aggregate-read-full c = sym (length-replicate 131072 0)
+slice-aggregate-read-full c = sym (length-replicate {A = ℕ} 131072 0)
 
 read-full-requires : tie.Need-read-full-requires
 read-full-requires c κs = search needs
