@@ -1,7 +1,7 @@
 -- The words of a text that comes in pieces, joined by blanks. Assumes nothing.
 use Prim.Native.Nat.{ℕ, _+_, _≤_, _<_}
 use native.Mathlib.Numerals.{add-one}
-use mathlib.Core.Path.{_≡_, refl, ap, ap₂, _∙_, sym, subst}
+use mathlib.Core.Path.{_≡_, refl, ap, _∙_, sym, subst}
 use mathlib.Core.Bool.{Bool, true, false, cond, not, _&&_, _||_}
 use mathlib.Core.List.{[], _∷_, _++_, append-assoc}
 use lib.ListN.{length, drop, getD, drop-of-length-le}
@@ -9,14 +9,10 @@ use lib.Seq.{drop-cons}
 use Rattle.spec.specs.Bytes.{Bytes, ascii, white, words, split, parts, cutAt, filled, null, join, joinRest}
 use Rattle.spec.specs.Out.{push, andThen}
 use Rattle.spec.specs.Tree.{Forest, «text_of»}
-use Rattle.tree.specs.Memory.{placeAt}
-use Rattle.tree.specs.Nodes.{textAt}
-use Rattle.tree.specs.Represents.{Rep}
-use Rattle.tree.proofs.Ranges.{text-pieces}
 use Rattle.text.proofs.Writing.{push-both}
 use Rattle.elements.specs.JoinedWords.{wordByte, wordsOn, someAfter, gapAfter, Joins}
 use Rattle.elements.specs.declared.pre.Joined.{Joined}
-use Rattle.nodes.proofs.Numbers.{pieces, pieces-on, pieces-none}
+use Rattle.nodes.proofs.Appending.{Spells}
 
 -- ---- all pieces together
 
@@ -49,9 +45,9 @@ on-none gap (b ∷ s) = go (on-none true s) (white b)
     go h true = h
     go h false = ap (λ (x : Bytes). b ∷ x) (on-some s .0)
 
-pub words-numbers : (sh ns : Bytes) (parent i e : ℕ) (f : Forest) → Rep sh ns parent i e f
-    → join (ascii " ") (words («text_of» f)) ≡ wordsOn false false (pieces sh ns e i)
-words-numbers sh ns parent i e f h = ap (λ (x : Bytes). join (ascii " ") (words x)) (text-pieces sh ns parent i e f h) ∙ sym (on-none false (pieces sh ns e i))
+-- the words of all texts of a forest
+pub words-all : (f : Forest) (t : Bytes) → push (join (ascii " ") (words («text_of» f))) t ≡ push (wordsOn false false («text_of» f)) t
+words-all f t = ap (λ (x : Bytes). push x t) (sym (on-none false («text_of» f)))
 
 -- ---- from piece to piece
 
@@ -66,15 +62,13 @@ on-both some gap (b ∷ s) u =
     ap (λ (x : Bytes). wordByte (some && gap) b ++ x) (on-both (some || not (white b)) (white b) s u)
     ∙ sym (append-assoc (wordByte (some && gap) b) (wordsOn (some || not (white b)) (white b) s) _)
 
--- the field of node i stands at p, and its text is x
-pub piece-turn : (sh ns : Bytes) (e i : ℕ) (some gap : Bool) {a b : Bool} {p : ℕ} {x : Bytes} (t : Bytes) → i < e → p ≡ placeAt ns i → textAt sh p ≡ x
-    → a ≡ someAfter some x → b ≡ gapAfter gap x
-    → push (wordsOn some gap (pieces sh ns e i)) t ≡ andThen (push (wordsOn some gap x) t) (push (wordsOn a b (pieces sh ns e (i + 1))))
-piece-turn sh ns e i some gap {a} {b} {p} {x} t l q h u v =
-    ap (λ (y : Bytes). push y t)
-    (ap (wordsOn some gap) (pieces-on sh ns e i l q h) ∙ on-both some gap x (pieces sh ns e (i + 1))
-    ∙ ap₂ (λ (y z : Bool). wordsOn some gap x ++ wordsOn y z (pieces sh ns e (i + 1))) (sym u) (sym v))
-    ∙ push-both (wordsOn some gap x) (wordsOn a b (pieces sh ns e (i + 1))) t
+-- by a state of both
+abbrev pub wordsIn : Bool × Bool → Bytes → Bytes
+wordsIn x s = wordsOn (x .0) (x .1) s
+
+pub words-spell : Spells wordsIn (λ (x : Bool × Bool) (s : Bytes). (someAfter (x .0) s, gapAfter (x .1) s))
+unfolding wordsOn
+words-spell = record { none = λ x. refl; joins = λ x s t. on-both (x .0) (x .1) s t }
 
 -- ---- from byte to byte
 
@@ -111,8 +105,3 @@ module _ (s : Bytes) (i : ℕ) where
     pub gap-end : gapAfter gap (drop i s) ≡ gap
     unfolding gapAfter
     gap-end = ap (gapAfter gap) (drop-of-length-le s l)
-
--- no piece is left
-pub pieces-end : (sh ns : Bytes) (e i : ℕ) (some gap : Bool) (t : Bytes) → e ≤ i → push (wordsOn some gap (pieces sh ns e i)) t ≡ push [] t
-unfolding wordsOn
-pieces-end sh ns e i some gap t l = ap (λ (x : Bytes). push (wordsOn some gap x) t) (pieces-none sh ns e i l)

@@ -1,5 +1,6 @@
 -- What the proofs of several functions use.
 pub mod Numbers
+pub mod Appending
 pub mod Siblings
 pub mod Tests
 pub mod Whites

@@ -10,7 +10,7 @@ use lib.Dec.{eqb}
 use borrow.Author.Tests.{eq-eqb, ne-eqb}
 use Rattle.spec.specs.Bytes.{Bytes}
 use Rattle.spec.specs.Tree.{Forest, nothing, text, comment, element, kidsOf, «text_of»}
-use Rattle.spec.specs.Out.{Step, keep, push, andThen}
+use Rattle.spec.specs.Out.{Step, keep, andThen}
 use Rattle.spec.specs.Md.TextUtils.{«push_normalized_text»}
 use Rattle.spec.specs.Md.Elements.List.{nameOf}
 use Rattle.spec.specs.Md.Elements.Link.{hasElement, «write_text»}
@@ -22,7 +22,7 @@ use Rattle.spec.proofs.Order.{le-or-lt}
 use Rattle.tree.proofs.Firsts.{First, first, its-tag, its-body}
 use Rattle.tree.proofs.Kin.{first-name, first-text}
 use Rattle.tree.proofs.Ranges.{total, total-rep, total-on, total-done, text-pieces}
-use Rattle.text.proofs.Writing.{keep-then, then-assoc, push-both}
+use Rattle.text.proofs.Writing.{keep-then, then-assoc}
 use Rattle.nodes.specs.Stands.{Siblings, NodeAt}
 use Rattle.nodes.specs.TextStep.{textStep}
 
@@ -102,10 +102,6 @@ module _ (sh ns : Bytes) (e i : ℕ) where
 
   pub pieces-none : e ≤ i → pieces sh ns e i ≡ []
   pieces-none l = total-done [] (λ (x y : Bytes). x ++ y) (λ (j : ℕ). textAt sh (placeAt ns j)) i e l
-
-  pub pieces-turn : {p : ℕ} {x : Bytes} (t : Bytes) → i < e → p ≡ placeAt ns i → textAt sh p ≡ x
-      → push (pieces sh ns e i) t ≡ andThen (push x t) (push (pieces sh ns e (i + 1)))
-  pieces-turn {p} {x} t l q h = ap (λ (y : Bytes). push y t) (pieces-on l q h) ∙ push-both x (pieces sh ns e (i + 1)) t
 
 -- a state that goes through a text
 pub record Folds {S : Type 0} (go : S → Bytes → S) : Type 0 where

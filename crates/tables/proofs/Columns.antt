@@ -1,12 +1,14 @@
 -- The cells of a line, one by one. Assumes nothing.
-use Prim.Native.Nat.{ℕ, _+_, _≤_}
+use Prim.Native.Nat.{ℕ, _+_, _≤_, _<_}
 use native.Mathlib.Omega.{arith}
 use mathlib.Core.Path.{_≡_, refl, ap}
 use mathlib.Core.Bool.{Bool, true, false}
 use mathlib.Core.List.{List, [], _∷_, _++_}
-use lib.ListN.{length, take, drop, length-append}
+use lib.ListN.{length, take, drop, set, length-append}
+use lib.Seq.{drop-set-lt}
 use Rattle.spec.specs.Bytes.{Bytes}
 use Rattle.tables.specs.Puts.{Puts, bar, bars}
+use Rattle.tables.specs.Spans.{cuts}
 use Rattle.tables.specs.Columns.{column, columns}
 use Rattle.tables.proofs.Putting.{Due, due-room, due-on, puts-as, puts-behind, length-bar}
 use Rattle.tables.proofs.Cutting.{cuts-first, cuts-none, unders-first, unders-none}
@@ -24,6 +26,12 @@ columns-none false s e = cuts-none s e
 column-as : (under : Bool) (n : ℕ) {s t : Bytes} → (under ≡ false → s ≡ t) → column under n s ≡ column under n t
 column-as true n h = refl
 column-as false n h = ap (take n) (h refl)
+
+-- the same behind another byte
+pub columns-behind : (under : Bool) (l : List ℕ) (src len b : ℕ) (d : Bytes) → (under ≡ false → len < src)
+    → columns under l (drop src (set d len b)) ≡ columns under l (drop src d)
+columns-behind true l src len b d h = refl
+columns-behind false l src len b d h = ap (cuts l) (drop-set-lt src d len b (h refl))
 
 -- the cell of the first length, where the line ends before the texts
 module _ (under : Bool) {l m : List ℕ} {n : ℕ} (e : l ≡ n ∷ m) {a b : Bytes} {len end : ℕ} (at : ℕ) {whole : Bytes}

@@ -125,6 +125,29 @@ fn put_columns(
     end
 }
 
+// Puts a line of a row: its cells up to number `to`, as `put_columns` does, and then so many cells of the byte `fill`.
+fn put_line(
+    sheet: &[u8],
+    nodes: &[u8],
+    text: &mut [u8],
+    len: usize,
+    row: usize,
+    to: usize,
+    src: usize,
+    under: bool,
+    fill: u8,
+    blanks: usize,
+) -> usize
+    requires { ⌜ Kids (now sheet) (now nodes) row to × (len + length (bars (columns under (lengthsTo (now sheet) (now nodes) row to) (drop src (now text)))) + 4 * blanks + 2 ≤ length (now text)) × (src + sum (lengthsTo (now sheet) (now nodes) row to) ≤ length (now text)) × (under ≡ false → len + length (bars (columns under (lengthsTo (now sheet) (now nodes) row to) (drop src (now text)))) + 2 ≤ src) ⌝ }
+    ensures { λ r. ⌜ Puts (now (text .entry)) (now (text .exit)) len r (barLine (columns under (lengthsTo (now (sheet .entry)) (now (nodes .entry)) row to) (drop src (now (text .entry))) ++ replicate blanks (fill ∷ []))) ⌝ }
+{
+    text[len] = b'|';
+    let a = put_columns(sheet, nodes, text, len + 1, row, to, src, under);
+    let b = put_byte_cells(text, a, fill, blanks);
+    text[b] = b'\n';
+    b + 1
+}
+
 // Puts the line of a row, with the cells up to number `to` and then so many blank ones.
 fn put_row(
     sheet: &[u8],
@@ -139,11 +162,7 @@ fn put_row(
     requires { ⌜ Kids (now sheet) (now nodes) row to × (len + sum (lengthsTo (now sheet) (now nodes) row to) + 3 * length (lengthsTo (now sheet) (now nodes) row to) + 4 * blanks + 2 ≤ src) × (src + sum (lengthsTo (now sheet) (now nodes) row to) ≤ length (now text)) ⌝ }
     ensures { λ r. ⌜ Puts (now (text .entry)) (now (text .exit)) len r (barLine (cuts (lengthsTo (now (sheet .entry)) (now (nodes .entry)) row to) (drop src (now (text .entry))) ++ replicate blanks (32 ∷ []))) ⌝ }
 {
-    text[len] = 124;
-    let a = put_columns(sheet, nodes, text, len + 1, row, to, src, false);
-    let b = put_byte_cells(text, a, 32, blanks);
-    text[b] = 10;
-    b + 1
+    put_line(sheet, nodes, text, len, row, to, src, false, b' ', blanks)
 }
 
 // Puts the line under the headings.
@@ -159,11 +178,7 @@ fn put_rule(
     requires { ⌜ Kids (now sheet) (now nodes) row to × (len + sum (lengthsTo (now sheet) (now nodes) row to) + zeros (lengthsTo (now sheet) (now nodes) row to) + 3 * length (lengthsTo (now sheet) (now nodes) row to) + 4 * blanks + 2 ≤ length (now text)) ⌝ }
     ensures { λ r. ⌜ Puts (now (text .entry)) (now (text .exit)) len r (barLine (unders (lengthsTo (now (sheet .entry)) (now (nodes .entry)) row to) ++ replicate blanks (45 ∷ []))) ⌝ }
 {
-    text[len] = 124;
-    let a = put_columns(sheet, nodes, text, len + 1, row, to, 0, true);
-    let b = put_byte_cells(text, a, 45, blanks);
-    text[b] = 10;
-    b + 1
+    put_line(sheet, nodes, text, len, row, to, 0, true, b'-', blanks)
 }
 
 // Puts the lines of the rows that have cells; the cells' texts stand at `src`.

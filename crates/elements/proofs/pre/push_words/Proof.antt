@@ -1,14 +1,12 @@
 -- `elements::pre::push_words` meets its contract. Assumes nothing.
-use Prim.Native.Nat.{_+_, _-_, _≤_}
-use mathlib.Core.Path.{refl, ap}
-use mathlib.Core.Bool.{false}
+use Prim.Native.Nat.{_-_}
+use mathlib.Core.Path.{refl, ap, ap₂}
+use mathlib.Core.Bool.{Bool, false}
 use lib.ListN.{length, take}
-use Rattle.spec.specs.Bytes.{Bytes}
-use Rattle.spec.specs.Out.{push}
-use Rattle.text.proofs.Writing.{Owes, owes-all, owes-step, owes-stop, owes-nothing, alike}
-use Rattle.elements.specs.JoinedWords.{wordsOn, wroteOf}
-use Rattle.nodes.proofs.Numbers.{node-in, pieces}
-use Rattle.elements.proofs.Joining.{joins-as, words-numbers, piece-turn, pieces-end}
+use Rattle.text.proofs.Writing.{alike}
+use Rattle.elements.specs.JoinedWords.{wroteOf}
+use Rattle.nodes.proofs.Appending.{Appends, appends-all, appends-node, appends-on, appends-stop, appends-end}
+use Rattle.elements.proofs.Joining.{joins-as, wordsIn, words-spell, words-all}
 use borrow.Author.Needs.{needs}
 use native.Mathlib.Omega.{arith}
 use Rattle.elements.proofs.pre.push_words.Statement.{statement}
@@ -16,7 +14,7 @@ use Rattle.elements.proofs.pre.push_words.Tie as tie
 
 abbrev Inv-loop : tie.InvT-loop
 Inv-loop sheet nodes text₀ len from to n₀ some₀ gap₀ i₀ text n some gap i =
-    (from ≤ i) × Owes (length text₀) text n (push (wordsOn some gap (pieces sheet nodes to i))) (push (wordsOn false false (pieces sheet nodes to from)) (take len text₀))
+    Appends wordsIn sheet nodes from to (false, false) (take len text₀) (length text₀) text n i (some, gap)
 
 abbrev μ-loop : tie.MeasureT-loop
 μ-loop sheet nodes text₀ len from to n₀ some₀ gap₀ i₀ text n some gap i = to - i
@@ -24,48 +22,33 @@ abbrev μ-loop : tie.MeasureT-loop
 loop-holds : tie.Need-loop-holds Inv-loop μ-loop
 loop-holds c =
     let a = c .before .before .before .args in
-    (omega arith, owes-all (a .text .now) (a .len) (push (wordsOn false false (pieces (a .sheet .now) (a .nodes .now) (a .to) (a .from)))) (c .before .before .before .pre .1) refl)
+    appends-all wordsIn (a .sheet .now) (a .nodes .now) (a .from) (a .to) (false, false) (a .text .now) (a .len) (c .before .before .before .pre .1)
 
 node-place-requires : tie.Need-node-place-requires Inv-loop μ-loop
 node-place-requires c κs =
-    let s = c .before .before .before .before .before in
-    node-in (s .args .sheet .now) (s .args .nodes .now) (c .before .loop .i) (s .args .from) (s .args .to) (s .pre .0) (c .before .loop .inv .0) (c .loop-test .taken) .inside
+    appends-node (c .before .loop .inv) (c .before .before .before .before .before .pre .0) (c .loop-test .taken) .inside
 
 text-at-requires : tie.Need-text-at-requires Inv-loop μ-loop
 text-at-requires c κs =
-    let s = c .before .before .before .before .before .before in
-    omega (arith, node-in (s .args .sheet .now) (s .args .nodes .now) (c .before .before .loop .i) (s .args .from) (s .args .to) (s .pre .0) (c .before .before .loop .inv .0) (c .before .loop-test .taken) .placed, c .node-place .ensures)
+    omega (arith, appends-node (c .before .before .loop .inv) (c .before .before .before .before .before .before .pre .0) (c .before .loop-test .taken) .placed, c .node-place .ensures)
 
 join-words-requires : tie.Need-join-words-requires Inv-loop μ-loop
 join-words-requires c κs =
-    c .before .before .before .before .before .loop .inv .1 .reach
+    c .before .before .before .before .before .loop .inv .owes .reach
 
 returns : tie.Need-returns Inv-loop μ-loop
 returns c =
-    let a = c .before .before .before .before .before .before .before .before .before .before .before .before .before .before .args in
-    let l = c .before .before .before .before .before .before .before .before .before .before .loop in
-    λ parent f h. alike (ap (λ (x : Bytes). push x (take (a .len) (a .text .now))) (words-numbers (a .sheet .now) (a .nodes .now) parent (a .from) (a .to) f h))
-    (owes-stop (l .inv .1) (push (wordsOn (l .some) (l .gap) _)) (push (wordsOn _ _ (pieces (a .sheet .now) (a .nodes .now) (a .to) (l .i + 1))))
-    (piece-turn (a .sheet .now) (a .nodes .now) (a .to) (l .i) (l .some) (l .gap) (take (l .n) (l .text)) (c .before .before .before .before .before .before .before .before .before .loop-test .taken) (c .before .before .before .before .before .before .before .before .node-place .ensures) (c .before .before .before .before .before .before .before .text-at .ensures .bytes-are) refl refl)
-    (ap wroteOf (c .enum-told .given .1)) (c .before .before .before .before .join-words .ensures .writes))
+    λ parent f h. alike (words-all f _)
+    (appends-stop (c .before .before .before .before .before .before .before .before .before .before .loop .inv) words-spell (c .before .before .before .before .before .before .before .before .before .loop-test .taken) (c .before .before .before .before .before .before .before .before .node-place .ensures) (c .before .before .before .before .before .before .before .text-at .ensures .bytes-are) (ap wroteOf (c .enum-told .given .1)) (c .before .before .before .before .join-words .ensures .writes) parent f h)
 
 loop-again : tie.Need-loop-again Inv-loop μ-loop
 loop-again c =
-    let a = c .before .before .before .before .before .before .before .before .before .before .before .before .before .before .before .args in
-    let l = c .before .before .before .before .before .before .before .before .before .before .before .loop in
-    let j = joins-as (c .before .m .given .1) (c .before .before .before .before .before .join-words .ensures) in (
-      omega arith,
-      owes-step (l .inv .1) (push (wordsOn (l .some) (l .gap) _)) (push (wordsOn _ _ (pieces (a .sheet .now) (a .nodes .now) (a .to) (l .i + 1))))
-          (piece-turn (a .sheet .now) (a .nodes .now) (a .to) (l .i) (l .some) (l .gap) (take (l .n) (l .text)) (c .before .before .before .before .before .before .before .before .before .before .loop-test .taken) (c .before .before .before .before .before .before .before .before .before .node-place .ensures) (c .before .before .before .before .before .before .before .before .text-at .ensures .bytes-are) (j .state .0) (j .state .1))
-          refl (j .writes),
-    )
+    let j = joins-as (c .before .m .given .1) (c .before .before .before .before .before .join-words .ensures) in
+    appends-on (c .before .before .before .before .before .before .before .before .before .before .before .loop .inv) words-spell (c .before .before .before .before .before .before .before .before .before .before .loop-test .taken) (c .before .before .before .before .before .before .before .before .before .node-place .ensures) (c .before .before .before .before .before .before .before .before .text-at .ensures .bytes-are) (ap₂ (λ (x y : Bool). (x, y)) (j .state .0) (j .state .1)) refl (j .writes)
 
 returns-2 : tie.Need-returns-2 Inv-loop μ-loop
 returns-2 c =
-    let a = c .before .before .before .before .before .args in
-    let l = c .before .loop in
-    λ parent f h. alike (ap (λ (x : Bytes). push x (take (a .len) (a .text .now))) (words-numbers (a .sheet .now) (a .nodes .now) parent (a .from) (a .to) f h))
-    (owes-nothing (l .inv .1) (pieces-end (a .sheet .now) (a .nodes .now) (a .to) (l .i) (l .some) (l .gap) (take (l .n) (l .text)) (c .loop-test .left)))
+    λ parent f h. alike (words-all f _) (appends-end (c .before .loop .inv) words-spell (c .loop-test .left) parent f h)
 
 sub-join-words : tie.Need-sub-join-words Inv-loop μ-loop
 sub-join-words c = search needs

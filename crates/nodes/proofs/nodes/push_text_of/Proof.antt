@@ -1,68 +1,55 @@
 -- `nodes::nodes::push_text_of` meets its contract. Assumes nothing.
-use Prim.Native.Nat.{_+_, _-_, _≤_}
-use mathlib.Core.Path.{refl, ap}
+use Prim.Native.Nat.{_-_}
+use mathlib.Core.Path.{refl}
 use lib.ListN.{length, take}
 use Rattle.spec.specs.Bytes.{Bytes}
-use Rattle.spec.specs.Out.{push}
-use Rattle.tree.proofs.Ranges.{text-pieces}
-use Rattle.text.proofs.Writing.{Owes, owes-all, owes-step, owes-stop, owes-nothing, alike}
-use Rattle.nodes.proofs.Numbers.{node-in, pieces, pieces-turn, pieces-none}
+use Rattle.nodes.proofs.Appending.{Spells, Appends, appends-all, appends-node, appends-on, appends-stop, appends-end}
 use borrow.Author.Needs.{needs}
 use native.Mathlib.Omega.{arith}
 use Rattle.nodes.proofs.nodes.push_text_of.Statement.{statement}
 use Rattle.nodes.proofs.nodes.push_text_of.Tie as tie
 
+-- each text appends itself, in one state
+abbrev itself : Unit {0} → Bytes → Bytes
+itself x s = s
+
+spells : Spells itself (λ (x : Unit {0}) (s : Bytes). x)
+spells = record { none = λ x. refl; joins = λ x s t. refl }
+
 abbrev Inv-loop : tie.InvT-loop
-Inv-loop sheet nodes text₀ len from to n₀ i₀ text n i =
-    (from ≤ i) × Owes (length text₀) text n (push (pieces sheet nodes to i)) (push (pieces sheet nodes to from) (take len text₀))
+Inv-loop sheet nodes text₀ len from to n₀ i₀ text n i = Appends itself sheet nodes from to tt (take len text₀) (length text₀) text n i tt
 
 abbrev μ-loop : tie.MeasureT-loop
 μ-loop sheet nodes text₀ len from to n₀ i₀ text n i = to - i
 
 loop-holds : tie.Need-loop-holds Inv-loop μ-loop
 loop-holds c =
-    let s = c .before .before .before in
-    (omega arith, owes-all (s .args .text .now) (s .args .len) (push (pieces (s .args .sheet .now) (s .args .nodes .now) (s .args .to) (s .args .from))) (s .pre .1) refl)
+    let a = c .before .before .before .args in
+    appends-all itself (a .sheet .now) (a .nodes .now) (a .from) (a .to) tt (a .text .now) (a .len) (c .before .before .before .pre .1)
 
 node-place-requires : tie.Need-node-place-requires Inv-loop μ-loop
 node-place-requires c κs =
-    let s = c .before .before .before .before .before in
-    node-in (s .args .sheet .now) (s .args .nodes .now) (c .before .loop .i) (s .args .from) (s .args .to) (s .pre .0) (c .before .loop .inv .0) (c .loop-test .taken) .inside
+    appends-node (c .before .loop .inv) (c .before .before .before .before .before .pre .0) (c .loop-test .taken) .inside
 
 text-at-requires : tie.Need-text-at-requires Inv-loop μ-loop
 text-at-requires c κs =
-    let s = c .before .before .before .before .before .before in
-    omega (arith, node-in (s .args .sheet .now) (s .args .nodes .now) (c .before .before .loop .i) (s .args .from) (s .args .to) (s .pre .0) (c .before .before .loop .inv .0) (c .before .loop-test .taken) .placed, c .node-place .ensures)
+    omega (arith, appends-node (c .before .before .loop .inv) (c .before .before .before .before .before .before .pre .0) (c .before .loop-test .taken) .placed, c .node-place .ensures)
 
 push-all-requires : tie.Need-push-all-requires Inv-loop μ-loop
 push-all-requires c κs =
-    c .before .before .before .before .before .loop .inv .1 .reach
+    c .before .before .before .before .before .loop .inv .owes .reach
 
 returns : tie.Need-returns Inv-loop μ-loop
 returns c =
-    let s = c .before .before .before .before .before .before .before .before .before .before .before .before .before .before in
-    let l = c .before .before .before .before .before .before .before .before .before .before .loop in
-    λ parent f h. alike (ap (λ (x : Bytes). push x (take (s .args .len) (s .args .text .now))) (text-pieces (s .args .sheet .now) (s .args .nodes .now) parent (s .args .from) (s .args .to) f h))
-    (owes-stop (l .inv .1) (push _) (push (pieces (s .args .sheet .now) (s .args .nodes .now) (s .args .to) (l .i + 1)))
-    (pieces-turn (s .args .sheet .now) (s .args .nodes .now) (s .args .to) (l .i) (take (l .n) (l .text)) (c .before .before .before .before .before .before .before .before .before .loop-test .taken) (c .before .before .before .before .before .before .before .before .node-place .ensures) (c .before .before .before .before .before .before .before .text-at .ensures .bytes-are))
-    (c .enum-told .given .1) (c .before .before .before .before .push-all .ensures))
+    appends-stop (c .before .before .before .before .before .before .before .before .before .before .loop .inv) spells (c .before .before .before .before .before .before .before .before .before .loop-test .taken) (c .before .before .before .before .before .before .before .before .node-place .ensures) (c .before .before .before .before .before .before .before .text-at .ensures .bytes-are) (c .enum-told .given .1) (c .before .before .before .before .push-all .ensures)
 
 loop-again : tie.Need-loop-again Inv-loop μ-loop
 loop-again c =
-    let s = c .before .before .before .before .before .before .before .before .before .before .before .before .before .before .before in
-    let l = c .before .before .before .before .before .before .before .before .before .before .before .loop in (
-      omega arith,
-      owes-step (l .inv .1) (push _) (push (pieces (s .args .sheet .now) (s .args .nodes .now) (s .args .to) (l .i + 1)))
-          (pieces-turn (s .args .sheet .now) (s .args .nodes .now) (s .args .to) (l .i) (take (l .n) (l .text)) (c .before .before .before .before .before .before .before .before .before .before .loop-test .taken) (c .before .before .before .before .before .before .before .before .before .node-place .ensures) (c .before .before .before .before .before .before .before .before .text-at .ensures .bytes-are))
-          (c .before .m .given .1) (c .before .before .before .before .before .push-all .ensures),
-    )
+    appends-on (c .before .before .before .before .before .before .before .before .before .before .before .loop .inv) spells (c .before .before .before .before .before .before .before .before .before .before .loop-test .taken) (c .before .before .before .before .before .before .before .before .before .node-place .ensures) (c .before .before .before .before .before .before .before .before .text-at .ensures .bytes-are) refl (c .before .m .given .1) (c .before .before .before .before .before .push-all .ensures)
 
 returns-2 : tie.Need-returns-2 Inv-loop μ-loop
 returns-2 c =
-    let s = c .before .before .before .before .before in
-    let l = c .before .loop in
-    λ parent f h. alike (ap (λ (x : Bytes). push x (take (s .args .len) (s .args .text .now))) (text-pieces (s .args .sheet .now) (s .args .nodes .now) parent (s .args .from) (s .args .to) f h))
-    (owes-nothing (l .inv .1) (ap (λ (x : Bytes). push x (take (l .n) (l .text))) (pieces-none (s .args .sheet .now) (s .args .nodes .now) (s .args .to) (l .i) (c .loop-test .left))))
+    appends-end (c .before .loop .inv) spells (c .loop-test .left)
 
 sub-push-all : tie.Need-sub-push-all Inv-loop μ-loop
 sub-push-all c = search needs
