@@ -14,7 +14,7 @@ same-length c = search needs
 returns : tie.Need-returns
 unfolding plainStep
 returns c =
-    before-temp (c .before .before .before .before .pre .1) (c .before .before .push-normalized-own .ensures)
+    before-temp (c .before .before .before .before .before .pre .1) (c .before .before .push-normalized-own .ensures)
 
 pub push-plain-spec : {M : Type 1} → statement M
 push-plain-spec = tie.close (tie.spec push-normalized-own-requires same-length returns)
