@@ -6,3 +6,4 @@ pub mod Starting
 pub mod Streaming
 pub mod Blocks
 pub mod Normal
+pub mod OwnCopy

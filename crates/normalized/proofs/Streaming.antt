@@ -1,11 +1,11 @@
 -- How a flow is appended: its bytes one by one, and plain bytes at once. Assumes nothing.
 use Prim.Native.Nat.{ℕ, _+_, _-_, _≤_, _<_}
-use mathlib.Core.Path.{_≡_, refl, sym, ap, ap₂, _∙_}
+use mathlib.Core.Path.{_≡_, refl, sym, ap, ap₂, subst, _∙_}
 use mathlib.Core.Bool.{Bool, true, false, cond, not, _&&_}
 use mathlib.Core.List.{List, [], _∷_, _++_, append-nil}
 use native.Mathlib.Omega.{arith}
 use lib.ListN.{length, take, drop, getD, length-drop, take-append-drop}
-use lib.Seq.{slice, slice-cons, slice-empty, drop-drop}
+use lib.Seq.{slice, slice-cons, slice-empty, length-slice, drop-drop}
 use Rattle.spec.specs.Bytes.{ascii, white}
 use Rattle.spec.specs.Out.{Out, andThen, push}
 use Rattle.spec.specs.Md.TextUtils.{isEscaped}
@@ -15,7 +15,7 @@ use Rattle.text.specs.Source.{WritesIn}
 use Rattle.text.specs.declared.buffer.Wrote.{Wrote}
 use Rattle.text.specs.declared.buffer.Wrote.the-variants.{Done, Full}
 use Rattle.text.proofs.Reading.{drop-take}
-use Rattle.text.proofs.Sourcing.{Still, OwesIn, owed-as, owed-step, owed-stop, slice-kept, getD-kept, part-none, slice-on}
+use Rattle.text.proofs.Sourcing.{Still, OwesIn, owed-all, owed-as, owed-step, owed-stop, slice-kept, getD-kept, part-is, part-none, slice-on}
 use Rattle.normalized.proofs.Wording.{slice-front}
 use Rattle.normalized.proofs.Flowing.{flows-flow, flow-split}
 
@@ -125,10 +125,33 @@ module _ {base : ℕ} {text now : List ℕ} (escape : Bool) (h : base ≤ length
   pub own-bytes : (i j : ℕ) → flowBefore escape (slice i j (drop base text)) (slice j (length (drop base text)) (drop base text)) ≡ flowBefore escape (slice (base + i) (base + j) now) (slice (base + j) (length now) now)
   own-bytes i j = ap₂ (λ (x y : List ℕ). flowBefore escape x y) (here i j) (rest-here j)
 
-  pub own-flow : (i : ℕ) → base + i ≤ length text → flow escape (slice i (length (drop base text)) (drop base text)) ≡ flowBefore escape (slice (base + i) (length text) now) (slice (length text) (length now) now)
-  own-flow i k =
-      ap (flow escape) (rest-here i) ∙ flow-bytes now escape (base + i) (omega (arith, q .long))
-      ∙ ap (λ (j : ℕ). flowBefore escape (slice (base + i) j now) (slice j (length now) now)) (q .long)
+  pub own-flow : (i : ℕ) → flow escape (slice i (length (drop base text)) (drop base text)) ≡ flow escape (slice (base + i) (length now) now)
+  own-flow i = ap (flow escape) (rest-here i)
+
+  -- the bytes from i on, one by one
+  pub own-rest : (i : ℕ) → base ≤ i → i ≤ length text → flow escape (slice i (length text) text) ≡ flowBefore escape (slice i (length text) now) (slice (length text) (length now) now)
+  own-rest i k l =
+      ap (flow escape) (sym (ap (λ (j : ℕ). slice i j now) (q .long) ∙ slice-kept q i (length text) k))
+      ∙ flow-bytes now escape i (omega (arith, q .long))
+      ∙ ap (λ (j : ℕ). flowBefore escape (slice i j now) (slice j (length now) now)) (q .long)
+
+-- k plain bytes of it at once, where `&text[from..]` was tested
+module _ {base len from k : ℕ} (d : List ℕ) (escape : Bool) (h : len ≤ base) (b : base ≤ from) (g : from ≤ length d) (f : Flows escape (take (length d - from) (drop from d)) k) where
+  flows : Flows escape (slice from (length d) d) k
+  flows = subst (λ (x : List ℕ). Flows escape x k) (part-is from (length d) d) f
+
+  pub plain-fits : from + k ≤ length d
+  plain-fits = omega (arith, flows .within, length-slice from (length d) d (omega arith))
+
+  module _ {mid : List ℕ} {r : Wrote} (w : WritesIn base d mid r (push (slice from (from + k) d) (take len d))) where
+    owed : OwesIn base d d len (push (flow escape (slice from (length d) d))) (push (flow escape (slice from (length d) d)) (take len d))
+    owed = owed-all base d len (push (flow escape (slice from (length d) d))) h (omega arith) refl
+
+    pub plain-go : {n : ℕ} → r ≡ Done n → OwesIn base d mid n (push (flow escape (slice (from + k) (length d) d))) (push (flow escape (slice from (length d) d)) (take len d))
+    plain-go q = owed-step owed (push (slice from (from + k) d)) (push (flow escape (slice (from + k) (length d) d))) (plain-turn d escape (take len d) from k plain-fits flows) q w
+
+    pub plain-stop : r ≡ Full → WritesIn base d mid Full (push (flow escape (slice from (length d) d)) (take len d))
+    plain-stop q = owed-stop owed (push (slice from (from + k) d)) (push (flow escape (slice (from + k) (length d) d))) (plain-turn d escape (take len d) from k plain-fits flows) q w
 
 -- y is appended in other words, and z is left
 module _ {room n : ℕ} {d mid after : List ℕ} {whole : Out} {r : Wrote} {x y : List ℕ} (z : List ℕ) (e : x ≡ y) (o : OwesIn room d mid n (push (x ++ z)) whole) (w : WritesIn room mid after r (push y (take n mid))) where

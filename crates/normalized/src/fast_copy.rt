@@ -33,7 +33,7 @@ fn is_plain(escape: bool, b: u8, next: u8) -> bool
 }
 
 // The same for the 16 bytes at `at`, without an early exit, so that they can be tested at once.
-fn is_plain_block(s: &[u8], at: usize, escape: bool) -> bool
+fn are_plain(s: &[u8], at: usize, escape: bool) -> bool
     requires { ⌜ at + 17 ≤ length (now s) ⌝ }
     ensures { λ r. ⌜ (r ≡ true → (i : ℕ) → at ≤ i → i < at + 16 → Plain escape (now (s .entry)) i) ⌝ }
 {
@@ -44,6 +44,18 @@ fn is_plain_block(s: &[u8], at: usize, escape: bool) -> bool
         i += 1;
     }
     all
+}
+
+// The same, with a constant flag in each call: where nothing is escaped, the compiler drops the tests for signs.
+fn is_plain_block(s: &[u8], at: usize, escape: bool) -> bool
+    requires { ⌜ at + 17 ≤ length (now s) ⌝ }
+    ensures { λ r. ⌜ (r ≡ true → (i : ℕ) → at ≤ i → i < at + 16 → Plain escape (now (s .entry)) i) ⌝ }
+{
+    if escape {
+        are_plain(s, at, true)
+    } else {
+        are_plain(s, at, false)
+    }
 }
 
 // The same for the first n of the 16 bytes. The count is a byte, so that it is compared with 16 places at once.

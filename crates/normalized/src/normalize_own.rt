@@ -1,5 +1,5 @@
-// push_normalized_text for a text that stands in the text's own memory, from `base` on: byte by byte, since the memory can not be
-// lent twice at once. What is written stays before `base`.
+// push_normalized_text for a text that stands in the text's own memory, from `base` on: plain bytes at its beginning at once, the
+// others one by one, since the memory can not be lent twice at once. What is written stays before `base`.
 ghost use mathlib.Core.Bool.{cond};
 ghost use mathlib.Core.List.{[], _∷_, _++_};
 ghost use Prim.Native.Nat.{_+_, _≤_, _<_};
@@ -8,9 +8,10 @@ ghost use lib.Seq.{slice};
 ghost use Rattle.spec.specs.Bytes.{ascii};
 ghost use Rattle.spec.specs.Out.{push};
 ghost use Rattle.spec.specs.Md.TextUtils as def;
-ghost use Rattle.text.specs.Flow.{added, flowBefore};
+ghost use Rattle.text.specs.Flow.{added, flow, flowBefore};
 ghost use Rattle.text.specs.Source.{WritesIn};
 ghost use Rattle.normalized.specs.Layout.{front, Laid};
+use crate::fast_copy::plain_blocks;
 use crate::layout::Layout;
 use crate::layout::lay_out;
 use crate::normalize::next_of;
@@ -76,6 +77,35 @@ fn push_own_bytes(
     Wrote::Done(n)
 }
 
+// Appends the n bytes at `from` as they are.
+fn put_own(text: &mut [u8], base: usize, len: usize, from: usize, n: usize) -> Wrote
+    requires { ⌜ (len ≤ base) × (base ≤ from) × (from + n ≤ length (now text)) ⌝ }
+    ensures { λ r. ⌜ WritesIn base (now (text .entry)) (now (text .exit)) r (push (slice from (from + n) (now (text .entry))) (take len (now (text .entry)))) ⌝ }
+{
+    if base - len < n {
+        return Wrote::Full;
+    }
+    let mut i = 0;
+    while i < n {
+        text[len + i] = text[from + i];
+        i += 1;
+    }
+    Wrote::Done(len + n)
+}
+
+// Appends what the bytes from `from` on add.
+fn push_own_flow(text: &mut [u8], base: usize, len: usize, from: usize, escape: bool) -> Wrote
+    requires { ⌜ (len ≤ base) × (base ≤ from) × (from ≤ length (now text)) ⌝ }
+    ensures { λ r. ⌜ WritesIn base (now (text .entry)) (now (text .exit)) r (push (flow escape (slice from (length (now (text .entry))) (now (text .entry)))) (take len (now (text .entry)))) ⌝ }
+{
+    let to = text.len();
+    let k = plain_blocks(&text[from..to], escape);
+    match put_own(text, base, len, from, k) {
+        Wrote::Done(n) => push_own_bytes(text, base, n, from + k, to, escape),
+        Wrote::Full => Wrote::Full,
+    }
+}
+
 // Appends what stands before the byte at `mark`.
 fn push_own_front(text: &mut [u8], base: usize, len: usize, l: Layout, escape: bool) -> Wrote
     requires { ⌜ (len ≤ base) × (l .at ≤ l .mark) × (base + l .mark ≤ length (now text)) ⌝ }
@@ -109,11 +139,10 @@ pub fn push_normalized_own(text: &mut [u8], base: usize, len: usize, opts: Forma
 {
     let l = lay_out_own(text, base, len, opts);
     let from = base + l.mark;
-    let to = text.len();
     let last = l.last;
     let escape = !opts.skip_escape;
     match push_own_front(text, base, len, l, escape) {
-        Wrote::Done(n) => match push_own_bytes(text, base, n, from, to, escape) {
+        Wrote::Done(n) => match push_own_flow(text, base, n, from, escape) {
             Wrote::Done(m) => put_if(text, base, m, b' ', last),
             Wrote::Full => Wrote::Full,
         },

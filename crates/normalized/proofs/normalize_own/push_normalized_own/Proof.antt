@@ -29,13 +29,13 @@ push-own-front-requires c κs =
 enum-known-n : tie.Need-enum-known-n
 enum-known-n c = search needs
 
-push-own-bytes-requires : tie.Need-push-own-bytes-requires
-push-own-bytes-requires c κs =
+push-own-flow-requires : tie.Need-push-own-flow-requires
+push-own-flow-requires c κs =
     let a = c .before .before .before .before .before .before .before .before .before .before .before .before .before .args in
     let d = a .text .now in
     let x = front (not (a .opts .«skip_escape»)) (drop (a .base) d) (c .before .before .before .before .before .before .before .before .before .before .lay-out-own .result) in
     let o = pair-go (c .before .before .before .before .before .before .before .before .before .before .before .before .before .pre .0) (c .before .before .before .before .before .before .before .before .before .before .before .before .before .pre .1) x [] (c .before .before .before .before .before .before .push-own-front .ensures) (c .before .before .n .given .1) in
-    (owed-reach o, omega arith, omega (arith, c .before .before .before .before .before .before .before .before .before .before .before .before .before .pre .1, c .before .before .before .before .before .before .before .before .before .before .lay-out-own .ensures .within, length-drop (a .base) d), omega (arith, o .still .long))
+    (owed-reach o, omega arith, omega (arith, c .before .before .before .before .before .before .before .before .before .before .before .before .before .pre .1, c .before .before .before .before .before .before .before .before .before .before .lay-out-own .ensures .within, length-drop (a .base) d, o .still .long))
 
 enum-known-m : tie.Need-enum-known-m
 enum-known-m c = search needs
@@ -49,9 +49,8 @@ put-if-requires c κs =
     let escape = not (a .opts .«skip_escape») in
     let x = front escape s l in
     let y = flow escape (slice (l .mark) (length s) s) in
-    let high : a .base + l .mark ≤ length d = omega (arith, c .before .before .before .before .before .before .before .before .before .before .before .before .before .before .before .before .before .before .before .before .pre .1, c .before .before .before .before .before .before .before .before .before .before .before .before .before .before .before .before .before .lay-out-own .ensures .within, length-drop (a .base) d) in
     let o = pair-go (c .before .before .before .before .before .before .before .before .before .before .before .before .before .before .before .before .before .before .before .before .pre .0) (c .before .before .before .before .before .before .before .before .before .before .before .before .before .before .before .before .before .before .before .before .pre .1) x (y ++ []) (c .before .before .before .before .before .before .before .before .before .before .before .before .before .push-own-front .ensures) (c .before .before .before .before .before .before .before .before .before .n .given .1) in
-    let p = next-go [] (own-flow escape (c .before .before .before .before .before .before .before .before .before .before .before .before .before .before .before .before .before .before .before .before .pre .1) (o .still) (l .mark) high) o (c .before .before .before .before .before .before .push-own-bytes .ensures) (c .before .before .m .given .1) in
+    let p = next-go [] (own-flow escape (c .before .before .before .before .before .before .before .before .before .before .before .before .before .before .before .before .before .before .before .before .pre .1) (o .still) (l .mark)) o (c .before .before .before .before .before .before .push-own-flow .ensures) (c .before .before .m .given .1) in
     (owed-reach p, omega (arith, c .before .before .before .before .before .before .before .before .before .before .before .before .before .before .before .before .before .before .before .before .pre .1, p .still .long))
 
 enum-told : tie.Need-enum-told
@@ -61,7 +60,7 @@ enum-told-2 : tie.Need-enum-told-2
 enum-told-2 c = search needs
 
 same-length : tie.Need-same-length
-same-length c = c .before .before .put-if .ensures .long ∙ c .before .before .before .before .before .before .before .before .before .push-own-bytes .ensures .long ∙ c .before .before .before .before .before .before .before .before .before .before .before .before .before .before .before .before .push-own-front .ensures .long
+same-length c = c .before .before .put-if .ensures .long ∙ c .before .before .before .before .before .before .before .before .before .push-own-flow .ensures .long ∙ c .before .before .before .before .before .before .before .before .before .before .before .before .before .before .before .before .push-own-front .ensures .long
 
 returns : tie.Need-returns
 returns c =
@@ -73,13 +72,12 @@ returns c =
     let x = front escape s l in
     let y = flow escape (slice (l .mark) (length s) s) in
     let z = cond (l .last) (ascii " ") [] in
-    let high : a .base + l .mark ≤ length d = omega (arith, c .before .before .before .before .before .before .before .before .before .before .before .before .before .before .before .before .before .before .before .before .before .before .before .pre .1, c .before .before .before .before .before .before .before .before .before .before .before .before .before .before .before .before .before .before .before .before .lay-out-own .ensures .within, length-drop (a .base) d) in
     let o = pair-go (c .before .before .before .before .before .before .before .before .before .before .before .before .before .before .before .before .before .before .before .before .before .before .before .pre .0) (c .before .before .before .before .before .before .before .before .before .before .before .before .before .before .before .before .before .before .before .before .before .before .before .pre .1) x (y ++ z) (c .before .before .before .before .before .before .before .before .before .before .before .before .before .before .before .before .push-own-front .ensures) (c .before .before .before .before .before .before .before .before .before .before .before .before .n .given .1) in
-    let p = next-go z (own-flow escape (c .before .before .before .before .before .before .before .before .before .before .before .before .before .before .before .before .before .before .before .before .before .before .before .pre .1) (o .still) (l .mark) high) o (c .before .before .before .before .before .before .before .before .before .push-own-bytes .ensures) (c .before .before .before .before .before .m .given .1) in
+    let p = next-go z (own-flow escape (c .before .before .before .before .before .before .before .before .before .before .before .before .before .before .before .before .before .before .before .before .before .before .before .pre .1) (o .still) (l .mark)) o (c .before .before .before .before .before .before .before .before .before .push-own-flow .ensures) (c .before .before .before .before .before .m .given .1) in
     alike-in (c .before .before .before .before .before .before .before .before .before .before .before .before .before .before .before .before .before .before .before .before .lay-out-own .ensures .is) (owed-last p (c .before .before .put-if .ensures))
 
 same-length-2 : tie.Need-same-length-2
-same-length-2 c = c .before .before .before .before .push-own-bytes .ensures .long ∙ c .before .before .before .before .before .before .before .before .before .before .before .push-own-front .ensures .long
+same-length-2 c = c .before .before .before .before .push-own-flow .ensures .long ∙ c .before .before .before .before .before .before .before .before .before .before .before .push-own-front .ensures .long
 
 returns-2 : tie.Need-returns-2
 returns-2 c =
@@ -91,10 +89,9 @@ returns-2 c =
     let x = front escape s l in
     let y = flow escape (slice (l .mark) (length s) s) in
     let z = cond (l .last) (ascii " ") [] in
-    let high : a .base + l .mark ≤ length d = omega (arith, c .before .before .before .before .before .before .before .before .before .before .before .before .before .before .before .before .before .before .pre .1, c .before .before .before .before .before .before .before .before .before .before .before .before .before .before .before .lay-out-own .ensures .within, length-drop (a .base) d) in
     let o = pair-go (c .before .before .before .before .before .before .before .before .before .before .before .before .before .before .before .before .before .before .pre .0) (c .before .before .before .before .before .before .before .before .before .before .before .before .before .before .before .before .before .before .pre .1) x (y ++ z) (c .before .before .before .before .before .before .before .before .before .before .before .push-own-front .ensures) (c .before .before .before .before .before .before .before .n .given .1) in
     alike-in (c .before .before .before .before .before .before .before .before .before .before .before .before .before .before .before .lay-out-own .ensures .is)
-    (next-stop z (own-flow escape (c .before .before .before .before .before .before .before .before .before .before .before .before .before .before .before .before .before .before .pre .1) (o .still) (l .mark) high) o (c .before .before .before .before .push-own-bytes .ensures) (c .enum-told .given .1))
+    (next-stop z (own-flow escape (c .before .before .before .before .before .before .before .before .before .before .before .before .before .before .before .before .before .before .pre .1) (o .still) (l .mark)) o (c .before .before .before .before .push-own-flow .ensures) (c .enum-told .given .1))
 
 same-length-3 : tie.Need-same-length-3
 same-length-3 c = c .before .before .before .before .push-own-front .ensures .long
@@ -112,4 +109,4 @@ returns-3 c =
     alike-in (c .before .before .before .before .before .before .before .before .lay-out-own .ensures .is) (pair-stop (c .before .before .before .before .before .before .before .before .before .before .before .pre .0) (c .before .before .before .before .before .before .before .before .before .before .before .pre .1) x (y ++ z) (c .before .before .before .before .push-own-front .ensures) (c .enum-told2 .given .1))
 
 pub push-normalized-own-spec : {M : Type 1} → statement M
-push-normalized-own-spec = tie.close (tie.spec lay-out-own-requires add-from push-own-front-requires enum-known-n push-own-bytes-requires enum-known-m put-if-requires enum-told enum-told-2 same-length returns same-length-2 returns-2 same-length-3 returns-3)
+push-normalized-own-spec = tie.close (tie.spec lay-out-own-requires add-from push-own-front-requires enum-known-n push-own-flow-requires enum-known-m put-if-requires enum-told enum-told-2 same-length returns same-length-2 returns-2 same-length-3 returns-3)
