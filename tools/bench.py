@@ -1,6 +1,6 @@
 """Times the linked library beside the Rust of dom_query, in one process and on the same trees, and counts instructions.
 
-    python3 tools/bench.py --oracle ../shared/oracle [--counts]
+    python3 tools/bench.py --oracle ../shared/oracle [--runs 5] [--counts]
 
 The folder holds the Rust's sources with a build.sh that stages them. They are built, with hosts/bench and hosts/rust, below
 target/bench; the staged files are not changed, but `serialize_md` is made public. Prints the tables of docs/PERFORMANCE.md: times, and
@@ -10,6 +10,7 @@ import argparse
 import os
 import re
 import shutil
+import statistics
 import subprocess
 import tempfile
 
@@ -101,33 +102,62 @@ def table(heads, rows):
     print()
 
 
-def time(nanos):
+def micros(nanos):
     return "%.2f" % (nanos / 1000)
+
+
+def machine():
+    """a line that names the processor and both compilers"""
+    model = re.search(r"model name\s*: (.*)", read("/proc/cpuinfo"))
+    rustc = subprocess.run(["rustc", "--version"], check=True, capture_output=True, text=True).stdout
+    kit = subprocess.run(["rt", "version"], check=True, capture_output=True, text=True).stdout
+    return "%s, %d cores; %s; %s" % (model.group(1) if model else "unknown processor", os.cpu_count(), rustc.strip(), kit.strip())
+
+
+def timed(program):
+    """for each corpus its name, bytes, nodes, bytes of text, and nanoseconds of the Rust, of the call and of the call that writes
+    nothing, of one run"""
+    said = subprocess.run([program, "times", SAMPLE], check=True, capture_output=True, text=True).stdout
+    for line in said.splitlines():
+        name, sheet, nodes, text, *times = line.split("\t")
+        yield (name, sheet, nodes, text, *map(float, times))
+
+
+def times_table(program, runs):
+    """the median of the runs; of the ratio also the least and the greatest. Gives the names of the corpora"""
+    rows = []
+    for one in zip(*(timed(program) for _ in range(runs))):
+        name, sheet, nodes, text = one[0][:4]
+        ratios = [r[4] / r[5] for r in one]
+        rust, call, writing = (statistics.median(x) for x in zip(*((r[4], r[5], r[5] - r[6]) for r in one)))
+        row = [name, sheet, nodes, text, micros(rust), micros(call), "%.2f" % statistics.median(ratios)]
+        row += ["%.2f to %.2f" % (min(ratios), max(ratios)), micros(writing), "%.2f" % (rust / writing)]
+        rows.append(row + ["%.2f" % (call / int(sheet))])
+    heads = ["corpus", "bytes", "nodes", "text", "Rust, µs", "call, µs", "ratio", "over the runs", "writing, µs", "ratio"]
+    table(heads + ["call, ns per byte"], rows)
+    return [row[0] for row in rows]
+
+
+def counts_table(program, names):
+    rows = []
+    for n, name in enumerate(names):
+        rust, call, leaf = (of_one(program, n, side) for side in range(3))
+        row = [name, str(rust), str(call), "%.2f" % (rust / call), str(call - leaf), "%.2f" % (rust / (call - leaf))]
+        rows.append(row)
+    table(["corpus", "Rust", "call", "ratio", "writing", "ratio"], rows)
 
 
 def main():
     ap = argparse.ArgumentParser()
     ap.add_argument("--oracle", required=True)
+    ap.add_argument("--runs", type=int, default=5)
     ap.add_argument("--counts", action="store_true")
     args = ap.parse_args()
     program = built(args.oracle)
-    said = subprocess.run([program, "times", SAMPLE], check=True, capture_output=True, text=True).stdout
-    rows, names = [], []
-    for line in said.splitlines():
-        name, sheet, nodes, text, *times = line.split("\t")
-        rust, call, leaf = map(float, times)
-        names.append(name)
-        row = [name, sheet, nodes, text, time(rust), time(call), "%.2f" % (rust / call), time(call - leaf)]
-        rows.append(row + ["%.2f" % (rust / (call - leaf)), "%.2f" % (call / int(sheet))])
-    heads = ["corpus", "bytes", "nodes", "text", "Rust, µs", "call, µs", "ratio", "writing, µs", "ratio", "call, ns per byte"]
-    table(heads, rows)
+    print(machine() + "\n")
+    names = times_table(program, args.runs)
     if args.counts:
-        rows = []
-        for n, name in enumerate(names):
-            rust, call, leaf = (of_one(program, n, side) for side in range(3))
-            row = [name, str(rust), str(call), "%.2f" % (rust / call), str(call - leaf), "%.2f" % (rust / (call - leaf))]
-            rows.append(row)
-        table(["corpus", "Rust", "call", "ratio", "writing", "ratio"], rows)
+        counts_table(program, names)
 
 
 if __name__ == "__main__":

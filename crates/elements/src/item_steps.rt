@@ -2,12 +2,12 @@
 ghost use mathlib.Core.Path.{_≡_};
 ghost use mathlib.Core.Bool.{cond};
 ghost use mathlib.Core.Option.{Option};
-ghost use Prim.Native.Nat.{ℕ, _+_, _≤_, _<_, _^_};
+ghost use Prim.Native.Nat.{ℕ, _+_, _≤_};
 ghost use lib.ListN.{length, take};
 ghost use Rattle.spec.specs.Bytes.{ascii};
 ghost use Rattle.spec.specs.Tree.{attr};
 ghost use Rattle.spec.specs.Out.{push};
-ghost use Rattle.spec.specs.Md.Ctx.{withKind, «advance_ol_number»};
+ghost use Rattle.spec.specs.Md.Ctx.{withKind};
 ghost use Rattle.spec.specs.Md.Elements.List as def;
 ghost use Rattle.spec.specs.declared.ctx.ListKind.the-variants as kinds;
 ghost use Rattle.tree.specs.Represents.{attrsBehind};
@@ -75,17 +75,6 @@ pub fn renumbered(sheet: &[u8], place: usize, li: bool, ctx: ListContext) -> Lis
         ListKind::Ul => ctx,
         ListKind::Ol(_) => with_number(ctx, number),
     }
-}
-
-// The context behind a child.
-pub fn next_context(li: bool, ctx: ListContext) -> ListContext
-    requires { ⌜ ctx .«list_indent» + 12 < 2 ^ 64 ⌝ }
-    ensures { λ r. ⌜ r ≡ cond li («advance_ol_number» ctx) ctx ⌝ }
-{
-    if !li {
-        return ctx;
-    }
-    ctx.advance_ol_number()
 }
 
 // The options of an item's child that is no block.

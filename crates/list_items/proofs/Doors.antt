@@ -49,8 +49,8 @@ use Rattle.spec.proofs.ctx.ListContext.Laws as T′
 use Rattle.text.specs.declared.buffer.Wrote.{Wrote}
 use Rattle.text.proofs.buffer.Wrote as Answer
 use Rattle.text.proofs.buffer.Wrote.Laws as Answer′
-use Rattle.list_items.proofs.ItemBegun as S
-use Rattle.list_items.proofs.ItemBegun.Laws as S′
+use Rattle.list_items.proofs.ItemWrote as S
+use Rattle.list_items.proofs.ItemWrote.Laws as S′
 use Rattle.list_items.proofs.Lent.{R, mach, slice, Begins, Asks}
 use Rattle.list_items.proofs.Lent as lent
 use Rattle.list_items.proofs.write_list_item as writer

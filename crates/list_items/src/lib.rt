@@ -38,28 +38,28 @@ pub fn write_list_item_blocks(text: &mut [u8], len: usize, ctx: &mut ListContext
     begin_item(text, len, true, c)
 }
 
-// An item's beginning: whether it had room, and the context after its number is written.
-pub struct ItemBegun {
+// What a writer of an item answers: whether there was room, and the context with which the list goes on.
+pub struct ItemWrote {
     pub wrote: Wrote,
     pub ctx: ListContext,
 }
 
 // `write_list_item` with the context by value, for the call cycle.
-pub fn start_item(text: &mut [u8], len: usize, ctx: ListContext) -> ItemBegun
+pub fn start_item(text: &mut [u8], len: usize, ctx: ListContext) -> ItemWrote
     requires { ⌜ (len ≤ length (now text)) × (ctx .«list_indent» + 12 < 2 ^ 64) ⌝ }
     ensures { λ r. ⌜ Writes (length (now (text .entry))) (now (text .exit)) (r .wrote) (beginItem false ctx (take len (now (text .entry)))) × (r .ctx ≡ «advance_ol_number» ctx) ⌝ }
 {
     let mut c = ctx;
     let w = write_list_item(text, len, &mut c);
-    ItemBegun { wrote: w, ctx: c }
+    ItemWrote { wrote: w, ctx: c }
 }
 
 // `write_list_item_blocks` with the context by value, for the call cycle.
-pub fn start_item_blocks(text: &mut [u8], len: usize, ctx: ListContext) -> ItemBegun
+pub fn start_item_blocks(text: &mut [u8], len: usize, ctx: ListContext) -> ItemWrote
     requires { ⌜ (len ≤ length (now text)) × (ctx .«list_indent» + 12 < 2 ^ 64) ⌝ }
     ensures { λ r. ⌜ Writes (length (now (text .entry))) (now (text .exit)) (r .wrote) (beginItem true ctx (take len (now (text .entry)))) × (r .ctx ≡ «advance_ol_number» ctx) ⌝ }
 {
     let mut c = ctx;
     let w = write_list_item_blocks(text, len, &mut c);
-    ItemBegun { wrote: w, ctx: c }
+    ItemWrote { wrote: w, ctx: c }
 }

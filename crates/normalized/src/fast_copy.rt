@@ -33,7 +33,7 @@ fn is_plain(escape: bool, b: u8, next: u8) -> bool
 }
 
 // The same for the 16 bytes at `at`, without an early exit, so that they can be tested at once.
-fn are_plain(s: &[u8], at: usize, escape: bool) -> bool
+fn is_plain_block(s: &[u8], at: usize, escape: bool) -> bool
     requires { ⌜ at + 17 ≤ length (now s) ⌝ }
     ensures { λ r. ⌜ (r ≡ true → (i : ℕ) → at ≤ i → i < at + 16 → Plain escape (now (s .entry)) i) ⌝ }
 {
@@ -44,18 +44,6 @@ fn are_plain(s: &[u8], at: usize, escape: bool) -> bool
         i += 1;
     }
     all
-}
-
-// The same, with a constant flag in each call: where nothing is escaped, the compiler drops the tests for signs.
-fn is_plain_block(s: &[u8], at: usize, escape: bool) -> bool
-    requires { ⌜ at + 17 ≤ length (now s) ⌝ }
-    ensures { λ r. ⌜ (r ≡ true → (i : ℕ) → at ≤ i → i < at + 16 → Plain escape (now (s .entry)) i) ⌝ }
-{
-    if escape {
-        are_plain(s, at, true)
-    } else {
-        are_plain(s, at, false)
-    }
 }
 
 // The same for the first n of the 16 bytes. The count is a byte, so that it is compared with 16 places at once.
@@ -122,12 +110,24 @@ fn is_plain_part(src: &[u8], from: usize, to: usize, escape: bool) -> bool
     is_plain_front(src, from, (n - 1) as u8, escape)
 }
 
+// Whether b is plain at the end of a part, as if a word stood behind it. With a constant flag in each call the compiler drops the
+// tests for signs where nothing is escaped.
+fn is_plain_last(escape: bool, b: u8) -> bool
+    ensures { λ r. ⌜ (r ≡ true → plain escape b 97 ≡ true) ⌝ }
+{
+    if escape {
+        is_plain(true, b, b'a')
+    } else {
+        is_plain(false, b, b'a')
+    }
+}
+
 // Whether all bytes of a part are plain; the last one as if a word stood behind it.
 fn is_whole(src: &[u8], from: usize, to: usize, escape: bool) -> bool
     requires { ⌜ (from < to) × (to ≤ length (now src)) ⌝ }
     ensures { λ r. ⌜ (r ≡ true → Whole escape (slice from to (now (src .entry)))) ⌝ }
 {
-    is_plain_part(src, from, to, escape) & is_plain(escape, src[to - 1], b'a')
+    is_plain_part(src, from, to, escape) & is_plain_last(escape, src[to - 1])
 }
 
 // Whether s, if its bytes are plain, is appended as it is behind the text: its first word stands as it is anywhere, or the text

@@ -1,7 +1,7 @@
 // The writers of serializer.rs and elements: one call cycle, in which `levels` falls. They stand in the crate's own file, since
 // the proof of a cycle is named by its members, with their modules.
 ghost use mathlib.Core.Path.{_≡_};
-ghost use mathlib.Core.Bool.{Bool};
+ghost use mathlib.Core.Bool.{Bool, cond};
 ghost use mathlib.Core.List.{List, []};
 ghost use Prim.Native.Nat.{ℕ, _+_, _-_, _≤_, _<_};
 ghost use lib.Dec.{eqb};
@@ -11,6 +11,7 @@ ghost use Rattle.spec.specs.Names.{tagOf};
 ghost use Rattle.spec.specs.Tree.{Attr, Forest, nothing, element};
 ghost use Rattle.spec.specs.Out.{push};
 ghost use Rattle.spec.specs.Call.{skipTags};
+ghost use Rattle.spec.specs.Md.Ctx.{«advance_ol_number»};
 ghost use Rattle.spec.specs.Md.MDSerializer.{Ancestors, writeKids};
 ghost use Rattle.spec.specs.Md.Serializer.{writeAt, writeNodes, inElement, «write_element»};
 ghost use Rattle.spec.specs.Md.Elements.Emphasis.{«write_emphasis»};
@@ -35,7 +36,6 @@ use elements::item_steps::child_opts;
 use elements::item_steps::due_line;
 use elements::item_steps::end_flow;
 use elements::item_steps::end_list;
-use elements::item_steps::next_context;
 use elements::item_steps::push_heading_prefix;
 use elements::item_steps::renumbered;
 use elements::link::push_link;
@@ -51,6 +51,7 @@ use elements::steps::emphasis_opts;
 use elements::steps::has_writer;
 use elements::steps::opened;
 use elements::steps::push_emphasis_by;
+use list_items::ItemWrote;
 use list_items::start_item;
 use list_items::start_item_blocks;
 use lists_links::image::write_img;
@@ -510,7 +511,9 @@ fn items(
         let place = node_place(nodes, c);
         let li = node_name(sheet, nodes, c) == 16;
         let numbered = renumbered(sheet, place, li, ctx);
-        match item(sheet, own, run, nodes, text, end, c, li, numbered, levels) {
+        let written = item(sheet, own, run, nodes, text, end, c, li, numbered, levels);
+        let wrote = written.wrote;
+        match wrote {
             Wrote::Done(n) => {
                 end = n;
             }
@@ -518,13 +521,13 @@ fn items(
                 return Wrote::Full;
             }
         }
-        ctx = next_context(li, numbered);
+        ctx = written.ctx;
         c = node_end(nodes, c);
     }
     Wrote::Done(end)
 }
 
-// A child of a list; `li` says that it is an item.
+// A child of a list; `li` says that it is an item, which steps the context.
 fn item(
     sheet: &[u8],
     own: bool,
@@ -536,16 +539,17 @@ fn item(
     li: bool,
     ctx: ListContext,
     levels: usize,
-) -> Wrote
+) -> ItemWrote
     requires { ⌜ PlacedNode (now sheet) (now nodes) c × (li ≡ eqb (nameAt (now sheet) (placeAt (now nodes) c)) 16) × Ready (now sheet) (now text) len × FitsIn ctx levels ⌝ }
     ensures kept { λ r. ⌜ Kept c (endAt (now (nodes .entry)) c) (now (nodes .entry)) (now (nodes .exit)) ⌝ }
-    ensures { λ r. ⌜ WritesForest (now (sheet .entry)) (now (nodes .entry)) c (endAt (now (nodes .entry)) c) (λ anc f. listHead (selfAt own (now (run .entry)) levels) anc f ctx) (take len (now (text .entry))) (length (now (text .entry))) (now (text .exit)) r ⌝ }
+    ensures { λ r. ⌜ WritesForest (now (sheet .entry)) (now (nodes .entry)) c (endAt (now (nodes .entry)) c) (λ anc f. listHead (selfAt own (now (run .entry)) levels) anc f ctx) (take len (now (text .entry))) (length (now (text .entry))) (now (text .exit)) (r .wrote) ⌝ }
+    ensures { λ r. ⌜ r .ctx ≡ cond li («advance_ol_number» ctx) ctx ⌝ }
 {
     let to = node_end(nodes, c);
     let opts = ctx.opts;
     if !li {
         let inner = opts.fresh().include_node();
-        return write(
+        let w = write(
             sheet,
             own,
             run,
@@ -557,6 +561,7 @@ fn item(
             packed(inner),
             levels,
         );
+        return ItemWrote { wrote: w, ctx: ctx };
     }
     if has_blocks(sheet, nodes, c + 1, to) {
         return blocks(sheet, own, run, nodes, text, len, c, ctx, levels);
@@ -575,24 +580,38 @@ fn flat(
     c: usize,
     ctx: ListContext,
     levels: usize,
-) -> Wrote
+) -> ItemWrote
     requires { ⌜ Placed (now sheet) (now nodes) c × Ready (now sheet) (now text) len × FitsIn ctx levels ⌝ }
     ensures kept { λ r. ⌜ Kept c (endAt (now (nodes .entry)) c) (now (nodes .entry)) (now (nodes .exit)) ⌝ }
-    ensures { λ r. ⌜ WritesElement (now (sheet .entry)) (now (nodes .entry)) c (λ anc name attrs kids. «write_list_item» (selfAt own (now (run .entry)) levels) anc (element name attrs kids nothing) ctx) (take len (now (text .entry))) (length (now (text .entry))) (now (text .exit)) r ⌝ }
+    ensures { λ r. ⌜ WritesElement (now (sheet .entry)) (now (nodes .entry)) c (λ anc name attrs kids. «write_list_item» (selfAt own (now (run .entry)) levels) anc (element name attrs kids nothing) ctx) (take len (now (text .entry))) (length (now (text .entry))) (now (text .exit)) (r .wrote) ⌝ }
+    ensures { λ r. ⌜ r .ctx ≡ «advance_ol_number» ctx ⌝ }
 {
     let begun = start_item(text, len, ctx);
     let wrote = begun.wrote;
-    let opts = begun.ctx.opts;
+    let next = begun.ctx;
+    let opts = next.opts;
     match wrote {
         Wrote::Done(n) => {
             let inner = opts.list_item();
             let bits = packed(inner);
             match kids(sheet, own, run, nodes, text, n, c, bits, levels) {
-                Wrote::Done(m) => push_linebreak(text, m, opts.table_cell),
-                Wrote::Full => Wrote::Full,
+                Wrote::Done(m) => {
+                    let w = push_linebreak(text, m, opts.table_cell);
+                    ItemWrote {
+                        wrote: w,
+                        ctx: next,
+                    }
+                }
+                Wrote::Full => ItemWrote {
+                    wrote: Wrote::Full,
+                    ctx: next,
+                },
             }
         }
-        Wrote::Full => Wrote::Full,
+        Wrote::Full => ItemWrote {
+            wrote: Wrote::Full,
+            ctx: next,
+        },
     }
 }
 
@@ -607,10 +626,11 @@ fn blocks(
     c: usize,
     ctx: ListContext,
     levels: usize,
-) -> Wrote
+) -> ItemWrote
     requires { ⌜ Placed (now sheet) (now nodes) c × Ready (now sheet) (now text) len × FitsIn ctx levels ⌝ }
     ensures kept { λ r. ⌜ Kept c (endAt (now (nodes .entry)) c) (now (nodes .entry)) (now (nodes .exit)) ⌝ }
-    ensures { λ r. ⌜ WritesElement (now (sheet .entry)) (now (nodes .entry)) c (λ anc name attrs kids. «write_list_item_blocks» (selfAt own (now (run .entry)) levels) anc attrs kids ctx) (take len (now (text .entry))) (length (now (text .entry))) (now (text .exit)) r ⌝ }
+    ensures { λ r. ⌜ WritesElement (now (sheet .entry)) (now (nodes .entry)) c (λ anc name attrs kids. «write_list_item_blocks» (selfAt own (now (run .entry)) levels) anc attrs kids ctx) (take len (now (text .entry))) (length (now (text .entry))) (now (text .exit)) (r .wrote) ⌝ }
+    ensures { λ r. ⌜ r .ctx ≡ «advance_ol_number» ctx ⌝ }
 {
     let to = node_end(nodes, c);
     let begun = start_item_blocks(text, len, ctx);
@@ -633,11 +653,23 @@ fn blocks(
                 false,
                 levels,
             ) {
-                Going::On(m, _, _) => end_item(text, m, item),
-                Going::Full => Wrote::Full,
+                Going::On(m, _, _) => {
+                    let w = end_item(text, m, item);
+                    ItemWrote {
+                        wrote: w,
+                        ctx: next,
+                    }
+                }
+                Going::Full => ItemWrote {
+                    wrote: Wrote::Full,
+                    ctx: next,
+                },
             }
         }
-        Wrote::Full => Wrote::Full,
+        Wrote::Full => ItemWrote {
+            wrote: Wrote::Full,
+            ctx: next,
+        },
     }
 }
 

@@ -13,14 +13,15 @@ use Rattle.text.specs.Writes.{Written, Refused}
 use Rattle.text.proofs.Reading.{drop-take}
 use Rattle.text.specs.Lifted.{Lifted}
 
--- what lies below to + j is as it was, and from j on all is moved
+-- what lies below to + j is as it was, and so is what lies from to + n on; from j on all is moved
 pub record Lifting (d text : List ℕ) (from n to j : ℕ) : Type 0 where
   pub long : length text ≡ length d
   pub below : (i : ℕ) → i < to + j → getD text i 0 ≡ getD d i 0
   pub moved : (k : ℕ) → j ≤ k → k < n → getD text (to + k) 0 ≡ getD d (from + k) 0
+  pub above : (i : ℕ) → to + n ≤ i → getD text i 0 ≡ getD d i 0
 
 pub lifting-none : (d : List ℕ) (from n to : ℕ) → Lifting d d from n to n
-lifting-none d from n to = record { long = refl; below = λ i h. refl; moved = λ k h l. absurd (omega arith) }
+lifting-none d from n to = record { long = refl; below = λ i h. refl; moved = λ k h l. absurd (omega arith); above = λ i h. refl }
 
 pub lifting-on : {d text : List ℕ} {from n to j : ℕ} (i : ℕ) → i + 1 ≡ j → from ≤ to → j ≤ n → to + n ≤ length d → Lifting d text from n to j
     → Lifting d (set text (to + i) (getD text (from + i) 0)) from n to i
@@ -33,6 +34,7 @@ lifting-on {d} {text} {from} {n} {to} {j} i e h l r p =
           (getD-set-same text (to + i) _ 0 (omega (arith, p .long)) ∙ p .below (from + i) (omega arith)))
           (λ (q : i < k). getD-set-other text (to + i) (to + k) _ 0 (λ z. omega arith) ∙ p .moved k (omega arith) b)
           (eq-or-lt-of-le a);
+      above = λ m b. getD-set-other text (to + i) m _ 0 (λ q. omega arith) ∙ p .above m b;
     }
 
 pub lifting-all : {d text : List ℕ} {from n to j : ℕ} → j ≤ 0 → from ≤ to → to + n ≤ length d → Lifting d text from n to j → Lifted d text from n to
@@ -48,6 +50,8 @@ lifting-all {d} {text} {from} {n} {to} {j} z h r p =
       moved = ext-getD 0 (take n (drop to text)) (take n (drop from d)) (x ∙ sym y)
           (λ i l. let q : i < n = omega arith in
           getD-take n (drop to text) i 0 q ∙ getD-drop to text i 0 ∙ p .moved i (omega arith) q ∙ sym (getD-drop from d i 0) ∙ sym (getD-take n (drop from d) i 0 q));
+      behind = ext-getD 0 (drop (to + n) text) (drop (to + n) d) (length-drop (to + n) text ∙ ap (λ (m : ℕ). m - (to + n)) (p .long) ∙ sym (length-drop (to + n) d))
+          (λ i l. getD-drop (to + n) text i 0 ∙ p .above (to + n + i) (omega arith) ∙ sym (getD-drop (to + n) d i 0));
     }
 
 -- ---- bytes moved down, first byte first

@@ -39,12 +39,15 @@ returns-3 t c =
     let self = selfAt (s .args .own) (s .args .run .now) (s .args .levels) in
     let item = itemFrom (s .args .ctx) (beginItem true (s .args .ctx) (take (s .args .len) (s .args .text .now))) in (
       kept-none (s .args .nodes .now),
-      record {
-        for = λ name attrs kids anc x a.
-            both-full (s .args .text .now) (s .args .len) (s .pre .1 .1 .0) («write_list_item_blocks» self anc attrs kids (s .args .ctx)) (beginItem true (s .args .ctx))
-            (λ u. andThen (itemChildren self (attrs ∷ anc) kids item (progressAt true false u) .out) (endedItem item))
-            (blocks-parts self anc attrs kids (s .args .ctx) item (take (s .args .len) (s .args .text .now)) refl) (c .before .before .before .before .before .start-item-blocks .ensures .0) (c .enum-told2 .given .1);
-      },
+      (
+        record {
+          for = λ name attrs kids anc x a.
+              both-full (s .args .text .now) (s .args .len) (s .pre .1 .1 .0) («write_list_item_blocks» self anc attrs kids (s .args .ctx)) (beginItem true (s .args .ctx))
+              (λ u. andThen (itemChildren self (attrs ∷ anc) kids item (progressAt true false u) .out) (endedItem item))
+              (blocks-parts self anc attrs kids (s .args .ctx) item (take (s .args .len) (s .args .text .now)) refl) (c .before .before .before .before .before .start-item-blocks .ensures .0) (c .enum-told2 .given .1);
+        },
+        c .before .before .before .before .before .start-item-blocks .ensures .1,
+      ),
     )
 
 node-end-requires : (t : ℕ) → lts.Need-node-end-requires (claims t) (blocks-at t) blocks.Post
@@ -107,11 +110,14 @@ returns t c =
     let self = selfAt (s .args .own) (s .args .run .now) (s .args .levels) in
     let item = itemOf (c .before .before .before .before .before .before .before .before .before .before .before .before .before .before .item-from .result) in (
       kept-in (omega arith) (omega (arith, c .before .before .before .before .before .before .before .before .before .before .before .before .before .before .before .before .before .before .before .before .before .before .before .node-end .ensures)) (c .before .before .before .before .before .before .before .before .before .before .before .children .ensures .0),
-      record {
-        for = λ name attrs kids anc x a.
-            owes-last (owes-on (begun t (c .before .before .before .before .before .before .before .before .before .before .before .before .before .before) anc attrs kids) (λ u. itemChildren self (attrs ∷ anc) kids item (progressAt true false u) .out) (endedItem item) refl
-            (went (c .before .before .before .before .before .m .given .1) (c .before .before .before .before .before .before .before .before .before .before .before .children .ensures .1 .for (s .args .c) kids (attrs ∷ anc) (element-kids x (c .before .before .before .before .before .before .before .before .before .before .before .before .before .before .before .before .before .before .before .before .before .before .before .node-end .ensures)) (around-it anc x a)) .0)) (c .before .before .end-item .ensures);
-      },
+      (
+        record {
+          for = λ name attrs kids anc x a.
+              owes-last (owes-on (begun t (c .before .before .before .before .before .before .before .before .before .before .before .before .before .before) anc attrs kids) (λ u. itemChildren self (attrs ∷ anc) kids item (progressAt true false u) .out) (endedItem item) refl
+              (went (c .before .before .before .before .before .m .given .1) (c .before .before .before .before .before .before .before .before .before .before .before .children .ensures .1 .for (s .args .c) kids (attrs ∷ anc) (element-kids x (c .before .before .before .before .before .before .before .before .before .before .before .before .before .before .before .before .before .before .before .before .before .before .before .node-end .ensures)) (around-it anc x a)) .0)) (c .before .before .end-item .ensures);
+        },
+        c .before .before .before .before .before .before .before .before .before .before .before .before .before .before .before .before .before .before .before .before .before .start-item-blocks .ensures .1,
+      ),
     )
 
 returns-2 : (t : ℕ) → lts.Need-returns-2 (claims t) (blocks-at t) blocks.Post
@@ -120,11 +126,14 @@ returns-2 t c =
     let self = selfAt (s .args .own) (s .args .run .now) (s .args .levels) in
     let item = itemOf (c .before .before .before .before .before .before .before .before .before .item-from .result) in (
       kept-in (omega arith) (omega (arith, c .before .before .before .before .before .before .before .before .before .before .before .before .before .before .before .before .before .before .node-end .ensures)) (c .before .before .before .before .before .before .children .ensures .0),
-      record {
-        for = λ name attrs kids anc x a.
-            owes-over (begun t (c .before .before .before .before .before .before .before .before .before) anc attrs kids) (λ u. itemChildren self (attrs ∷ anc) kids item (progressAt true false u) .out) (endedItem item) refl
-            (went-full (c .enum-told .given .1) (c .before .before .before .before .before .before .children .ensures .1 .for (s .args .c) kids (attrs ∷ anc) (element-kids x (c .before .before .before .before .before .before .before .before .before .before .before .before .before .before .before .before .before .before .node-end .ensures)) (around-it anc x a)));
-      },
+      (
+        record {
+          for = λ name attrs kids anc x a.
+              owes-over (begun t (c .before .before .before .before .before .before .before .before .before) anc attrs kids) (λ u. itemChildren self (attrs ∷ anc) kids item (progressAt true false u) .out) (endedItem item) refl
+              (went-full (c .enum-told .given .1) (c .before .before .before .before .before .before .children .ensures .1 .for (s .args .c) kids (attrs ∷ anc) (element-kids x (c .before .before .before .before .before .before .before .before .before .before .before .before .before .before .before .before .before .before .node-end .ensures)) (around-it anc x a)));
+        },
+        c .before .before .before .before .before .before .before .before .before .before .before .before .before .before .before .before .start-item-blocks .ensures .1,
+      ),
     )
 
 enum-known-wrote : (t : ℕ) → lts.Need-enum-known-wrote (claims t) (blocks-at t) blocks.Post

@@ -36,53 +36,60 @@ start-item-requires t c κs =
 
 packed-requires : (t : ℕ) → lts.Need-packed-requires (claims t) (flat-at t) flat.Post
 packed-requires t c κs =
-    let s = c .before .before .before .before .before .before .before .before .before .before .before .before .before in omega (arith, fits-item (s .args .levels) (s .args .ctx) (c .before .before .before .before .before .before .before .start-item .result .ctx) (c .list-item .result) (c .before .before .before .before .before .before .before .start-item .ensures .1) (c .list-item .ensures) (s .pre .1 .2))
+    let s = c .before .before .before .before .before .before .before .before .before .before .before .before .before .before in omega (arith, fits-item (s .args .levels) (s .args .ctx) (c .before .before .before .before .before .before .before .before .start-item .result .ctx) (c .list-item .result) (c .before .before .before .before .before .before .before .before .start-item .ensures .1) (c .list-item .ensures) (s .pre .1 .2))
 
 kids-requires : (t : ℕ) → lts.Need-kids-requires (claims t) (flat-at t) flat.Post
 kids-requires t c κs =
-    let s = c .before .before .before .before .before .before .before .before .before .before .before .before .before .before .before .before in
-    (falls-in (s .args .levels) (s .pre .0) (lit< tt), (s .pre .1 .0, (reaches (done (c .before .before .before .before .before .wrote .given .1) (c .before .before .before .before .before .before .before .before .before .before .start-item .ensures .0)), s .pre .1 .1 .1), fits-item (s .args .levels) (s .args .ctx) (c .before .before .before .before .before .before .before .before .before .before .start-item .result .ctx) (unpacked (c .before .before .packed .result)) (c .before .before .before .before .before .before .before .before .before .before .start-item .ensures .1) (c .before .before .packed .ensures ∙ c .before .before .before .list-item .ensures) (s .pre .1 .2)))
+    let s = c .before .before .before .before .before .before .before .before .before .before .before .before .before .before .before .before .before in
+    (falls-in (s .args .levels) (s .pre .0) (lit< tt), (s .pre .1 .0, (reaches (done (c .before .before .before .before .before .wrote .given .1) (c .before .before .before .before .before .before .before .before .before .before .before .start-item .ensures .0)), s .pre .1 .1 .1), fits-item (s .args .levels) (s .args .ctx) (c .before .before .before .before .before .before .before .before .before .before .before .start-item .result .ctx) (unpacked (c .before .before .packed .result)) (c .before .before .before .before .before .before .before .before .before .before .before .start-item .ensures .1) (c .before .before .packed .ensures ∙ c .before .before .before .list-item .ensures) (s .pre .1 .2)))
 
 -- behind the beginning of the item
 begun : (t : ℕ) (c : lts.After-kids (claims t) (flat-at t) flat.Post) (anc : Ancestors) (node : Forest) →
-    let s = c .before .before .before .before .before .before .before .before .before .before .before .before .before .before .before .before .before in
+    let s = c .before .before .before .before .before .before .before .before .before .before .before .before .before .before .before .before .before .before in
     let self = selfAt (s .args .own) (s .args .run .now) (s .args .levels) in
-    Owes (length (s .args .text .now)) (c .before .before .before .before .before .before .before .before .before .before .before .start-item .last .0) (c .before .before .before .before .before .before .wrote .given .0 .0) (λ u. andThen (writeKids self anc (unpacked (c .before .before .before .packed .result)) node u) (push (breakOf (c .before .before .before .before .before .before .before .before .before .before .before .start-item .result .ctx)))) («write_list_item» self anc node (s .args .ctx) (take (s .args .len) (s .args .text .now)))
+    Owes (length (s .args .text .now)) (c .before .before .before .before .before .before .before .before .before .before .before .before .start-item .last .0) (c .before .before .before .before .before .before .wrote .given .0 .0) (λ u. andThen (writeKids self anc (unpacked (c .before .before .before .packed .result)) node u) (push (breakOf (c .before .before .before .before .before .before .before .before .before .before .before .before .start-item .result .ctx)))) («write_list_item» self anc node (s .args .ctx) (take (s .args .len) (s .args .text .now)))
 begun t c anc node =
-    let s = c .before .before .before .before .before .before .before .before .before .before .before .before .before .before .before .before .before in
+    let s = c .before .before .before .before .before .before .before .before .before .before .before .before .before .before .before .before .before .before in
     let self = selfAt (s .args .own) (s .args .run .now) (s .args .levels) in
     owes-step (owes-all (s .args .text .now) (s .args .len) («write_list_item» self anc node (s .args .ctx)) (s .pre .1 .1 .0) refl)
     (beginItem false (s .args .ctx))
-    (λ u. andThen (writeKids self anc (unpacked (c .before .before .before .packed .result)) node u) (push (breakOf (c .before .before .before .before .before .before .before .before .before .before .before .start-item .result .ctx))))
-    (item-parts self anc node (s .args .ctx) (c .before .before .before .before .before .before .before .before .before .before .before .start-item .result .ctx) (unpacked (c .before .before .before .packed .result)) (take (s .args .len) (s .args .text .now)) (c .before .before .before .before .before .before .before .before .before .before .before .start-item .ensures .1) (c .before .before .before .packed .ensures ∙ c .before .before .before .before .list-item .ensures)) (c .before .before .before .before .before .before .wrote .given .1) (c .before .before .before .before .before .before .before .before .before .before .before .start-item .ensures .0)
+    (λ u. andThen (writeKids self anc (unpacked (c .before .before .before .packed .result)) node u) (push (breakOf (c .before .before .before .before .before .before .before .before .before .before .before .before .start-item .result .ctx))))
+    (item-parts self anc node (s .args .ctx) (c .before .before .before .before .before .before .before .before .before .before .before .before .start-item .result .ctx) (unpacked (c .before .before .before .packed .result)) (take (s .args .len) (s .args .text .now)) (c .before .before .before .before .before .before .before .before .before .before .before .before .start-item .ensures .1) (c .before .before .before .packed .ensures ∙ c .before .before .before .before .list-item .ensures)) (c .before .before .before .before .before .before .wrote .given .1) (c .before .before .before .before .before .before .before .before .before .before .before .before .start-item .ensures .0)
 
 push-linebreak-requires : (t : ℕ) → lts.Need-push-linebreak-requires (claims t) (flat-at t) flat.Post
 push-linebreak-requires t c κs =
-    written-reaches (c .before .before .before .before .before .before .before .before .kids .ensures .1) (c .before .before .before .before .before .before .before .before .before .before .before .before .before .before .before .before .before .before .before .before .before .before .before .before .before .pre .1 .0) (c .before .before .m .given .1)
+    written-reaches (c .before .before .before .before .before .before .before .before .kids .ensures .1) (c .before .before .before .before .before .before .before .before .before .before .before .before .before .before .before .before .before .before .before .before .before .before .before .before .before .before .pre .1 .0) (c .before .before .m .given .1)
 
 returns : (t : ℕ) → lts.Need-returns (claims t) (flat-at t) flat.Post
 returns t c =
-    let s = c .before .before .before .before .before .before .before .before .before .before .before .before .before .before .before .before .before .before .before .before .before .before .before .before .before .before .before .before in
-    let self = selfAt (s .args .own) (s .args .run .now) (s .args .levels) in
-    (c .before .before .before .before .before .before .before .before .before .before .before .kids .ensures .0, record { for = λ name attrs kids anc x a. owes-last (owes-step (begun t (c .before .before .before .before .before .before .before .before .before .before .before) anc (element name attrs kids nothing)) (writeKids self anc (unpacked (c .before .before .before .before .before .before .before .before .before .before .before .before .before .before .packed .result)) (element name attrs kids nothing)) (push (breakOf (c .before .before .before .before .before .before .before .before .before .before .before .before .before .before .before .before .before .before .before .before .before .before .start-item .result .ctx))) refl (c .before .before .before .before .before .m .given .1) (c .before .before .before .before .before .before .before .before .before .before .before .kids .ensures .1 .for name attrs kids anc x a)) (c .before .before .push-linebreak .ensures) })
+    let s = c .before .before .before .before .before .before .before .before .before .before .before .before .before .before .before .before .before .before .before .before .before .before .before .before .before .before .before .before .before in
+    let self = selfAt (s .args .own) (s .args .run .now) (s .args .levels) in (
+      c .before .before .before .before .before .before .before .before .before .before .before .kids .ensures .0,
+      (record { for = λ name attrs kids anc x a. owes-last (owes-step (begun t (c .before .before .before .before .before .before .before .before .before .before .before) anc (element name attrs kids nothing)) (writeKids self anc (unpacked (c .before .before .before .before .before .before .before .before .before .before .before .before .before .before .packed .result)) (element name attrs kids nothing)) (push (breakOf (c .before .before .before .before .before .before .before .before .before .before .before .before .before .before .before .before .before .before .before .before .before .before .before .start-item .result .ctx))) refl (c .before .before .before .before .before .m .given .1) (c .before .before .before .before .before .before .before .before .before .before .before .kids .ensures .1 .for name attrs kids anc x a)) (c .before .before .push-linebreak .ensures) }, c .before .before .before .before .before .before .before .before .before .before .before .before .before .before .before .before .before .before .before .before .before .before .before .start-item .ensures .1),
+    )
 
 returns-2 : (t : ℕ) → lts.Need-returns-2 (claims t) (flat-at t) flat.Post
 returns-2 t c =
-    let s = c .before .before .before .before .before .before .before .before .before .before .before .before .before .before .before .before .before .before .before .before .before .before .before in
-    let self = selfAt (s .args .own) (s .args .run .now) (s .args .levels) in
-    (c .before .before .before .before .before .before .kids .ensures .0, record { for = λ name attrs kids anc x a. owes-stop (begun t (c .before .before .before .before .before .before) anc (element name attrs kids nothing)) (writeKids self anc (unpacked (c .before .before .before .before .before .before .before .before .before .packed .result)) (element name attrs kids nothing)) (push (breakOf (c .before .before .before .before .before .before .before .before .before .before .before .before .before .before .before .before .before .start-item .result .ctx))) refl (c .enum-told .given .1) (c .before .before .before .before .before .before .kids .ensures .1 .for name attrs kids anc x a) })
+    let s = c .before .before .before .before .before .before .before .before .before .before .before .before .before .before .before .before .before .before .before .before .before .before .before .before in
+    let self = selfAt (s .args .own) (s .args .run .now) (s .args .levels) in (
+      c .before .before .before .before .before .before .kids .ensures .0,
+      (record { for = λ name attrs kids anc x a. owes-stop (begun t (c .before .before .before .before .before .before) anc (element name attrs kids nothing)) (writeKids self anc (unpacked (c .before .before .before .before .before .before .before .before .before .packed .result)) (element name attrs kids nothing)) (push (breakOf (c .before .before .before .before .before .before .before .before .before .before .before .before .before .before .before .before .before .before .start-item .result .ctx))) refl (c .enum-told .given .1) (c .before .before .before .before .before .before .kids .ensures .1 .for name attrs kids anc x a) }, c .before .before .before .before .before .before .before .before .before .before .before .before .before .before .before .before .before .before .start-item .ensures .1),
+    )
 
 returns-3 : (t : ℕ) → lts.Need-returns-3 (claims t) (flat-at t) flat.Post
 returns-3 t c =
-    let s = c .before .before .before .before .before .before .before .before .before .before .before in
+    let s = c .before .before .before .before .before .before .before .before .before .before .before .before in
     let self = selfAt (s .args .own) (s .args .run .now) (s .args .levels) in (
       kept-none (s .args .nodes .now),
-      record {
-        for = λ name attrs kids anc x a.
-            both-full (s .args .text .now) (s .args .len) (s .pre .1 .1 .0) («write_list_item» self anc (element name attrs kids nothing) (s .args .ctx)) (beginItem false (s .args .ctx))
-            (λ u. andThen (writeKids self anc («list_item» (c .before .before .before .before .before .start-item .result .ctx .opts)) (element name attrs kids nothing) u) (push (breakOf (c .before .before .before .before .before .start-item .result .ctx))))
-            (item-parts self anc (element name attrs kids nothing) (s .args .ctx) (c .before .before .before .before .before .start-item .result .ctx) («list_item» (c .before .before .before .before .before .start-item .result .ctx .opts)) (take (s .args .len) (s .args .text .now)) (c .before .before .before .before .before .start-item .ensures .1) refl) (c .before .before .before .before .before .start-item .ensures .0) (c .enum-told2 .given .1);
-      },
+      (
+        record {
+          for = λ name attrs kids anc x a.
+              both-full (s .args .text .now) (s .args .len) (s .pre .1 .1 .0) («write_list_item» self anc (element name attrs kids nothing) (s .args .ctx)) (beginItem false (s .args .ctx))
+              (λ u. andThen (writeKids self anc («list_item» (c .before .before .before .before .before .before .start-item .result .ctx .opts)) (element name attrs kids nothing) u) (push (breakOf (c .before .before .before .before .before .before .start-item .result .ctx))))
+              (item-parts self anc (element name attrs kids nothing) (s .args .ctx) (c .before .before .before .before .before .before .start-item .result .ctx) («list_item» (c .before .before .before .before .before .before .start-item .result .ctx .opts)) (take (s .args .len) (s .args .text .now)) (c .before .before .before .before .before .before .start-item .ensures .1) refl) (c .before .before .before .before .before .before .start-item .ensures .0) (c .enum-told2 .given .1);
+        },
+        c .before .before .before .before .before .before .start-item .ensures .1,
+      ),
     )
 
 enum-known-wrote : (t : ℕ) → lts.Need-enum-known-wrote (claims t) (flat-at t) flat.Post

@@ -1,12 +1,12 @@
 -- `serializer::item`, of the cycle. Assumes nothing.
 use Prim.Native.Nat.{ℕ, _+_}
 use mathlib.Core.Path.{_≡_, ap, sym, subst, _∙_}
-use mathlib.Core.Bool.{true, false}
+use mathlib.Core.Bool.{Bool, true, false, cond}
 use borrow.Author.Tests.{not-true, not-false, eqb-true}
 use lib.Dec.{lit<}
 use lib.ListN.{take}
 use Rattle.spec.specs.Call.{skipTags}
-use Rattle.spec.specs.Md.Ctx.{fresh, «include_node»}
+use Rattle.spec.specs.Md.Ctx.{fresh, «include_node», «advance_ol_number»}
 use Rattle.spec.specs.Md.Serializer.{writeAt}
 use Rattle.spec.specs.declared.ctx.FormatOpts.{FormatOpts}
 use Rattle.tree.specs.Memory.{placeAt}
@@ -63,12 +63,15 @@ returns t c =
     let a = s .args in
     let skips = skipTags (skipList (a .own) (a .run .now)) in (
       kept-in (omega arith) (omega (arith, c .before .before .before .before .before .before .before .before .before .before .before .before .node-end .ensures)) (c .before .before .before .before .write .ensures .0),
-      record {
-        for = λ parent f anc h x.
-            alike (head-other skips (a .levels) anc (a .ctx) (take (a .len) (a .text .now)) (a .sheet .now) (a .nodes .now) parent (a .c) f h (s .pre .1 .0 .later) (sym (s .pre .1 .1) ∙ not-true (a .li) (c .before .before .before .before .before .before .before .before .before .before .if1 .taken))
-            ∙ ap (λ (o : FormatOpts). writeAt skips (a .levels) anc o f (take (a .len) (a .text .now))) (sym (c .before .before .before .before .before .packed .ensures ∙ inner t (c .before .before .before .before .before .before .before .before))))
-            (c .before .before .before .before .write .ensures .1 .for parent f anc (subst (λ (e : ℕ). Rep (a .sheet .now) (a .nodes .now) parent (a .c) e f) (sym (c .before .before .before .before .before .before .before .before .before .before .before .before .node-end .ensures)) h) x);
-      },
+      (
+        record {
+          for = λ parent f anc h x.
+              alike (head-other skips (a .levels) anc (a .ctx) (take (a .len) (a .text .now)) (a .sheet .now) (a .nodes .now) parent (a .c) f h (s .pre .1 .0 .later) (sym (s .pre .1 .1) ∙ not-true (a .li) (c .before .before .before .before .before .before .before .before .before .before .if1 .taken))
+              ∙ ap (λ (o : FormatOpts). writeAt skips (a .levels) anc o f (take (a .len) (a .text .now))) (sym (c .before .before .before .before .before .packed .ensures ∙ inner t (c .before .before .before .before .before .before .before .before))))
+              (c .before .before .before .before .write .ensures .1 .for parent f anc (subst (λ (e : ℕ). Rep (a .sheet .now) (a .nodes .now) parent (a .c) e f) (sym (c .before .before .before .before .before .before .before .before .before .before .before .before .node-end .ensures)) h) x);
+        },
+        sym (ap (λ (b : Bool). cond b («advance_ol_number» (a .ctx)) (a .ctx)) (not-true (a .li) (c .before .before .before .before .before .before .before .before .before .before .if1 .taken))),
+      ),
     )
 
 -- the child is an item
@@ -105,7 +108,7 @@ returns-2 t c =
     let s = c .before .before .before .before .before .before .before .before .before .before .before .before .before .before .before .before .before .before in
     let a = s .args in (
       c .before .before .before .before .blocks2 .ensures .0,
-      head-item (s .pre .1 .0) (named t (c .before .before .before .before .before .before .before .before .before .before)) (selfAt (a .own) (a .run .now) (a .levels)) (a .ctx) true (c .before .before .before .before .before .before .before .before .before .before .before .before .node-end .ensures) (λ parent f h. sym (c .before .before .before .before .before .before .before .if2 .taken) ∙ c .before .before .before .before .before .before .before .before .has-blocks .ensures parent f h) (c .before .before .before .before .blocks2 .ensures .1),
+      (head-item (s .pre .1 .0) (named t (c .before .before .before .before .before .before .before .before .before .before)) (selfAt (a .own) (a .run .now) (a .levels)) (a .ctx) true (c .before .before .before .before .before .before .before .before .before .before .before .before .node-end .ensures) (λ parent f h. sym (c .before .before .before .before .before .before .before .if2 .taken) ∙ c .before .before .before .before .before .before .before .before .has-blocks .ensures parent f h) (c .before .before .before .before .blocks2 .ensures .1 .0), c .before .before .before .before .blocks2 .ensures .1 .1 ∙ sym (ap (λ (b : Bool). cond b («advance_ol_number» (a .ctx)) (a .ctx)) (not-false (a .li) (c .before .before .before .before .before .before .before .before .before .before .if1 .left)))),
     )
 
 returns-3 : (t : ℕ) → lts.Need-returns-3 (claims t) (item-at t) item.Post
@@ -113,7 +116,7 @@ returns-3 t c =
     let s = c .before .before .before .before .before .before .before .before .before .before .before .before .before .before .before .before .before .before in
     let a = s .args in (
       c .before .before .before .before .flat .ensures .0,
-      head-item (s .pre .1 .0) (named t (c .before .before .before .before .before .before .before .before .before .before)) (selfAt (a .own) (a .run .now) (a .levels)) (a .ctx) false (c .before .before .before .before .before .before .before .before .before .before .before .before .node-end .ensures) (λ parent f h. sym (c .before .before .before .before .before .before .before .if2 .left) ∙ c .before .before .before .before .before .before .before .before .has-blocks .ensures parent f h) (c .before .before .before .before .flat .ensures .1),
+      (head-item (s .pre .1 .0) (named t (c .before .before .before .before .before .before .before .before .before .before)) (selfAt (a .own) (a .run .now) (a .levels)) (a .ctx) false (c .before .before .before .before .before .before .before .before .before .before .before .before .node-end .ensures) (λ parent f h. sym (c .before .before .before .before .before .before .before .if2 .left) ∙ c .before .before .before .before .before .before .before .before .has-blocks .ensures parent f h) (c .before .before .before .before .flat .ensures .1 .0), c .before .before .before .before .flat .ensures .1 .1 ∙ sym (ap (λ (b : Bool). cond b («advance_ol_number» (a .ctx)) (a .ctx)) (not-false (a .li) (c .before .before .before .before .before .before .before .before .before .before .if1 .left)))),
     )
 
 fresh-requires : (t : ℕ) → lts.Need-fresh-requires (claims t) (item-at t) item.Post

@@ -20,7 +20,7 @@ use Rattle.nodes.specs.Stands.{NodeAt, Placeds, PlacedNode}
 use Rattle.serializer.specs.Writers.{selfAt, FitsIn, WritesForest}
 use Rattle.serializer.proofs.Answers.{forest-reaches, forest-long}
 use Rattle.serializer.proofs.Falls.{falls-in}
-use Rattle.serializer.proofs.Lists.{fits-child, fits-behind, fits-in, list-none, list-first}
+use Rattle.serializer.proofs.Lists.{fits-child, fits-behind, list-none, list-first}
 use Rattle.serializer.proofs.Placing.{placeds-first, placeds-on, placeds-at, placeds-later, placeds-within, node-kept, writes-before}
 use Rattle.serializer.proofs.Turns.{Turn, turn-first, turn-on, turn-stop, turn-last}
 use borrow.Author.Needs.{needs}
@@ -31,12 +31,11 @@ use Rattle.tree.proofs.nodes.node_place.Reads as node-place-reads
 use Rattle.nodes.proofs.nodes.node_name.Reads as node-name-reads
 use Rattle.elements.proofs.item_steps.renumbered.Reads as renumbered-reads
 use Rattle.serializer.proofs.item.Reads as item
-use Rattle.elements.proofs.item_steps.next_context.Reads as next-context-reads
 use Rattle.tree.proofs.nodes.node_end.Reads as node-end-reads
 use Rattle.serializer.proofs.+alone+block+blocks+body+cell+cells+child+children+flat+flow+indented+inline+inside+item+items+kids+led+link+node+row+siblings+write+write_element+write_emphasis+write_link+write_list+write_table.Proof.Measures.{items-at, item-below}
 
 abbrev claims : ℕ → lts.Claims
-claims t = (node-place-reads.Asked, node-place-reads.Learnt, node-name-reads.Asked, node-name-reads.Learnt, renumbered-reads.Asked, renumbered-reads.Learnt, item-below t, item.Post, next-context-reads.Asked, next-context-reads.Learnt, node-end-reads.Asked, node-end-reads.Learnt)
+claims t = (node-place-reads.Asked, node-place-reads.Learnt, node-name-reads.Asked, node-name-reads.Learnt, renumbered-reads.Asked, renumbered-reads.Learnt, item-below t, item.Post, node-end-reads.Asked, node-end-reads.Learnt)
 
 abbrev Inv-loop : lts.InvT-loop
 Inv-loop sheet own run nodes₀ text₀ len from to levels ctx₀ end₀ c₀ nodes text ctx end c =
@@ -93,8 +92,8 @@ kept t c =
     kept-then (l .inv .2) (kept-in (l .inv .3) (omega (arith, end-kept (l .inv .2) (l .c), placeds-within (l .inv .4) lt)) (c .item .ensures .0))
 
 -- what the child wrote, of the nodes as they were at the beginning
-wrote : (t : ℕ) (c : lts.After-item (claims t) (items-at t) items.Post Inv-loop μ-loop) → WritesForest (c .before .before .before .before .before .before .before .before .before .before .before .before .before .before .args .sheet .now) (c .before .before .before .before .before .before .before .before .before .before .before .before .before .before .args .nodes .now) (c .before .before .before .before .before .before .before .before .before .loop .c) (endAt (c .before .before .before .before .before .before .before .before .before .before .before .before .before .before .args .nodes .now) (c .before .before .before .before .before .before .before .before .before .loop .c)) (λ anc f. listHead (selfAt (c .before .before .before .before .before .before .before .before .before .before .before .before .before .before .args .own) (c .before .before .before .before .before .before .before .before .before .before .before .before .before .before .args .run .now) (c .before .before .before .before .before .before .before .before .before .before .before .before .before .before .args .levels)) anc f (c .before .before .before .renumbered .result)) (take (c .before .before .before .before .before .before .before .before .before .loop .end) (c .before .before .before .before .before .before .before .before .before .loop .text)) (length (c .before .before .before .before .before .before .before .before .before .loop .text)) (c .item .last .1 .1 .1 .1 .0) (c .item .result)
-wrote t c = writes-before (c .before .before .before .before .before .before .before .before .before .loop .inv .2) (c .item .ensures .1)
+wrote : (t : ℕ) (c : lts.After-item (claims t) (items-at t) items.Post Inv-loop μ-loop) → WritesForest (c .before .before .before .before .before .before .before .before .before .before .before .before .before .before .args .sheet .now) (c .before .before .before .before .before .before .before .before .before .before .before .before .before .before .args .nodes .now) (c .before .before .before .before .before .before .before .before .before .loop .c) (endAt (c .before .before .before .before .before .before .before .before .before .before .before .before .before .before .args .nodes .now) (c .before .before .before .before .before .before .before .before .before .loop .c)) (λ anc f. listHead (selfAt (c .before .before .before .before .before .before .before .before .before .before .before .before .before .before .args .own) (c .before .before .before .before .before .before .before .before .before .before .before .before .before .before .args .run .now) (c .before .before .before .before .before .before .before .before .before .before .before .before .before .before .args .levels)) anc f (c .before .before .before .renumbered .result)) (take (c .before .before .before .before .before .before .before .before .before .loop .end) (c .before .before .before .before .before .before .before .before .before .loop .text)) (length (c .before .before .before .before .before .before .before .before .before .loop .text)) (c .item .last .1 .1 .1 .1 .0) (c .item .result .wrote)
+wrote t c = writes-before (c .before .before .before .before .before .before .before .before .before .loop .inv .2) (c .item .ensures .1 .0)
 
 -- the child and those behind it, whose context is `next`
 parts : (t : ℕ) (c : lts.After-item (claims t) (items-at t) items.Post Inv-loop μ-loop) (next : ListContext) → next ≡ cond (eqb (c .before .before .before .before .node-name .result) 16) («advance_ol_number» (c .before .before .before .renumbered .result)) (c .before .before .before .renumbered .result)
@@ -120,10 +119,6 @@ returns t c =
       },
     )
 
-next-context-requires : (t : ℕ) → lts.Need-next-context-requires (claims t) (items-at t) items.Post Inv-loop μ-loop
-next-context-requires t c κs =
-    fits-in (c .before .before .before .before .before .before .before .before .before .before .before .before .before .before .before .before .before .before .before .before .before .args .levels) (c .before .before .before .before .before .before .before .before .before .before .renumbered .result) (fits t (c .before .before .before .before .before .before .before .before .before .before))
-
 node-end-requires : (t : ℕ) → lts.Need-node-end-requires (claims t) (items-at t) items.Post Inv-loop μ-loop
 node-end-requires t c κs =
     omega (arith, placeds-at (c .before .before .before .before .before .before .before .before .before .before .before .before .before .before .before .before .before .before .loop .inv .4) (c .before .before .before .before .before .before .before .before .before .before .before .before .before .before .before .before .before .loop-test .taken) .inside, kept t (c .before .before .before .before .before .before .before .before .before) .long)
@@ -140,13 +135,13 @@ loop-again t c =
     let K = kept t (c .before .before .before .before .before .before .before .before .before .before) in
     let q = c .node-end .ensures ∙ end-kept K (l .c) in
     let self = selfAt (s .args .own) (s .args .run .now) (s .args .levels) in (
-      forest-reaches (c .before .before .before .before .before .before .before .before .before .before .item .ensures .1) (here t (c .before .before .before .before .before .before .before .before .before .before .before .before .before .before .before .before .before .before) .alone) (c .before .before .before .before .n .given .1),
-      forest-long (c .before .before .before .before .before .before .before .before .before .before .item .ensures .1) (here t (c .before .before .before .before .before .before .before .before .before .before .before .before .before .before .before .before .before .before) .alone) (c .before .before .before .before .n .given .1) ∙ l .inv .1,
+      forest-reaches (c .before .before .before .before .before .before .before .before .before .before .item .ensures .1 .0) (here t (c .before .before .before .before .before .before .before .before .before .before .before .before .before .before .before .before .before .before) .alone) (c .before .before .before .before .wrote .given .1),
+      forest-long (c .before .before .before .before .before .before .before .before .before .before .item .ensures .1 .0) (here t (c .before .before .before .before .before .before .before .before .before .before .before .before .before .before .before .before .before .before) .alone) (c .before .before .before .before .wrote .given .1) ∙ l .inv .1,
       K,
       omega (arith, placeds-later (l .inv .4) lt, l .inv .3, q),
       subst (λ (k : ℕ). Placeds (s .args .sheet .now) (s .args .nodes .now) k (s .args .to)) (sym q) (placeds-on (l .inv .4) lt),
-      fits-behind (s .args .levels) (eqb (c .before .before .before .before .before .before .before .before .before .before .before .before .before .before .node-name .result) 16) (c .before .before .before .before .before .before .before .before .before .before .before .before .before .renumbered .result) (c .before .before .next-context .result) (c .before .before .next-context .ensures) (fits t (c .before .before .before .before .before .before .before .before .before .before .before .before .before)),
-      turn-on (l .inv .6) (λ anc f. listHead self anc f (c .before .before .before .before .before .before .before .before .before .before .before .before .before .renumbered .result)) (λ anc f. listChildren self anc f (c .before .before .next-context .result)) (parts t (c .before .before .before .before .before .before .before .before .before .before) (c .before .before .next-context .result) (c .before .before .next-context .ensures)) lt (wrote t (c .before .before .before .before .before .before .before .before .before .before)) q (c .before .before .before .before .n .given .1),
+      fits-behind (s .args .levels) (eqb (c .before .before .before .before .before .before .before .before .before .before .before .before .before .before .node-name .result) 16) (c .before .before .before .before .before .before .before .before .before .before .before .before .before .renumbered .result) (c .before .before .before .before .before .before .before .before .before .before .item .result .ctx) (c .before .before .before .before .before .before .before .before .before .before .item .ensures .1 .1) (fits t (c .before .before .before .before .before .before .before .before .before .before .before .before .before)),
+      turn-on (l .inv .6) (λ anc f. listHead self anc f (c .before .before .before .before .before .before .before .before .before .before .before .before .before .renumbered .result)) (λ anc f. listChildren self anc f (c .before .before .before .before .before .before .before .before .before .before .item .result .ctx)) (parts t (c .before .before .before .before .before .before .before .before .before .before) (c .before .before .before .before .before .before .before .before .before .before .item .result .ctx) (c .before .before .before .before .before .before .before .before .before .before .item .ensures .1 .1)) lt (wrote t (c .before .before .before .before .before .before .before .before .before .before)) q (c .before .before .before .before .wrote .given .1),
     )
 
 returns-2 : (t : ℕ) → lts.Need-returns-2 (claims t) (items-at t) items.Post Inv-loop μ-loop
@@ -160,17 +155,19 @@ returns-2 t c =
       },
     )
 
-enum-known-n : (t : ℕ) → lts.Need-enum-known-n (claims t) (items-at t) items.Post Inv-loop μ-loop
-enum-known-n t c = search needs
+enum-known-wrote : (t : ℕ) → lts.Need-enum-known-wrote (claims t) (items-at t) items.Post Inv-loop μ-loop
+enum-known-wrote t c = search needs
 
 enum-told : (t : ℕ) → lts.Need-enum-told (claims t) (items-at t) items.Post Inv-loop μ-loop
 enum-told t c = search needs
 
 same-length : (t : ℕ) → lts.Need-same-length (claims t) (items-at t) items.Post Inv-loop μ-loop
-same-length t c = search needs
+same-length t c =
+    kept t (c .before .before .before .before .before .before) .long
 
 same-length-2 : (t : ℕ) → lts.Need-same-length-2 (claims t) (items-at t) items.Post Inv-loop μ-loop
-same-length-2 t c = search needs
+same-length-2 t c =
+    c .before .before .before .before .before .before .item .kept .1 .1 .1 .1 .0 ∙ c .before .before .before .before .before .before .before .before .before .before .before .before .before .before .before .loop .inv .1
 
 same-length-3 : (t : ℕ) → lts.Need-same-length-3 (claims t) (items-at t) items.Post Inv-loop μ-loop
 same-length-3 t c = search needs
@@ -181,6 +178,6 @@ same-length-4 t c = search needs
 pub spec : (M : Type 1) (t : ℕ) → lts.Closed (claims t) (items-at t) items.Post M
 spec M t =
     lts.spec (claims t) (items-at t) items.Post Inv-loop μ-loop
-    (loop-holds t) (node-place-requires t) (node-name-requires t) (renumbered-requires t) (item-requires t) (enum-known-n t)
-    (enum-told t) (same-length t) (same-length-2 t) (returns t) (next-context-requires t) (node-end-requires t)
+    (loop-holds t) (node-place-requires t) (node-name-requires t) (renumbered-requires t) (item-requires t) (enum-known-wrote t)
+    (enum-told t) (same-length t) (same-length-2 t) (returns t) (node-end-requires t)
     (loop-less t) (loop-again t) (same-length-3 t) (same-length-4 t) (returns-2 t)
