@@ -30,6 +30,12 @@ CHANGES = [
         (OFFSET, "let q : c .before .digits .result + 2 ≡ " + DIGITS + "2) 4", "let q : c .before .digits .result + 1 ≡ " + DIGITS + "1) 4")]),
     ("fence one shorter", [
         ("specs/Md/Elements/Code.antt", "backticks (max («max_backtick_run» content) 2 + 1)", "backticks (max («max_backtick_run» content) 2)")]),
+    ("closing mark of an emphasis left out", [
+        ("specs/Md/Elements/Emphasis.antt", 'cond (endsWith (ascii " ") begun) (dropEnd 1 begun ++ (marker ++ ascii " ")) (begun ++ marker)', 'cond (endsWith (ascii " ") begun) (dropEnd 1 begun ++ ascii " ") begun')]),
+    ("blank at the end of an emphasis inside its marks", [
+        ("specs/Md/Elements/Emphasis.antt", 'cond (endsWith (ascii " ") begun) (dropEnd 1 begun ++ (marker ++ ascii " ")) (begun ++ marker)', "begun ++ marker")]),
+    ("reading: two asterisks are emphasis", [
+        ("specs/Pieces/EmphasisReading.antt", "taken m n = cond (leb 2 m && leb 2 n) 2 1", "taken m n = 1")]),
     ("first data row as heading", [
         ("specs/Md/Elements/Table.antt", "allTh (c ∷ row) = c .isTh && allTh row", "allTh (c ∷ row) = allTh row")]),
     # neither the close of the first nor the opening of the second leaves one

@@ -59,7 +59,7 @@ unfolding null
 last-app a [] h k = rw (append-nil a) h
 last-app a (l ∷ b) h k = last-behind a (l ∷ b) refl k
 
-pub some-app : (a b : List Bytes) → null a ≡ false → null (a ++ b) ≡ false
+pub some-app : {A : Type 0} (a b : List A) → null a ≡ false → null (a ++ b) ≡ false
 unfolding null
 some-app [] b n = absurd (true≢false n)
 some-app (l ∷ a) b n = refl

@@ -6,7 +6,7 @@ use mathlib.Core.Bool.{Bool, true, false, cond, and-false, or-true}
 use mathlib.Core.List.{List, [], _∷_, _++_, append-nil, append-assoc}
 use lib.Dec.{eqb, leb}
 use lib.ListN.{length, replicate}
-use borrow.Author.Tests.{eqb-true, le-leb, lt-leb}
+use borrow.Author.Tests.{eqb-true, le-leb, lt-leb, eq-eqb}
 use Rattle.spec.specs.Bytes.{Bytes, ascii, null, same, isin, every, endsWith}
 use Rattle.spec.specs.Entries.{Entry, fixed}
 use Rattle.spec.specs.SheetList.{withFinalLf}
@@ -164,23 +164,24 @@ fence-lines o m n t (l ∷ ls) more u h =
 
 -- ---- the fence
 
-pub run-front : (k : ℕ) (r : Bytes) → headIs 96 r ≡ false → run 96 (replicate k 96 ++ r) ≡ k
+-- a run of the byte c before what begins with another
+pub run-front : (c k : ℕ) (r : Bytes) → headIs c r ≡ false → run c (replicate k c ++ r) ≡ k
 unfolding run headIs
-run-front zero [] h = refl
-run-front zero (b ∷ r) h = rw h
-run-front (suc k) r h = ap suc (run-front k r h)
+run-front c zero [] h = refl
+run-front c zero (b ∷ r) h = rw h
+run-front c (suc k) r h = rw (eq-eqb c c refl, run-front c k r h)
 
-pub drop-front : (k : ℕ) (r : Bytes) → headIs 96 r ≡ false → dropRun 96 (replicate k 96 ++ r) ≡ r
+pub drop-front : (c k : ℕ) (r : Bytes) → headIs c r ≡ false → dropRun c (replicate k c ++ r) ≡ r
 unfolding dropRun headIs
-drop-front zero [] h = refl
-drop-front zero (b ∷ r) h = rw h
-drop-front (suc k) r h = drop-front k r h
+drop-front c zero [] h = refl
+drop-front c zero (b ∷ r) h = rw h
+drop-front c (suc k) r h = rw (eq-eqb c c refl) (drop-front c k r h)
 
 pub run-fence : (k : ℕ) → run 96 (replicate k 96) ≡ k
-run-fence k = rw append-nil at (run-front k [] (unfold headIs in refl))
+run-fence k = rw append-nil at (run-front 96 k [] (unfold headIs in refl))
 
 pub drop-fence : (k : ℕ) → dropRun 96 (replicate k 96) ≡ []
-drop-fence k = rw append-nil at (drop-front k [] (unfold headIs in refl))
+drop-fence k = rw append-nil at (drop-front 96 k [] (unfold headIs in refl))
 
 start-fence : (k : ℕ) → 2 ≤ k → start (replicate (suc k) 96) ≡ fenceStart 96 (suc k) []
 unfolding start startBy lead fence fenceBy isin

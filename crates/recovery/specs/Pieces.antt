@@ -24,6 +24,17 @@ pub mod ClosingEscapes
 pub mod Headings
 pub mod Marks
 pub mod Emphasis
+pub mod EmphasisTokens
+pub mod EmphasisSpelt
+pub mod EmphasisSheets
+pub mod EmphasisTexts
+pub mod EmphasisElements
+pub mod EmphasisPhrases
+pub mod EmphasisFlags
+pub mod EmphasisWritten
+pub mod EmphasisTurns
+pub mod EmphasisRead
+pub mod EmphasisExamples
 pub mod LinkTexts
 pub mod LinkParts
 pub mod LinkWholes

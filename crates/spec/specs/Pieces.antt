@@ -13,4 +13,5 @@ pub mod Srcset
 pub mod Lines
 pub mod Tables
 pub mod Emphasis
+pub mod EmphasisReading
 pub mod LinkWholes

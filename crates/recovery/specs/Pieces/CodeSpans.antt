@@ -164,7 +164,7 @@ unfolding codeSpan content
 span-read n x r i h l e u k =
     let z : headIs 96 (x ++ (replicate (suc n) 96 ++ r)) ≡ false = head-app 96 x _ i h in
     let f : headIs 96 (replicate (suc n) 96 ++ (x ++ (replicate (suc n) 96 ++ r))) ≡ true = unfold headIs in refl in
-    rw (f, run-front (suc n) _ z, drop-front (suc n) _ z, up-content (suc n) 0 x r k (omega arith) e, unbroken-same x u)
+    rw (f, run-front 96 (suc n) _ z, drop-front 96 (suc n) _ z, up-content (suc n) 0 x r k (omega arith) e, unbroken-same x u)
 
 first-black : (code : Bytes) → needsSpace code ≡ false → headIs 96 code ≡ false
 unfolding needsSpace startsWith same headIs

@@ -30,7 +30,7 @@ unfolding dropRun
 run-behind zero rest = refl
 run-behind (suc n) rest = run-behind n rest
 
-may-open : (p q : Beside) → mayOpen 42 p q ≡ leftFlanking p q
+pub may-open : (p q : Beside) → mayOpen 42 p q ≡ leftFlanking p q
 unfolding mayOpen
 may-open p q = and-true (leftFlanking p q)
 
@@ -50,7 +50,7 @@ closes-where k n x rest = rw (run-behind (suc n) rest, may-open (k .first (dropR
 abbrev begun : Bytes → Bytes
 begun content = cond (startsWith (ascii " ") content) (drop 1 content) content
 
--- the emphasis text without a blank at either end
+-- the emphasis text without one blank at either end. A second one stays: `b` that holds "a " and `i` of a blank is written `**a **`
 unfoldable pub body : Bytes → Bytes
 body content = cond (endsWith (ascii " ") (begun content)) (dropEnd 1 (begun content)) (begun content)
 

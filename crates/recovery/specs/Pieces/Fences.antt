@@ -123,7 +123,7 @@ start-fence-info : (k : ℕ) (lang : Bytes) → 2 ≤ k → every infoByte lang 
     → start (replicate (suc k) 96 ++ lang) ≡ fenceStart 96 (suc k) lang
 unfolding start startBy lead fence fenceBy
 start-fence-info k lang h u =
-    rw (run-front k lang (no-first-tick lang u), drop-front k lang (no-first-tick lang u), no-tick lang u, le-leb 3 (suc k) (omega arith))
+    rw (run-front 96 k lang (no-first-tick lang u), drop-front 96 k lang (no-first-tick lang u), no-tick lang u, le-leb 3 (suc k) (omega arith))
 
 block-read : (k m : ℕ) (lang : Bytes) (ls more : List Bytes) → 2 ≤ k → m ≤ k → every infoByte lang ≡ true → Under m ls
     → fenced ((replicate (suc k) 96 ++ lang) ∷ (ls ++ (replicate (suc k) 96 ∷ more)))

@@ -137,7 +137,7 @@ broken-lfs (suc (suc k)) = ap (broken false) (lfs-two k) ∙ (broken-lines false
 unfoldable pub trimmed : Bytes → Bytes
 trimmed t = «trim_space» t .text
 
-lfs-white : (k : ℕ) → every white (lfs k) ≡ true
+pub lfs-white : (k : ℕ) → every white (lfs k) ≡ true
 unfolding lfs every white isin
 lfs-white zero = refl
 lfs-white (suc k) = lfs-white k

@@ -91,7 +91,7 @@ unfolding closed
 closed-line n v h l = rw (last-not (10 ∷ []) 10 v l) (closed-md n v h)
 
 -- a block that is one line: its text c, as it stands when its close has escaped it, and blanks behind it
-leaf-real : (m : ℕ) (anc : Ancestors) (name : Bytes) (kids : Forest) (t x v c z : Bytes) → «is_md_block» (tagOf name) ≡ true → hasWriter flat (tagOf name) ≡ false
+pub leaf-real : (m : ℕ) (anc : Ancestors) (name : Bytes) (kids : Forest) (t x v c z : Bytes) → «is_md_block» (tagOf name) ≡ true → hasWriter flat (tagOf name) ≡ false
     → writeAt «DEFAULT_SKIP_TAGS» m ([] ∷ anc) flat kids (broken false t ++ «md_prefix» (tagOf name)) .text ≡ v
     → lastIs (λ b. eqb b 10) v ≡ false
     → closeText («is_heading» (tagOf name)) v ≡ broken false t ++ (c ++ z)

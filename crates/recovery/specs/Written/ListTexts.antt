@@ -49,7 +49,7 @@ item-break : (b : Bool) (o i : ℕ) (number : Option ℕ) → breakOf («advance
 unfolding contextAt
 item-break b o i number = ap breakOf (advanced-context b o i number)
 
-item-text : (self : MDSerializer) (anc : Ancestors) (name : Bytes) (attrs : List Attr) (kids : Forest) (b : Bool) (o i : ℕ) (number : Option ℕ) (t : Bytes)
+pub item-text : (self : MDSerializer) (anc : Ancestors) (name : Bytes) (attrs : List Attr) (kids : Forest) (b : Bool) (o i : ℕ) (number : Option ℕ) (t : Bytes)
     → «write_list_item» self anc (element name attrs kids nothing) (contextAt b o i number) t .text
     ≡ trimmed (self .below (attrs ∷ anc) (optsAt true (i + deeper number)) kids (trimBlanks t ++ (replicate i 32 ++ marker number)) .text) ++ ascii "\n"
 unfolding «write_list_item» andThen push contextAt
@@ -62,7 +62,7 @@ unfoldable pub stem : Option ℕ → Bytes
 stem none = ascii "-"
 stem (some n) = decimal n ++ ascii "."
 
-marker-stem : (number : Option ℕ) → marker number ≡ stem number ++ ascii " "
+pub marker-stem : (number : Option ℕ) → marker number ≡ stem number ++ ascii " "
 unfolding marker stem
 marker-stem none = refl
 marker-stem (some n) = sym (append-assoc (decimal n) (ascii ".") (ascii " "))

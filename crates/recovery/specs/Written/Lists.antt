@@ -37,12 +37,12 @@ pub record Room (x : Bytes) (i : ℕ) : Type 0 where
   pub after : lastIs blank (10 ∷ x) ≡ false
   pub begins : (r : Bytes) → firstIs white r ≡ false → firstIs white (x ++ (replicate i 32 ++ r)) ≡ false
 
-lfs-last : (k : ℕ) (x : Bytes) → lastIs blank (10 ∷ x) ≡ false → lastIs blank (10 ∷ (lfs k ++ x)) ≡ false
+pub lfs-last : (k : ℕ) (x : Bytes) → lastIs blank (10 ∷ x) ≡ false → lastIs blank (10 ∷ (lfs k ++ x)) ≡ false
 unfolding lfs lastIs null
 lfs-last zero x h = h
 lfs-last (suc k) x h = lfs-last k x h
 
-trim-behind : (y : Bytes) → lastIs blank (10 ∷ y) ≡ false → trimBlanks y ≡ y
+pub trim-behind : (y : Bytes) → lastIs blank (10 ∷ y) ≡ false → trimBlanks y ≡ y
 unfolding lastIs null trimBlanks «trim_end_matches»
 trim-behind [] h = refl
 trim-behind (b ∷ y) h = trim-fix blank (b ∷ y) h

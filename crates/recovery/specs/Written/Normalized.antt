@@ -25,18 +25,18 @@ pipes-Esc s (ebare {b} q h) = rw (bare-not b 124 q (unfold bare isin in refl)) (
 pipes-Esc s (eback {b} p h) = rw (and-false (eqb b 124)) (ap (λ (r : Bytes). 92 ∷ b ∷ r) (pipes-Esc (eqb b 92) h))
 
 -- white bytes alone hold no word
-white-parts : (s : Bytes) → every white s ≡ true → (parts white s .0 ≡ []) × (filled (parts white s .1) ≡ [])
+pub white-parts : (s : Bytes) → every white s ≡ true → (parts white s .0 ≡ []) × (filled (parts white s .1) ≡ [])
 unfolding every parts cutAt filled null
 white-parts [] h = (refl, refl)
 white-parts (b ∷ s) h =
     let r : (parts white s .0 ≡ []) × (filled (parts white s .1) ≡ []) = white-parts s (and-r (white b) _ h) in
     rw (and-l (white b) _ h) (refl, rw (r .0) (r .1))
 
-white-words : (s : Bytes) → every white s ≡ true → words s ≡ []
+pub white-words : (s : Bytes) → every white s ≡ true → words s ≡ []
 unfolding words split filled null
 white-words s h = rw (white-parts s h .0) (white-parts s h .1)
 
-text-black : (s : Bytes) → plainText s ≡ true → isBlank s ≡ false
+pub text-black : (s : Bytes) → plainText s ≡ true → isBlank s ≡ false
 unfolding isBlank null
 text-black s h = go (every white s) refl
   where

@@ -42,7 +42,7 @@ unfolding allOf wideBlanks whiteSpace every black white isin
 wide-black c h = among-yes (every black) c wideBlanks h refl
 
 -- no White_Space character of more than one byte begins with a white byte
-not-high : (b c : ℕ) (r : Bytes) → white b ≡ true → isWhiteSpace (b ∷ c ∷ r) ≡ false
+pub not-high : (b c : ℕ) (r : Bytes) → white b ≡ true → isWhiteSpace (b ∷ c ∷ r) ≡ false
 unfolding isWhiteSpace whiteSpace among same white isin
 not-high b c r h =
     rw (apart white b 0xC2 h refl, apart white b 0xE1 h refl, apart white b 0xE2 h refl, apart white b 0xE3 h refl, and-false (eqb b 9), and-false (eqb b 10), and-false (eqb b 11), and-false (eqb b 12), and-false (eqb b 13), and-false (eqb b 32))

@@ -204,7 +204,7 @@ blocks-real (element name attrs kids rest) (suc m) anc t before low h b a =
     (element-real w m anc name attrs kids t before refl b a (and-l c _ h) (omega arith)
     (λ k d u z. blocks-real kids m ([] ∷ anc) u before (omega arith) k d z)))
 
-trim-after : {t x : Bytes} → After t x → trimmed t ≡ x
+pub trim-after : {t x : Bytes} → After t x → trimmed t ≡ x
 trim-after {t} {x} (begun k e n) = ap trimmed e ∙ (trim-lfs k ∙ sym n)
 trim-after {t} {x} (behind k g e f l) = ap trimmed e ∙ trim-core k x (sep g) f l (go g)
   where
