@@ -42,6 +42,19 @@ CHANGES = [
     ("no blank line between two paragraphs", [
         ("specs/Md/Serializer.antt", "let end = cond (isTight opts name attrs kids) lb («double_linebreak» (opts .«table_cell»)) in", "let end = lb in"),
         ("specs/Md/Serializer.antt", "(«add_linebreaks» lb («double_linebreak» (opts .«table_cell»)) t)", "(«add_linebreaks» lb lb t)")]),
+    ("no backslash before a `!` at the end", [
+        ("specs/Md/TextUtils.antt", 'take (length t - 1) t ++ ascii "\\\\!"', 'take (length t - 1) t ++ ascii "!"')]),
+    # no number is at least 1 and at most 0
+    ("no digits of a marker before a dot of the next text", [
+        ("specs/Md/TextUtils.antt", "(leb 1 n && leb n 9) && atIndent (beforeMarker stem)", "(leb 1 n && leb n 0) && atIndent (beforeMarker stem)")]),
+    ("indent of an item's blocks without its marker", [
+        ("specs/Md/Elements/List.antt", "indent = replicate (ctx .«list_indent» + length (prefix ctx)) 32;", "indent = replicate (ctx .«list_indent») 32;")]),
+    ("marker of an item not seen before digits", [
+        ("specs/Md/TextUtils.antt", 'cond (endsWith (ascii " ") stem && marker) before stem', 'cond (endsWith (ascii "\\n") stem && marker) before stem')]),
+    ("lines of a code block in an item without indent", [
+        ("specs/Md/Elements/List.antt", "(cond (null line) [] (item .indent) ++", "(cond (null line) (item .indent) [] ++")]),
+    ("pictures without their writer", [
+        ("specs/Md/Serializer.antt", "tag.a ∷ tag.img ∷ tag.pre", "tag.a ∷ tag.pre")]),
     ("reading: a shorter fence closes a fenced text", [
         ("specs/Reading/Starts.antt", "closingFence c n r = leb n (run c r) && blankLine (dropRun c r)", "closingFence c n r = leb 3 (run c r) && blankLine (dropRun c r)")]),
     ("reading: an ordered list of any number interrupts a paragraph", [

@@ -37,19 +37,19 @@ base-last b c (k ∷ ks) = base-last k c ks
 unfoldable pub content : ℕ → Option ℕ → ℕ
 content i number = suc (i + markerWidth number)
 
-behind-column : (m : ℕ) (t : Bytes) → solid t ≡ true → column m (32 ∷ t) ≡ suc m
+pub behind-column : (m : ℕ) (t : Bytes) → solid t ≡ true → column m (32 ∷ t) ≡ suc m
 unfolding column spaceOrTab width
 behind-column m t h = indented-column (m + 1) 0 t h ∙ omega arith
 
-behind-strip : (t : Bytes) → solid t ≡ true → strip (32 ∷ t) ≡ t
+pub behind-strip : (t : Bytes) → solid t ≡ true → strip (32 ∷ t) ≡ t
 unfolding strip dropWhile spaceOrTab
 behind-strip t h = indented-strip 0 t h
 
-behind-blank : (t : Bytes) → solid t ≡ true → blankLine (32 ∷ t) ≡ false
+pub behind-blank : (t : Bytes) → solid t ≡ true → blankLine (32 ∷ t) ≡ false
 unfolding blankLine every spaceOrTab
 behind-blank t h = indented-blank 0 t h
 
-content-next : (m : ℕ) → contentColumn m (suc m) ≡ suc m
+pub content-next : (m : ℕ) → contentColumn m (suc m) ≡ suc m
 unfolding contentColumn
 content-next m = rw (le-leb (suc m) (m + 4) (omega arith))
 
@@ -63,7 +63,7 @@ line-words f c ks o d number w ws h = rw (base-last 0 c ks, lt-leb (c + 4) c (om
 
 -- ---- the line
 
-line-some : (i : ℕ) (t : Bytes) → solid t ≡ true → (n : ℕ) × (length (replicate i 32 ++ t) ≡ suc n)
+pub line-some : (i : ℕ) (t : Bytes) → solid t ≡ true → (n : ℕ) × (length (replicate i 32 ++ t) ≡ suc n)
 line-some zero [] h = unfold solid in absurd (false≢true h)
 line-some zero (b ∷ t) h = (length t, refl)
 line-some (suc i) t h = (length (replicate i 32 ++ t), refl)

@@ -126,7 +126,7 @@ unfolding dropWhile every digit
 drop-digits [] t h = refl
 drop-digits (b ∷ ds) t h = rw (and-l (digit b) _ h) (drop-digits ds t (and-r (digit b) _ h))
 
-lead-digit : (b : ℕ) → digit b ≡ true → lead b ≡ digitLead
+pub lead-digit : (b : ℕ) → digit b ≡ true → lead b ≡ digitLead
 unfolding lead digit
 lead-digit b h =
     rw (
@@ -179,7 +179,7 @@ start-marker none t k h = start-bullet t h
 start-marker (some n) t k h = rw (append-assoc (decimal n) (46 ∷ 32 ∷ []) t) (start-number n t (leb-true n 999999999 k))
 
 -- it is no underline
-digits-underline : (ds t : Bytes) → every digit ds ≡ true → 1 ≤ length ds → underline (ds ++ t) ≡ false
+pub digits-underline : (ds t : Bytes) → every digit ds ≡ true → 1 ≤ length ds → underline (ds ++ t) ≡ false
 unfolding underline every digit
 digits-underline [] t h k = absurd (omega arith)
 digits-underline (b ∷ ds) t h k =
@@ -209,7 +209,7 @@ start-item true number t k h i =
     rw (marker-underline number t h, start-marker number t k h, behind-blank t h, starts-at-one number, i refl)
 
 -- the line itself begins with no blank
-digits-solid : (ds t : Bytes) → every digit ds ≡ true → 1 ≤ length ds → solid (ds ++ t) ≡ true
+pub digits-solid : (ds t : Bytes) → every digit ds ≡ true → 1 ≤ length ds → solid (ds ++ t) ≡ true
 unfolding solid every digit spaceOrTab
 digits-solid [] t h k = absurd (omega arith)
 digits-solid (b ∷ ds) t h k =

@@ -8,6 +8,7 @@ pub mod CodeTexts
 pub mod Meanings
 pub mod Fences
 pub mod Pre
+pub mod FenceFeeds
 pub mod Attributes
 pub mod Received
 pub mod Destinations
@@ -23,6 +24,15 @@ pub mod Closing
 pub mod ClosingEscapes
 pub mod Headings
 pub mod Marks
+pub mod ItemColumns
+pub mod ItemTexts
+pub mod ItemBlocks
+pub mod ItemParagraphs
+pub mod ItemFences
+pub mod ItemExamples
+pub mod WholeTrims
+pub mod Elements
+pub mod ElementExamples
 pub mod Emphasis
 pub mod EmphasisTokens
 pub mod EmphasisSpelt
@@ -38,5 +48,10 @@ pub mod EmphasisExamples
 pub mod LinkTexts
 pub mod LinkParts
 pub mod LinkWholes
+pub mod TextStarts
+pub mod Texts
+pub mod TextWords
+pub mod Bangs
+pub mod SpanBegins
 pub mod WrittenLinks
 pub mod WholeExamples

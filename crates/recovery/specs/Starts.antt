@@ -26,7 +26,7 @@ unfoldable pub dotEnds : Bytes → Bool
 dotEnds [] = false
 dotEnds (b ∷ w) = cond (digit b) (dotEnds w) (dot b && null w)
 
-dot-digit : (b : ℕ) → dot b ≡ true → digit b ≡ false
+pub dot-digit : (b : ℕ) → dot b ≡ true → digit b ≡ false
 unfolding dot digit
 dot-digit b h = or-elim (eqb b 46) (eqb b 41) (λ e. ap digit (eqb-true b 46 e)) (λ e. ap digit (eqb-true b 41 e)) h
 
@@ -49,7 +49,7 @@ last-dot b (c ∷ w) = go (digit b) (last-dot c w)
     go false ih = rw (and-false (lastDot c w), and-false (dot b))
 
 -- behind a first digit, a word is a list marker just where its other bytes are digits and a last dot
-marker-dotEnds : (b : ℕ) (w : Bytes) → digit b ≡ true → «is_ordered_list_marker» (b ∷ w) ≡ dotEnds w
+pub marker-dotEnds : (b : ℕ) (w : Bytes) → digit b ≡ true → «is_ordered_list_marker» (b ∷ w) ≡ dotEnds w
 unfolding «is_ordered_list_marker» endsWith null dotEnds lastDot every same
 marker-dotEnds b [] h = simp and-false
 marker-dotEnds b (c ∷ w) h = rw (one-less (suc (length w)), h) (last-dot c w)
@@ -68,7 +68,7 @@ dot-escaped m u b r h =
 
 -- ---- a number that no marker follows
 
-plain-blank : (b : ℕ) → plainByte b ≡ true → spaceOrTab b ≡ false
+pub plain-blank : (b : ℕ) → plainByte b ≡ true → spaceOrTab b ≡ false
 unfolding plainByte white isin spaceOrTab
 plain-blank b h = rw (apart plainByte b 32 h refl, apart plainByte b 9 h refl)
 
@@ -78,7 +78,7 @@ unfolding ends spaceOrTab
 ends-by true b r t h = refl
 ends-by false b r t h = plain-blank b h
 
-ends-from : (start m u : Bool) (b : ℕ) (w t : Bytes) → plainByte b ≡ true → ends (escapedFrom start m u (b ∷ w) ++ t) ≡ false
+pub ends-from : (start m u : Bool) (b : ℕ) (w t : Bytes) → plainByte b ≡ true → ends (escapedFrom start m u (b ∷ w) ++ t) ≡ false
 unfolding escapedFrom
 ends-from start m u b w t h = ends-by (isEscaped start m u b w) b (escapedFrom false m u w) t h
 
@@ -129,7 +129,7 @@ numberless-word m u (b ∷ w) t e h k =
 unfoldable pub mild : ℕ → Bool
 mild b = plainByte b && (not (isin b (ascii "\\`*_[]<|~")) && not (isin b (ascii "#>-+")))
 
-lead-mild : (b : ℕ) → mild b ≡ true → lead b ≡ cond (digit b) digitLead otherLead
+pub lead-mild : (b : ℕ) → mild b ≡ true → lead b ≡ cond (digit b) digitLead otherLead
 unfolding lead mild plainByte kept white isin
 lead-mild b h =
     rw (

@@ -1,13 +1,13 @@
 -- Words: those of a plain text, and words put in one line with a blank between them, which part there again. Assumes nothing.
 use Prim.Native.Nat.{ℕ}
-use mathlib.Core.Path.{_≡_, refl, sym}
+use mathlib.Core.Path.{_≡_, refl, sym, ap}
 use mathlib.Core.Bool.{Bool, true, false, cond, not, _&&_}
 use mathlib.Core.List.{List, [], _∷_, _++_, append-nil}
 use lib.Dec.{eqb}
 use borrow.Author.Tests.{eqb-false, ne-eqb, not-true}
 use Rattle.spec.specs.Bytes.{Bytes, null, isin, every, white, cutAt, parts, split, filled, words}
 use Rattle.spec.specs.Plain.{without, plainText}
-use Rattle.spec.proofs.Tests.{and-l, and-r, or-l, or-r}
+use Rattle.spec.proofs.Tests.{and-l, and-r, or-l, or-r, every-imp}
 
 -- ---- the words of plain texts
 
@@ -35,10 +35,14 @@ plain-black b h = not-true (white b) (and-l (not (white b)) _ h)
 
 -- ---- parts
 
-pub parts-word : (w r : Bytes) → every plainByte w ≡ true → parts white (w ++ r) ≡ (w ++ parts white r .0, parts white r .1)
+-- a part stays whole
+pub parts-part : (p : ℕ → Bool) (w r : Bytes) → every (λ b. not (p b)) w ≡ true → parts p (w ++ r) ≡ (w ++ parts p r .0, parts p r .1)
 unfolding every parts cutAt
-parts-word [] r h = refl
-parts-word (b ∷ w) r h = rw (plain-black b (and-l (plainByte b) _ h), parts-word w r (and-r (plainByte b) _ h))
+parts-part p [] r h = refl
+parts-part p (b ∷ w) r h = rw (not-true (p b) (and-l (not (p b)) _ h), parts-part p w r (and-r (not (p b)) _ h))
+
+pub parts-word : (w r : Bytes) → every plainByte w ≡ true → parts white (w ++ r) ≡ (w ++ parts white r .0, parts white r .1)
+parts-word w r h = parts-part white w r (every-imp plainByte (λ b. not (white b)) w (λ b e. ap not (plain-black b e)) h)
 
 -- the words with a blank before each
 unfoldable pub blanked : List Bytes → Bytes
@@ -155,7 +159,7 @@ kept-plain : (b : ℕ) → white b ≡ false → kept b ≡ true → plainByte b
 unfolding plainByte
 kept-plain b e k = rw (e, k)
 
-words-plain : (s : Bytes) → every kept s ≡ true → plainWords (words s) ≡ true
+pub words-plain : (s : Bytes) → every kept s ≡ true → plainWords (words s) ≡ true
 unfolding words split Parted
 words-plain s h =
     filled-plainly _ (unfold allOf in rw (parts-all kept plainByte kept-plain s h .0) (parts-all kept plainByte kept-plain s h .1))

@@ -15,3 +15,5 @@ pub mod Tables
 pub mod Emphasis
 pub mod EmphasisReading
 pub mod LinkWholes
+pub mod Images
+pub mod Items

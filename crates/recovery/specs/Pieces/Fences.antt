@@ -109,7 +109,7 @@ unfolding headIs every
 no-first-tick [] h = refl
 no-first-tick (b ∷ lang) h = apart infoByte b 96 (and-l (infoByte b) _ h) (unfold infoByte isAlphanumeric digit isin in refl)
 
-info-line : (b : ℕ) → infoByte b ≡ true → inLine b ≡ true
+pub info-line : (b : ℕ) → infoByte b ≡ true → inLine b ≡ true
 unfolding inLine
 info-line b h = ap not (isin-no infoByte b (0 ∷ 10 ∷ 13 ∷ []) h (unfold every infoByte isAlphanumeric digit isin in refl))
 
@@ -125,7 +125,7 @@ unfolding start startBy lead fence fenceBy
 start-fence-info k lang h u =
     rw (run-front 96 k lang (no-first-tick lang u), drop-front 96 k lang (no-first-tick lang u), no-tick lang u, le-leb 3 (suc k) (omega arith))
 
-block-read : (k m : ℕ) (lang : Bytes) (ls more : List Bytes) → 2 ≤ k → m ≤ k → every infoByte lang ≡ true → Under m ls
+pub block-read : (k m : ℕ) (lang : Bytes) (ls more : List Bytes) → 2 ≤ k → m ≤ k → every infoByte lang ≡ true → Under m ls
     → fenced ((replicate (suc k) 96 ++ lang) ∷ (ls ++ (replicate (suc k) 96 ∷ more)))
     ≡ some (record { info = lang; content = ended ls; more = more })
 unfolding fenced fencedBy
@@ -134,7 +134,7 @@ block-read k m lang ls more h l u w =
     let s : strip (replicate (suc k) 96 ++ lang) ≡ replicate (suc k) 96 ++ lang = unfold strip dropWhile spaceOrTab in refl in
     rw (c, s, start-fence-info k lang h u, info-same lang u, content-lines m k ls more w l)
 
-block-clean : (f lang : Bytes) (ls : List Bytes) → every inLine f ≡ true → every inLine lang ≡ true → clean ls ≡ true
+pub block-clean : (f lang : Bytes) (ls : List Bytes) → every inLine f ≡ true → every inLine lang ≡ true → clean ls ≡ true
     → clean ((f ++ lang) ∷ (ls ++ (f ∷ []))) ≡ true
 unfolding clean
 block-clean f lang ls t i h = rw (every-app inLine f lang t i) (clean-app ls (f ∷ []) h (rw t))

@@ -8,7 +8,7 @@ use mathlib.Core.Option.{Option, none, some}
 use lib.Dec.{eqb, ltb}
 use lib.ListN.{length, drop}
 use borrow.Author.Tests.{le-leb, leb-true}
-use Rattle.spec.specs.Bytes.{Bytes, ascii, null, same, isin, every, startsWith, endsWith, white, blank, digit, one, unless, «trim_end_matches», «trim_start_matches», «trim_ascii_end», takeWhile, valueFrom, decimal}
+use Rattle.spec.specs.Bytes.{Bytes, ascii, null, same, isin, every, startsWith, endsWith, white, blank, digit, one, «trim_end_matches», «trim_start_matches», «trim_ascii_end», takeWhile, valueFrom, decimal}
 use Rattle.spec.specs.Decimal.{length-nine}
 use Rattle.spec.specs.ListNumber.{largestNumber}
 use Rattle.spec.specs.Names as tag
@@ -29,10 +29,10 @@ use Rattle.spec.specs.declared.ctx.ListKind.{ListKind}
 use Rattle.spec.specs.declared.ctx.ListKind.the-variants.{Ul, Ol}
 use Rattle.spec.proofs.ListNumbers.{clamped-most}
 use Rattle.recovery.specs.Markers.{markerWidth, smallNumber, start-number}
-use Rattle.recovery.specs.Pieces.Trims.{Tail, tail-of}
+use Rattle.recovery.specs.Pieces.Trims.{Tail, tail-of, trim-some}
 use Rattle.recovery.specs.Pieces.Closing.{blank-line}
 use Rattle.recovery.specs.Written.Breaks.{sep, broken, ends-two}
-use Rattle.recovery.specs.Written.Ends.{null-app, ends-by}
+use Rattle.recovery.specs.Written.Ends.{ends-by}
 
 -- ---- rules
 
@@ -164,13 +164,8 @@ marker-read ctx t s h = go (ctx .kind) (ctx .opts .«table_cell») s
 
 -- what is left of a line that is more than blanks
 trim-line : (x l : Bytes) → null (trimBlanks l) ≡ false → trimBlanks (x ++ l) ≡ x ++ trimBlanks l
-unfolding trimBlanks «trim_end_matches» unless
-trim-line [] l h = refl
-trim-line (b ∷ x) l h = rw (trim-line x l h) (go (x ++ «trim_end_matches» (one blank) l) (null-app x («trim_end_matches» (one blank) l) h))
-  where
-    go : (r : Bytes) → null r ≡ false → unless (one blank (b ∷ r)) (b ∷ r) ≡ b ∷ r
-    go [] e = unfold null in absurd (true≢false e)
-    go (c ∷ r) e = unfold one unless in refl
+unfolding trimBlanks
+trim-line x l h = trim-some blank x l h
 
 trim-blank : (l z : Bytes) → every blank z ≡ true → blankLine (trimBlanks l ++ z) ≡ blankLine l
 unfolding trimBlanks

@@ -8,6 +8,7 @@ use borrow.Author.Tests.{eqb-true, not-true}
 use Rattle.spec.specs.Bytes.{Bytes, null, isin, every, one, unless, whiteSpace, isWhiteSpace, «trim_end_matches», «trim_end»}
 use Rattle.spec.proofs.Tests.{and-l, and-r, or-l, or-r, allOf, among-yes}
 use Rattle.recovery.specs.Closed.{hash}
+use Rattle.recovery.specs.Written.Ends.{null-app}
 
 -- ---- `trim_end` and #
 
@@ -96,3 +97,14 @@ tail-of p (b ∷ s) = go («trim_end_matches» (one p) s) (tail-of p s)
         alone true e = unfold one in rw e (record { tail = b ∷ s; is = unfold unless in refl; all = unfold every in rw e (rw (t .is) (t .all)) })
         alone false e = unfold one in rw e (record { tail = t .tail; is = unfold unless in ap (λ (x : Bytes). b ∷ x) (t .is); all = t .all })
     go (c ∷ r) t = unfold one unless in record { tail = t .tail; is = ap (λ (x : Bytes). b ∷ x) (t .is); all = t .all }
+
+-- a text of which something is left stays so behind another
+pub trim-some : (p : ℕ → Bool) (x l : Bytes) → null («trim_end_matches» (one p) l) ≡ false
+    → «trim_end_matches» (one p) (x ++ l) ≡ x ++ «trim_end_matches» (one p) l
+unfolding «trim_end_matches» unless
+trim-some p [] l h = refl
+trim-some p (b ∷ x) l h = rw (trim-some p x l h) (go (x ++ «trim_end_matches» (one p) l) (null-app x («trim_end_matches» (one p) l) h))
+  where
+    go : (r : Bytes) → null r ≡ false → unless (one p (b ∷ r)) (b ∷ r) ≡ b ∷ r
+    go [] e = unfold null in absurd (true≢false e)
+    go (c ∷ r) e = unfold one unless in refl

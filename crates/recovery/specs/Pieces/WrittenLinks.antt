@@ -11,8 +11,10 @@ use Rattle.spec.specs.Md.Elements.Link.{linkOf}
 use Rattle.spec.specs.Md.TextUtils.{«escape_trailing_bang», normalized, «push_normalized_text», «html_escape», destination, «push_md_url», «push_title»}
 use Rattle.spec.specs.Out.{Out, Step, keep, push, andThen, beside, nested}
 use Rattle.spec.specs.Tree.{Attr, attr}
+use Rattle.spec.specs.Pieces.Images.{opensImage}
 use Rattle.spec.specs.Pieces.LinkWholes.{balancedText, holdsLink, inlineLink, inlineImage}
 use Rattle.spec.specs.declared.ctx.FormatOpts.{FormatOpts}
+use Rattle.recovery.specs.Pieces.Bangs.{openBang, no-image}
 use Rattle.recovery.specs.Pieces.TitleTexts.{title-text}
 use Rattle.recovery.specs.Pieces.LinkTexts.{normalized-text, normalized-linkless}
 use Rattle.recovery.specs.Pieces.LinkWholes.{titlePart, titleIn, hasTitle, linkBytes, link-read, image-read}
@@ -39,30 +41,34 @@ unfolding linkOf nested andThen beside push linkBytes
 link-written attrs href link x append t n a =
     rw (n, a, end-written attrs href ((«escape_trailing_bang» t .text ++ ascii "[") ++ x)) (simp append-assoc)
 
--- a text with a link behind it that has the text x, the destination of href and the title t
-pub record ReadLink (text before x href : Bytes) (t : Option Bytes) : Type 0 where
+-- the text `was` with a link behind it that has the text x, the destination of href and the title t; `before` stands before the link.
+-- No image begins with its bracket, but where `was` ends with a `!` that is escaped already, as no text of nodes does (`settled-text`)
+pub record ReadLink (text was before x href : Bytes) (t : Option Bytes) : Type 0 where
   pub written : text ≡ before ++ linkBytes x href t
+  pub noImage : openBang was ≡ true → opensImage false before ≡ false
   pub read : (not (null href) || not (hasTitle t)) ≡ true → (rest : Bytes)
       → inlineLink (linkBytes x href t ++ rest) ≡ some (record { text = x; destination = destination («html_escape» href); title = titleIn t; behind = rest })
 
 -- a link that shows its texts, whatever they hold
 pub text-link : (opts : FormatOpts) (href : Bytes) (attrs : List Attr) (link : Out) (t : Bytes) → null (link .text) ≡ false
-    → ReadLink (written.textLink opts href attrs link t .text) («escape_trailing_bang» t .text)
+    → ReadLink (written.textLink opts href attrs link t .text) t («escape_trailing_bang» t .text)
     (normalized new («escape_trailing_bang» t .text ++ ascii "[") (link .text)) href (attr (ascii "title") attrs)
 unfolding written.textLink
 text-link opts href attrs link t n =
     let x : Bytes = normalized new («escape_trailing_bang» t .text ++ ascii "[") (link .text) in
     record {
       written = link-written attrs href link x (λ s. «push_normalized_text» s new) t n (unfold «push_normalized_text» push in refl);
+      noImage = no-image t;
       read = λ h rest. link-read x href (attr (ascii "title") attrs) rest (normalized-text («escape_trailing_bang» t .text) (link .text)) (normalized-linkless («escape_trailing_bang» t .text) (link .text)) h;
     }
 
 -- a link that shows what is written for its content, where that has its brackets escaped or balanced and holds no link
 pub body-link : (href : Bytes) (attrs : List Attr) (link : Out) (t : Bytes) → null (link .text) ≡ false → balancedText 0 false 0 (link .text) ≡ true → holdsLink (link .text) ≡ false
-    → ReadLink (linkOf attrs href link push t .text) («escape_trailing_bang» t .text) (link .text) href (attr (ascii "title") attrs)
+    → ReadLink (linkOf attrs href link push t .text) t («escape_trailing_bang» t .text) (link .text) href (attr (ascii "title") attrs)
 body-link href attrs link t n b l =
     record {
       written = link-written attrs href link (link .text) push t n (unfold push in refl);
+      noImage = no-image t;
       read = λ h rest. link-read (link .text) href (attr (ascii "title") attrs) rest b l h;
     }
 

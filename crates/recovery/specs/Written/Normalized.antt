@@ -44,7 +44,7 @@ text-black s h = go (every white s) refl
     go true e = absurd (true≢false (sym (ap null (white-words s e)) ∙ text-some s h))
     go false e = refl
 
-normalized-words : (opts : FormatOpts) (t s : Bytes) (ws : List Bytes)
+pub normalized-words : (opts : FormatOpts) (t s : Bytes) (ws : List Bytes)
     → opts .«skip_escape» ≡ false
     → opts .inline ≡ false
     → ((endsWith (ascii "\n") t || endsWith (ascii " ") t) || null t) ≡ true

@@ -3,9 +3,9 @@ use Prim.Native.Nat.{ℕ}
 use mathlib.Core.Bool.{Bool, cond, _&&_}
 use mathlib.Core.List.{List, [], _∷_, _++_}
 use mathlib.Core.Option.{Option, none, some}
-use lib.Dec.{leb}
+use lib.Dec.{eqb, leb}
 use Rattle.spec.specs.Bytes.{Bytes, one, «trim_end_matches»}
-use Rattle.spec.specs.Reading.Lines.{spaceOrTab, column, strip, unindent}
+use Rattle.spec.specs.Reading.Lines.{spaceOrTab, endsLine, column, strip, unindent}
 use Rattle.spec.specs.Reading.Starts.{Start, textStart, ruleStart, quoteStart, underlineStart, headingStart, htmlStart, fenceStart, itemStart, closingFence, start}
 
 -- a fenced code block at the beginning of some lines
@@ -49,3 +49,9 @@ fencedBy (itemStart n w r) i ls = none
 unfoldable pub fenced : List Bytes → Option Fenced
 fenced [] = none
 fenced (l ∷ ls) = cond (leb (column 0 l) 3) (fencedBy (start (strip l)) (column 0 l) ls) none
+
+-- 2.1: "A line ending is a line feed (U+000A), a carriage return (U+000D) not followed by a line feed, or a carriage return and a following
+-- line feed." The text with LF for each: what the lines of a code block are, each ended
+unfoldable pub lineFeeds : Bytes → Bytes
+lineFeeds [] = []
+lineFeeds (b ∷ r) = cond (endsLine b r) (10 ∷ lineFeeds r) (cond (eqb b 13) (lineFeeds r) (b ∷ lineFeeds r))
