@@ -44,7 +44,18 @@ edge-wide p q b f h = or-elim (letterOrDigit b) (p && punctuation b) (λ e. rw e
 edge-seen : (b : ℕ) (z : Bytes) → edge true b ≡ true → isWhiteSpace (b ∷ z) ≡ false
 unfolding isWhiteSpace whiteSpace among same edge letterOrDigit letter digit punctuation
 edge-seen b z h =
-    rw (apart (edge true) b 9 h refl, apart (edge true) b 10 h refl, apart (edge true) b 11 h refl, apart (edge true) b 12 h refl, apart (edge true) b 13 h refl, apart (edge true) b 32 h refl, apart (edge true) b 0xC2 h refl, apart (edge true) b 0xE1 h refl, apart (edge true) b 0xE2 h refl, apart (edge true) b 0xE3 h refl)
+    rw (
+      apart (edge true) b 9 h refl,
+      apart (edge true) b 10 h refl,
+      apart (edge true) b 11 h refl,
+      apart (edge true) b 12 h refl,
+      apart (edge true) b 13 h refl,
+      apart (edge true) b 32 h refl,
+      apart (edge true) b 0xC2 h refl,
+      apart (edge true) b 0xE1 h refl,
+      apart (edge true) b 0xE2 h refl,
+      apart (edge true) b 0xE3 h refl,
+    )
 
 seen-padded : (l : Bool) (b : ℕ) (r : Bytes) → edge true b ≡ true → null («trim_end» (blankIf l ++ (b ∷ r))) ≡ false
 unfolding «trim_end» «trim_end_matches» unless null
@@ -142,7 +153,8 @@ emphasis-appended m anc item o name attrs s t p i h f e =
     let q : Spelled w (words s) = text-spelled true s h in
     let x : normalized (within k (optsAt item o)) [] s ≡ padded l w r = inside-text item k o s h in
     element-node (suc m) anc item o name attrs (text s nothing) t i
-    ∙ (written-inside m anc item k o attrs s t (ap null x ∙ null-app (blankIf l) (w ++ blankIf r) (some-app w (blankIf r) (q .some))) (ap (λ (z : Bytes). null («trim_end» z)) x ∙ seen-text l r p w (q .some) f) (tagOf name) (marks-of (tagOf name))
+    ∙ (written-inside m anc item k o attrs s t (ap null x ∙ null-app (blankIf l) (w ++ blankIf r) (some-app w (blankIf r) (q .some)))
+    (ap (λ (z : Bytes). null («trim_end» z)) x ∙ seen-text l r p w (q .some) f) (tagOf name) (marks-of (tagOf name))
     ∙ (ap (λ (z : Bytes). pushMarked (marks k) z t .text) x
     ∙ (marked (extra k) (padded l w r) t e
     ∙ rw (body-padded l r w (q .first) (q .last), behind-padded l r w (q .first) (q .last), before-padded l r w t (q .first)))))

@@ -108,7 +108,8 @@ content k m anc item o f u b h = or-elim (turns true true f) (turns false true f
 
     go : (w : Bool) → turns w true f ≡ true → Content k f u (writeNodes (serializer «DEFAULT_SKIP_TAGS» (suc m)) anc (optsAt item o) f u .text)
     go w e =
-        told-content k w f u (writeNodes (serializer «DEFAULT_SKIP_TAGS» (suc m)) anc (optsAt item o) f u .text) (b .closed) (and-r (not (noNode f)) _ q) (not-true (noNode f) (and-l (not (noNode f)) _ q))
+        told-content k w f u (writeNodes (serializer «DEFAULT_SKIP_TAGS» (suc m)) anc (optsAt item o) f u .text) (b .closed) (and-r (not (noNode f)) _ q)
+        (not-true (noNode f) (and-l (not (noNode f)) _ q))
         (subst (λ (v : Bytes). Told k w true false f u (writeNodes (serializer «DEFAULT_SKIP_TAGS» (suc m)) anc (optsAt item o) f v .text)) (append-nil u)
         (told-all k m anc item o f w true false u (place w u b) e))
 
@@ -266,7 +267,9 @@ emphasis-item k m anc name attrs kids b o i number j x h room =
           (trim-behind y (lfs-last j x (room .after)))
           ∙ (ap (λ (v : Bytes). trimmed v ++ ascii "\n") (r .is ∙ item-shape j x (replicate i 32) (marker number) (r .c) (r .z))
           ∙ (ap (λ (v : Bytes). v ++ ascii "\n")
-          (trim-core j (x ++ L) (r .z) (room .begins (marker number ++ r .c) (marker-first number (r .c))) (last-keep white x L (last-keep white (replicate i 32) (marker number ++ r .c) (last-keep white (marker number) (r .c) (r .last)))) (blank-white (r .z) (r .blanks)))
+          (trim-core j (x ++ L) (r .z) (room .begins (marker number ++ r .c) (marker-first number (r .c)))
+          (last-keep white x L (last-keep white (replicate i 32) (marker number ++ r .c) (last-keep white (marker number) (r .c) (r .last))))
+          (blank-white (r .z) (r .blanks)))
           ∙ append-assoc x L (ascii "\n")))));
       read = r .read;
     }

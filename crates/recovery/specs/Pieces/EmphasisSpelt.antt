@@ -37,14 +37,33 @@ lettered b h = or-elim ((leb 65 b && leb b 90) || (leb 97 b && leb b 122)) _ (or
     upper : (leb 65 b && leb b 90) ≡ true → Lettered b
     upper e =
         let x = leb-true 65 b (and-l (leb 65 b) _ e) in
-        let y = leb-true b 90 (and-r (leb 65 b) _ e) in
-        (rw (lt-leb b 47 (omega arith), lt-leb b 64 (omega arith), lt-leb 91 b (omega arith), lt-leb 123 b (omega arith), and-false (leb 33 b), and-false (leb 58 b)), le-leb b 127 (omega arith))
+        let y = leb-true b 90 (and-r (leb 65 b) _ e) in (
+          rw (
+            lt-leb b 47 (omega arith),
+            lt-leb b 64 (omega arith),
+            lt-leb 91 b (omega arith),
+            lt-leb 123 b (omega arith),
+            and-false (leb 33 b),
+            and-false (leb 58 b),
+          ),
+          le-leb b 127 (omega arith),
+        )
 
     lower : (leb 97 b && leb b 122) ≡ true → Lettered b
     lower e =
         let x = leb-true 97 b (and-l (leb 97 b) _ e) in
-        let y = leb-true b 122 (and-r (leb 97 b) _ e) in
-        (rw (lt-leb b 47 (omega arith), lt-leb b 64 (omega arith), lt-leb b 96 (omega arith), lt-leb 123 b (omega arith), and-false (leb 33 b), and-false (leb 58 b), and-false (leb 91 b)), le-leb b 127 (omega arith))
+        let y = leb-true b 122 (and-r (leb 97 b) _ e) in (
+          rw (
+            lt-leb b 47 (omega arith),
+            lt-leb b 64 (omega arith),
+            lt-leb b 96 (omega arith),
+            lt-leb 123 b (omega arith),
+            and-false (leb 33 b),
+            and-false (leb 58 b),
+            and-false (leb 91 b),
+          ),
+          le-leb b 127 (omega arith),
+        )
 
     figure : (leb 48 b && leb b 57) ≡ true → Lettered b
     figure e =
