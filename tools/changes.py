@@ -61,6 +61,8 @@ CHANGES = [
         ("specs/Reading/Starts.antt", "startsAtOne (some n) = eqb n 1", "startsAtOne (some n) = true")]),
     ("content column of the reading one off", [
         ("specs/Reading/Step.antt", "contentColumn m i = cond (leb i (m + 4)) i (suc m)", "contentColumn m i = cond (leb i (m + 4)) (suc i) (suc m)")]),
+    ("an escaped asterisk taken for the mark of emphasis", [
+        ("specs/Md/Elements/Emphasis.antt", "eqb (backslashes prefix % 2) 0", "eqb (backslashes prefix % 1) 0")]),
 ]
 
 

@@ -9,7 +9,7 @@ use Rattle.spec.specs.Everything.{everything}
 use Rattle.spec.specs.Md.Constants.{«DEFAULT_SKIP_TAGS»}
 use Rattle.spec.specs.Md.Serializer.{serializer, levels, serialize}
 use Rattle.spec.specs.Pieces.EmphasisReading as reading
-use Rattle.spec.specs.Pieces.EmphasisReading.{Phrase, plainWords, strongly, byte, emphasis, strong, inlines, read}
+use Rattle.spec.specs.Pieces.EmphasisReading.{Phrase, plainWords, emphasised, strongly, byte, emphasis, strong, inlines, read}
 use Rattle.recovery.specs.Words.{blanked}
 use Rattle.recovery.specs.Written.Ends.{lastIs, firstIs}
 use Rattle.recovery.specs.Pieces.Emphasis.{star, known, firstOf, lastOf, asciiClasses}
@@ -79,6 +79,15 @@ nested-found : inlines asciiClasses (ascii "***a***") ≡ some (emphasis (strong
 unfolding tests
 nested-found = refl
 
+-- the asterisk of a text straight before emphasis is escaped, and is not taken for the mark of an emphasis before it
+star-written : written (text (ascii "*") (holding (ascii "i") (ascii "b") nothing)) ≡ ascii "\\**b*"
+unfolding tests
+star-written = refl
+
+star-found : found (text (ascii "*") (holding (ascii "i") (ascii "b") nothing)) ≡ some (plainWords (ascii "*" ∷ []) ∷ emphasised (ascii "b" ∷ []) ∷ [])
+unfolding tests
+star-found = refl
+
 -- none of them meets the conditions
 none-turns : inTurn (text (ascii "a") (holding (ascii "b") (ascii "!") (text (ascii "b") nothing))) ≡ false
 unfolding tests
@@ -95,3 +104,7 @@ blank-turns = refl
 nested-turns : inTurn (element (ascii "b") [] (holding (ascii "i") (ascii "a") nothing) nothing) ≡ false
 unfolding tests
 nested-turns = refl
+
+star-turns : inTurn (text (ascii "*") (holding (ascii "i") (ascii "b") nothing)) ≡ false
+unfolding tests
+star-turns = refl
