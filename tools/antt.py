@@ -2,14 +2,22 @@
 
     python3 tools/antt.py               # writes specs/Everything.antt anew, which names what computes
 
+For other tools:
+
     bench = Bench(preamble)             # preamble: antt text with the `use` lines and the test function of the cases
     bench.failures(cases)               # cases: antt terms of type Bool; the indices of those that are not true
+    literal(b), entries(es)             # bytes and lists of blocks as antt terms
+
+A list has tuples or lists for blocks: ("rule",), ("heading", level, words), ("paragraph" or "words", words), ("fixed", bytes),
+("item", depth, number or None, words), ("table", headings or None, rows), ("foreign",).
 """
 import os
 import re
 import shutil
 import subprocess
 import tempfile
+
+import command_line
 
 HERE = os.path.dirname(os.path.abspath(__file__))
 SPEC = os.path.join(HERE, "..", "crates", "spec")
@@ -35,6 +43,37 @@ def literal(b):
         else:
             out.append("\\u{%x}" % c)
     return '(ascii "%s")' % "".join(out)
+
+
+def seq(terms):
+    return "(%s)" % " ∷ ".join(list(terms) + ["[]"])
+
+
+def words(ws):
+    return seq("word %s" % literal(w) for w in ws)
+
+
+def cells(cs):
+    return seq(words(c) for c in cs)
+
+
+def entry(e):
+    """a block as an antt term; `word` and the constructors of `Entry` must be in use"""
+    if e[0] == "heading":
+        return "heading %d %s" % (e[1], words(e[2]))
+    if e[0] in ("paragraph", "words"):
+        return "paragraph " + words(e[1])
+    if e[0] == "fixed":
+        return "fixed " + literal(e[1])
+    if e[0] == "item":
+        return "item %d %s %s" % (e[1], "none" if e[2] is None else "(some %d)" % e[2], words(e[3]))
+    if e[0] == "table":
+        return "table %s %s" % ("none" if e[1] is None else "(some %s)" % cells(e[1]), seq(cells(r) for r in e[2]))
+    return e[0]
+
+
+def entries(es):
+    return seq(entry(e) for e in es)
 
 
 def modules(spec=SPEC):
@@ -114,5 +153,6 @@ class Bench:
 
 
 if __name__ == "__main__":
+    command_line.parser(__doc__).parse_args()
     with open(os.path.join(SPEC, "specs", "Everything.antt"), "w", encoding="utf-8") as out:
         out.write(everything())

@@ -6,13 +6,14 @@ The folder holds the Rust's sources with a build.sh that stages them. They are b
 target/bench; the staged files are not changed, but `serialize_md` is made public. Prints the tables of docs/PERFORMANCE.md: times, and
 with --counts the instructions that valgrind's callgrind counts.
 """
-import argparse
 import os
 import re
 import shutil
 import statistics
 import subprocess
 import tempfile
+
+import command_line
 
 HERE = os.path.dirname(os.path.abspath(__file__))
 ROOT = os.path.dirname(HERE)
@@ -148,10 +149,10 @@ def counts_table(program, names):
 
 
 def main():
-    ap = argparse.ArgumentParser()
-    ap.add_argument("--oracle", required=True)
-    ap.add_argument("--runs", type=int, default=5)
-    ap.add_argument("--counts", action="store_true")
+    ap = command_line.parser(__doc__)
+    ap.add_argument("--oracle", required=True, help="folder of the Rust's sources, with build.sh")
+    ap.add_argument("--runs", type=int, default=5, help="how many runs the times are the median of")
+    ap.add_argument("--counts", action="store_true", help="count instructions, too (valgrind)")
     args = ap.parse_args()
     program = built(args.oracle)
     print(machine() + "\n")

@@ -13,6 +13,8 @@ import subprocess
 import sys
 import tempfile
 
+import command_line
+
 CRATES = os.path.join(os.path.dirname(os.path.abspath(__file__)), "..", "crates")
 
 OFFSET = "proofs/ctx/ListKind/offset/Proof.antt"
@@ -104,7 +106,10 @@ def answer(edits):
 
 
 def main():
-    chosen = [c for c in CHANGES if all(word in c[0] for word in sys.argv[1:])]
+    ap = command_line.parser(__doc__)
+    ap.add_argument("word", nargs="*", help="only the changes whose names hold every word")
+    words = ap.parse_args().word
+    chosen = [c for c in CHANGES if all(word in c[0] for word in words)]
     refused = 0
     for name, edits in chosen:
         good, said = answer(edits)

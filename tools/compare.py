@@ -6,12 +6,12 @@ Text: the Rust's, or the model's where the Rust panics at the cut that docs/DIFF
 number of the question that says no. The definitions are evaluated in antt, in a throwaway crate. Prints the counts, and which lines of the
 model the same calls did not reach; a difference prints the call.
 """
-import argparse
 import multiprocessing
 import os
 import sys
 
 import antt
+import command_line
 import sheets
 
 PREAMBLE = """use Rattle.spec.specs.Bytes.{Bytes, ascii, same}
@@ -74,32 +74,6 @@ class Coverage:
         return sorted(set(out))
 
 
-class Reference:
-    """the Rust and the model"""
-
-    def __init__(self, oracle, model):
-        sys.path[:0] = [oracle, model]
-        import model_sheet
-        import model_writer
-        import oracle as client
-        self.sheet, self.writer, self.oracle = model_sheet, model_writer, client.Oracle()
-        self.panics = 0
-
-    def answer(self, sheet, start, include, skips):
-        rust = self.oracle.write(sheet, start, include, skips)
-        tree = self.sheet.decode(sheet, start, skips)
-        if rust == "refused":
-            assert tree == self.oracle.last_refusal, (sheet, tree, self.oracle.last_refusal)
-            return ("no", tree)
-        text, peak = self.writer.write_md(tree, include)
-        if rust == "panic":
-            assert "is_char_boundary" in self.oracle.last_panic, self.oracle.last_panic
-            self.panics += 1
-        else:
-            assert rust == text, (sheet, start, include, skips, rust, text)
-        return ("text", text, peak)
-
-
 def generate(seed, n, reference):
     """n calls: on whole sheets every start node with both flags; damaged sheets among them"""
     g = sheets.Gen(seed)
@@ -139,15 +113,6 @@ def compare_long(reference):
                    for n in (1048576, 1048577))
 
 
-def with_reference(ap):
-    """the arguments, and the Rust and the model that two of them name"""
-    ap.add_argument("--oracle", required=True)
-    ap.add_argument("--model", required=True)
-    args = ap.parse_args()
-    args.model, args.oracle = os.path.abspath(args.model), os.path.abspath(args.oracle)
-    return args, Reference(args.oracle, args.model)
-
-
 def evaluate(calls):
     with antt.Bench(PREAMBLE) as bench:
         bad = []
@@ -158,11 +123,11 @@ def evaluate(calls):
 
 
 def main():
-    ap = argparse.ArgumentParser()
+    ap = command_line.parser(__doc__)
     ap.add_argument("--calls", type=int, default=20000)
     ap.add_argument("--seed", type=int, default=1)
-    ap.add_argument("--jobs", type=int, default=2)
-    args, reference = with_reference(ap)
+    ap.add_argument("--jobs", type=int, default=2, help="checks that run at a time")
+    args, reference = command_line.with_reference(ap)
     coverage = Coverage(args.model)
     sys.settrace(coverage.trace)
     calls = generate(args.seed, args.calls, reference)

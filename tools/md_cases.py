@@ -12,7 +12,6 @@ skip list, 2: with the start node, 4: the sheet is so many zeros), the number of
 the node memory, room of the text (its peak, where there is a text), then for sheet, skip list and text where they stand and how long they are (4 each).
 The program makes a call that gives a text three times: with the peak as its room, with more, and with one byte less, where the number is 10.
 """
-import argparse
 import collections
 import os
 import random
@@ -20,10 +19,12 @@ import re
 import struct
 import sys
 
+import command_line
 import plain
 import sheets
-from compare import Coverage, with_reference
-from sheets import field
+from compare import Coverage
+from sheets import el, field, nodes_in
+from trees import encode
 
 HERE = os.path.dirname(os.path.abspath(__file__))
 NAMES = os.path.join(HERE, "..", "crates", "spec", "specs", "Names.antt")
@@ -33,15 +34,6 @@ OWN, WITH_NODE, ZEROS = 1, 2, 4
 SPACE = 1048577         # that the program has for the list
 
 Call = collections.namedtuple("Call", "sheet start include skips memory number text room rust kind")
-
-
-def nodes_in(sheet):
-    """as many as a whole sheet has"""
-    n, p = 1, 0
-    while p + 3 <= len(sheet):
-        n += sheet[p] in (1, 4, 5)
-        p += 3 + sheet[p + 1] * 256 + sheet[p + 2]
-    return n
 
 
 class Maker:
@@ -95,7 +87,6 @@ class Maker:
 
     def rare(self):
         """links with blank texts; pipes in a cell that no escape of texts has met"""
-        el = self.g.el
         for blank in (" ", "\n", "\t ", "\u00a0", ""):
             self.add("rare", el("p", "a", el("a", blank, href="u"), "b"))
         for inside in (el("code", "a|b"), el("code", "a\\|b"), el("a", "x", href="a|b"), el("img", src="|"), el("pre", "a|b"), el("a", "|", href="")):
@@ -110,7 +101,7 @@ class Maker:
             if x < .15:
                 self.add("damaged", *damaged_call(self.g.damaged()))
             elif x < .35:
-                self.add("plain", plain.encode(plain.random_sheet(self.r)))
+                self.add("plain", encode(plain.random_sheet(self.r)))
             elif x < .38:
                 sheet = self.g.sheet()
                 self.add("memory", sheet, memory=64 * nodes_in(sheet) - self.r.choice([1, 1, 7, 64]))
@@ -190,11 +181,11 @@ def cover(calls, reference):
 
 
 def main():
-    ap = argparse.ArgumentParser()
-    ap.add_argument("--calls", type=int, default=4000)
+    ap = command_line.parser(__doc__)
+    ap.add_argument("--calls", type=int, default=4000, help="how many answers to store, at least")
     ap.add_argument("--seed", type=int, default=1)
-    ap.add_argument("--out", default=os.path.join(HERE, "..", "crates", "md_cases"))
-    args, reference = with_reference(ap)
+    ap.add_argument("--out", default=os.path.join(HERE, "..", "crates", "md_cases"), help="the folder to write to")
+    args, reference = command_line.with_reference(ap)
     coverage = Coverage(args.model)
     sys.settrace(coverage.trace)
     calls = Maker(reference, args.seed).fill(args.calls)

@@ -16,7 +16,6 @@ found by shrinking it. The program ends with 1 if there is one, or if a class ex
 The trees keep to what an HTML parser makes of well-formed documents, but for blocks in `b`, `i` and `a`, and a link in a link: items
 stand in lists, rows in tables, cells in rows; `p` and headings hold no blocks; `code` and `pre` hold texts.
 """
-import argparse
 import collections
 import ctypes
 import os
@@ -25,10 +24,11 @@ import subprocess
 import sys
 import tempfile
 
+import command_line
 import shown
 from misread_causes import CLASSES, EXAMPLES, INLINES, LISTS
-from plain import el, encode
 from shown import BLOCKS, HEADINGS
+from trees import el, encode
 
 
 # ---- the writers
@@ -365,13 +365,13 @@ def report(comparison, counts, smallest, findings):
 
 
 def main():
-    p = argparse.ArgumentParser(description=__doc__, formatter_class=argparse.RawDescriptionHelpFormatter)
-    p.add_argument("--archive")
-    p.add_argument("--oracle")
-    p.add_argument("--cmark", required=True)
-    p.add_argument("--trees", type=int, default=20000)
+    p = command_line.parser(__doc__)
+    p.add_argument("--archive", help="the linked library")
+    p.add_argument("--oracle", help=command_line.ORACLE)
+    p.add_argument("--cmark", required=True, help=command_line.CMARK)
+    p.add_argument("--trees", type=int, default=20000, help="how many random trees")
     p.add_argument("--seed", type=int, default=1)
-    p.add_argument("--small", type=int, default=0)
+    p.add_argument("--small", type=int, default=0, help="all trees of up to so many nodes")
     args = p.parse_args()
     if bool(args.archive) == bool(args.oracle):
         p.error("one of --archive and --oracle")

@@ -9,8 +9,8 @@ import re
 import unicodedata
 
 import shown
-from plain import attribute, el
 from shown import BLOCKS, BREAK, EMPHASIS, HEADINGS, WHITE
+from trees import attribute, el
 
 LISTS = ("ul", "ol")
 PLAIN_BLOCKS = BLOCKS - set(HEADINGS)

@@ -6,9 +6,10 @@ are all calls at which the Rust panics, at the cut that docs/DIFFERENCES.md name
 A line of FILE is a call: sheet (a point and hex), start, flag, skip list (`-` for the default, else a point and the run in hex), the
 least room that suffices, and the text (a point and hex). Prints the counts, and ends with 1 where something differs.
 """
-import argparse
 import os
 import sys
+
+import command_line
 
 
 def unhex(word):
@@ -16,9 +17,9 @@ def unhex(word):
 
 
 def main():
-    ap = argparse.ArgumentParser()
+    ap = command_line.parser(__doc__)
     ap.add_argument("file")
-    ap.add_argument("--model", required=True)
+    ap.add_argument("--model", required=True, help=command_line.MODEL)
     args = ap.parse_args()
     sys.path.insert(0, os.path.abspath(args.model))
     from model_sheet import decode

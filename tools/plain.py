@@ -10,52 +10,22 @@ three comparisons with them. Each prints its seed and its counts, and ends with 
     python3 tools/plain.py reading --sheets 10000
         `read` of the text that the definition writes equals `sheetList`, in antt
 
-A tree is a text (bytes), a comment (Comment) or an element (name, attributes, children); a sheet is a list of trees.
+Trees are those of trees.py.
 """
-import argparse
 import itertools
 import random
 import re
 import sys
+
+import antt
+import command_line
+from trees import Comment, attribute, el, encode
 
 BLANKS = ("\x85\xa0\u1680\u2000\u2001\u2002\u2003\u2004\u2005\u2006\u2007\u2008\u2009\u200a\u2028\u2029\u202f\u205f\u3000")
 HEADINGS = ("h1", "h2", "h3", "h4", "h5", "h6")
 WRAPPERS = ("div", "section", "article")
 LARGEST = 999999999
 PUNCTUATION = "!\"#$%'()*+,-./:;<=>?@[\\]^_`{|}~"      # every ASCII punctuation but `&`
-
-
-class Comment:
-    def __init__(self, content):
-        self.content = content
-
-    def __repr__(self):
-        return "Comment(%r)" % self.content
-
-
-def el(name, *kids, attrs=()):
-    return (name, list(attrs), list(kids))
-
-
-def field(tag, body):
-    return bytes([tag, len(body) >> 8, len(body) & 255]) + body
-
-
-def encode(sheet):
-    """document 01, "The sheet" """
-    out = bytearray()
-    for node in sheet:
-        if isinstance(node, bytes):
-            out += field(4, node)
-        elif isinstance(node, Comment):
-            out += field(5, node.content)
-        else:
-            name, attrs, kids = node
-            out += field(1, name.encode())
-            for key, value in attrs:
-                out += field(2, key) + field(3, value)
-            out += encode(kids) + field(6, b"")
-    return bytes(out)
 
 
 # ---------------------------------------------------------------- the sheet's list
@@ -74,14 +44,6 @@ def list_number(value):
         return 0
     digits = m.group(2).lstrip(b"0")
     return LARGEST if len(digits) > 9 else int(digits or b"0")
-
-
-def attribute(attrs, name):
-    """A repeated attribute name keeps its first value."""
-    for key, value in attrs:
-        if key == name:
-            return value
-    return None
 
 
 def own_number(attrs, name):
@@ -471,6 +433,11 @@ def edges():
 
 def breaks():
     """(the sentence of document 01, a sheet that breaks it and no other)"""
+    for part in (break_blocks, break_holders, break_lists, break_tables, break_parts, break_texts, break_attributes, break_numbers):
+        yield from part()
+
+
+def break_blocks():
     s = "A plain sheet holds blocks and nothing else."
     yield s, [b"x"]
     yield s, [b"\n"]
@@ -494,21 +461,32 @@ def breaks():
             yield s, [el(name, inside)]
             yield s, [el(name, el("p", b"x"), inside)]
             yield s, [el("div", el(name, inside, el("hr")))]
+
+
+def holders(kids):
+    """sheets in which an element that holds one text has these children"""
+    for name in ("p",) + HEADINGS:
+        yield [el(name, *kids)]
+    for name in ("th", "td"):
+        yield [el("table", el("tr", el("td", b"x"), el(name, *kids)))]
+        yield [el("table", el("thead", el("tr", el(name, *kids))))]
+
+
+def break_holders():
     s = "`p`, headings, `th`, `td` hold one text"
-    def holders(kids):
-        for name in ("p",) + HEADINGS:
-            yield [el(name, *kids)]
-        for name in ("th", "td"):
-            yield [el("table", el("tr", el("td", b"x"), el(name, *kids)))]
-            yield [el("table", el("thead", el("tr", el(name, *kids))))]
     for kids in ((), (b"x", b"y"), (b"x", Comment(b"")), (Comment(b""), b"x"), (el("b", b"x"),), (b"x", el("br")), (b"x", el("ul", li(b"y"))),
                  (el("p", b"x"),), (b"x", b"")):
         for sheet in holders(kids):
             yield s, sheet
+
+
+INNER = el("ul", li(b"y"))
+
+
+def break_lists():
     s = "an `li` holds one text and then any number of lists"
-    inner = el("ul", li(b"y"))
-    for kids in ((), (inner,), (b"x", b"y"), (inner, b"x"), (b"x", inner, b"y"), (b"x", el("p", b"y")), (el("p", b"x"),), (b"x", Comment(b"")),
-                 (Comment(b""), b"x"), (b"x", el("pre", b"y")), (b"x", el("div", inner)), (b"x", el("hr")), (b"x", li(b"y")), (b"x", inner, el("p", b"y"), inner),
+    for kids in ((), (INNER,), (b"x", b"y"), (INNER, b"x"), (b"x", INNER, b"y"), (b"x", el("p", b"y")), (el("p", b"x"),), (b"x", Comment(b"")),
+                 (Comment(b""), b"x"), (b"x", el("pre", b"y")), (b"x", el("div", INNER)), (b"x", el("hr")), (b"x", li(b"y")), (b"x", INNER, el("p", b"y"), INNER),
                  (b"x", el("table", row(b"y")))):
         yield s, [el("ul", el("li", *kids))]
         yield s, [ol(li(b"x"), el("li", *kids))]
@@ -516,10 +494,13 @@ def breaks():
     s = "lists hold at least one `li` and nothing else"
     for name in ("ul", "ol"):
         for kids in ((), (b"x",), (b"\n",), (b"\n", li(b"x")), (li(b"x"), b""), (Comment(b""),), (li(b"x"), Comment(b"")), (el("p", b"x"),),
-                     (inner,), (li(b"x"), inner), (li(b"x"), el("hr"), li(b"y")), (el("div", li(b"x")),), (li(b"x"), el("LI", b"x"))):
+                     (INNER,), (li(b"x"), INNER), (li(b"x"), el("hr"), li(b"y")), (el("div", li(b"x")),), (li(b"x"), el("LI", b"x"))):
             yield s, [el(name, *kids)]
             yield s, [el("ul", li(b"x", el(name, *kids)))]
-            yield s, [el("ul", li(b"x", inner, el(name, *kids)))]
+            yield s, [el("ul", li(b"x", INNER, el(name, *kids)))]
+
+
+def break_tables():
     s = "A table holds one or more `tr`, directly or in `thead` and `tbody`"
     for kids in ((), (el("thead"),), (el("thead"), el("tbody"))):
         yield s, [el("table", *kids)]
@@ -528,8 +509,11 @@ def breaks():
                  (el("thead", row(b"x", kind="th")), el("tbody", row(b"x", b"y"))), (row(b"x", kind="th"), row(b"x", b"y"), row(b"x", b"y")),
                  (el("tbody", row(b"x"), row(b"x")), row(b"x", b"y")), (el("tr", el("th", b"x"), el("td", b"y")), row(b"x"))):
         yield s, [el("table", *kids)]
-    s = "`table`, `thead`, `tbody` and `tr` hold nothing else"
+
+
+def break_parts():
     r = row(b"x")
+    s = "`table`, `thead`, `tbody` and `tr` hold nothing else"
     for kids in ((b"x", r), (r, b"\n"), (Comment(b""), r), (r, el("td", b"x")), (el("caption", b"x"), r), (r, el("tfoot", r)), (r, el("p", b"x")), (el("div", r),),
                  (el("colgroup"), r), (r, el("table", r)), (r, el("hr"))):
         yield s, [el("table", *kids)]
@@ -540,15 +524,21 @@ def breaks():
     for kids in ((cell, b"x"), (b"\n", cell), (cell, Comment(b"")), (el("div", cell),), (cell, el("p", b"x")), (cell, el("li", b"x")), (cell, el("TD", b"x")),
                  (cell, row(b"x")), (cell, el("tr"))):
         yield s, [el("table", el("tr", *kids))]
-    def texts(t):
-        for name in ("p",) + HEADINGS:
-            yield [el(name, t)]
-        for name in ("th", "td"):
-            yield [el("table", el("tr", el("td", b"x"), el(name, t)))]
-            yield [el("table", r, el("tbody", el("tr", el(name, t))))]
-        yield [el("ul", li(b"x"), li(t))]
-        yield [ol(li(t, inner))]
-        yield [el("ul", li(b"x", ol(li(t))))]
+
+
+def texts(t):
+    """sheets with this text in every place for one"""
+    for name in ("p",) + HEADINGS:
+        yield [el(name, t)]
+    for name in ("th", "td"):
+        yield [el("table", el("tr", el("td", b"x"), el(name, t)))]
+        yield [el("table", row(b"x"), el("tbody", el("tr", el(name, t))))]
+    yield [el("ul", li(b"x"), li(t))]
+    yield [ol(li(t, INNER))]
+    yield [el("ul", li(b"x", ol(li(t))))]
+
+
+def break_texts():
     for s, ts in (("These texts have a word each", (b"", b" ", b"\n", b"\t\x0c\r \n")),
                   ("no NUL, VT or `&`: NUL", (b"x\0", b"\0", b"\0x", b"x\0y", b"x \0 y")),
                   ("no NUL, VT or `&`: VT", (b"x\x0b", b"\x0b", b"\x0bx", b"x\x0by", b"x \x0b y")),
@@ -562,13 +552,18 @@ def breaks():
     for kids in ((), (b"x", b"y"), (b"", b""), (Comment(b""),), (b"x", Comment(b"")), (el("code", b"x"),), (b"x", el("b", b"y")), (b"x\0",), (b"\0",), (b"x\r",),
                  (b"x\r\ny",), (b"\r",)):
         yield s, [el("pre", *kids)]
+
+
+def having(sheet, path, attrs):
+    """the sheet with these attributes on the element at that path"""
+    i = path[0]
+    name, own, kids = sheet[i]
+    new = (name, own + attrs, kids) if len(path) == 1 else (name, own, having(kids, path[1:], attrs))
+    return sheet[:i] + [new] + sheet[i + 1:]
+
+
+def break_attributes():
     s = "The only attributes are `start` on `ol`, `value` on `li`"
-    def having(sheet, path, attrs):
-        """the sheet with these attributes on the element at that path"""
-        i = path[0]
-        name, own, kids = sheet[i]
-        new = (name, own + attrs, kids) if len(path) == 1 else (name, own, having(kids, path[1:], attrs))
-        return sheet[:i] + [new] + sheet[i + 1:]
     one = [(b"class", b"x")], [(b"start", b"1")], [(b"value", b"1")], [(b"data-lang", b"c")], [(b"START", b"1")], [(b"starts", b"1")], [(b"star", b"1")], [(b"id", b"")]
     whole = [el("p", b"x"), el("h3", b"x"), el("hr"), el("pre", b"x"), el("div", el("p", b"x")), el("section"), el("article", el("hr")), el("ul", li(b"x"), li(b"y")),
              ol(li(b"x"), li(b"y")), el("table", el("thead", el("tr", el("th", b"x"), el("td", b"y"))), el("tbody"), row(b"x", b"y"))]
@@ -580,6 +575,9 @@ def breaks():
                 yield s, having(whole, path, attrs)
                 if allowed:
                     yield s, having(whole, path, [(allowed, b"1")] + attrs)
+
+
+def break_numbers():
     s = "no item's number, counted on from the one before it, would pass 999,999,999"
     x, y, z = li(b"x"), li(b"y"), li(b"z")
     for sheet in ([ol(x, y, start=b"999999999")], [ol(x, y, z, start=b"999999998")], [ol(x, y, start=b"1000000000")], [ol(x, y, start=b" +0099999999999999")],
@@ -642,24 +640,12 @@ USES = """
 use Rattle.spec.specs.Bytes.{Bytes, ascii}
 use Rattle.spec.specs.Fields.{fields}
 use Rattle.spec.specs.Tree.{treeOf}
-use Rattle.spec.specs.Entries.{Piece, word, Entry, rule, heading, paragraph, fixed, item, table, sameEntries}
+use Rattle.spec.specs.Entries.{word, Entry, rule, heading, paragraph, fixed, item, table, sameEntries}
 use Rattle.spec.specs.Plain.{plain}
 use Rattle.spec.specs.SheetList.{sheetList}
 """
 
 EQUALITY = """
-wordsFrom : List Bytes → List Piece
-wordsFrom [] = []
-wordsFrom (s ∷ ss) = word s ∷ wordsFrom ss
-
-cellsFrom : List (List Bytes) → List (List Piece)
-cellsFrom [] = []
-cellsFrom (c ∷ cs) = wordsFrom c ∷ cellsFrom cs
-
-rowsFrom : List (List (List Bytes)) → List (List (List Piece))
-rowsFrom [] = []
-rowsFrom (r ∷ rs) = cellsFrom r ∷ rowsFrom rs
-
 plainWith : Bytes → List Entry → Bool
 plainWith sheet entries = let tree = treeOf (fields sheet) in plain tree && sameEntries (sheetList tree) entries
 
@@ -677,33 +663,6 @@ READING = """
 readsBack : Bytes → Bool
 readsBack sheet = sameEntries (read (written sheet standard 0 false .text)) (sheetList (treeOf (fields sheet)))
 """
-
-
-def seq(terms):
-    return "(" + "".join(t + " ∷ " for t in terms) + "[])"
-
-
-def words_term(literal, ws):
-    return seq([literal(w) for w in ws])
-
-
-def entry_term(literal, e):
-    if e[0] == "rule":
-        return "rule"
-    if e[0] == "heading":
-        return "heading %d (wordsFrom %s)" % (e[1], words_term(literal, e[2]))
-    if e[0] == "words":
-        return "paragraph (wordsFrom %s)" % words_term(literal, e[1])
-    if e[0] == "fixed":
-        return "fixed %s" % literal(e[1])
-    if e[0] == "item":
-        return "item %d %s (wordsFrom %s)" % (e[1], "none" if e[2] is None else "(some %d)" % e[2], words_term(literal, e[3]))
-    head = "none" if e[1] is None else "(some (cellsFrom %s))" % seq([words_term(literal, c) for c in e[1]])
-    return "table %s (rowsFrom %s)" % (head, seq([seq([words_term(literal, c) for c in row]) for row in e[2]]))
-
-
-def list_term(literal, entries):
-    return seq(["(" + entry_term(literal, e) + ")" for e in entries])
 
 
 def in_batches(bench, cases, name, size):
@@ -724,28 +683,31 @@ def random_sheets(seed, n):
         yield random_sheet(random.Random("%d %d" % (seed, k)))
 
 
-def plain_term(literal, sheet):
-    return "plainWith %s %s" % (literal(encode(sheet)), list_term(literal, sheet_list(sheet)))
+def plain_term(sheet):
+    return "plainWith %s %s" % (antt.literal(encode(sheet)), antt.entries(sheet_list(sheet)))
+
+
+def other_term(sheet):
+    return "notPlain %s" % antt.literal(encode(sheet))
 
 
 def compare_antt(args):
-    from antt import Bench, literal
     print("seed %d" % args.seed)
     groups = []
-    groups.append(("random plain sheets", [(s, plain_term(literal, s)) for s in random_sheets(args.seed, args.sheets)]))
-    groups.append(("edges", [(s, plain_term(literal, s)) for _, s in edges()]))
+    groups.append(("random plain sheets", [(s, plain_term(s)) for s in random_sheets(args.seed, args.sheets)]))
+    groups.append(("edges", [(s, plain_term(s)) for _, s in edges()]))
     broken = list(breaks())
     r = random.Random("breaks %d" % args.seed)
-    cases = [(s, "notPlain %s" % literal(encode(s))) for _, s in broken]
+    cases = [(s, other_term(s)) for _, s in broken]
     groups.append(("sheets that break one of %d sentences" % len({t for t, _ in broken}), cases))
     amid = [embedded(r, r.choice(broken)[1]) for _ in range(args.sheets // 5)]
-    groups.append(("the same amid plain blocks", [(s, "notPlain %s" % literal(encode(s))) for s in amid]))
+    groups.append(("the same amid plain blocks", [(s, other_term(s)) for s in amid]))
     mixed = [changed(r, random_sheet(r)) for _ in range(args.sheets // 2)]
     still = sum(1 for s in mixed if is_plain(s))
     groups.append(("changed sheets, %d of them plain" % still,
-                   [(s, plain_term(literal, s) if is_plain(s) else "notPlain %s" % literal(encode(s))) for s in mixed]))
+                   [(s, plain_term(s) if is_plain(s) else other_term(s)) for s in mixed]))
     wrong = 0
-    with Bench(USES + EQUALITY) as bench:
+    with antt.Bench(USES + EQUALITY) as bench:
         for name, cases in groups:
             n = in_batches(bench, cases, name, args.batch)
             print("%s: %d, %d differ" % (name, len(cases), n), flush=True)
@@ -754,11 +716,10 @@ def compare_antt(args):
 
 
 def compare_reading(args):
-    from antt import Bench, literal
     print("seed %d" % args.seed)
     sheets = [encode(s) for s in itertools.chain(random_sheets(args.seed, args.sheets), (s for _, s in edges()))]
-    cases = [(s, "readsBack %s" % literal(s)) for s in sheets if len(s) <= args.largest]
-    with Bench(USES + READING_USES + EQUALITY + READING) as bench:
+    cases = [(s, "readsBack %s" % antt.literal(s)) for s in sheets if len(s) <= args.largest]
+    with antt.Bench(USES + READING_USES + EQUALITY + READING) as bench:
         wrong = in_batches(bench, cases, "read back", args.batch)
     print("sheets read back: %d, %d differ; %d left out as longer than %d bytes" % (len(cases), wrong, len(sheets) - len(cases), args.largest))
     return wrong
@@ -865,7 +826,7 @@ def compare_cmark(args):
 
 
 def main():
-    p = argparse.ArgumentParser(description=__doc__, formatter_class=argparse.RawDescriptionHelpFormatter)
+    p = command_line.parser(__doc__)
     p.add_argument("run", choices=["antt", "cmark", "reading"])
     p.add_argument("--sheets", type=int, default=10000)
     p.add_argument("--seed", type=int, default=1)
@@ -873,8 +834,8 @@ def main():
     p.add_argument("--short", type=int, default=2, help="also every text of at most so many characters")
     p.add_argument("--largest", type=int, default=500, help="the longest sheet, in bytes, whose text is made and read in antt")
     p.add_argument("--show", type=int, default=5, help="how many differences to minimise")
-    p.add_argument("--model", default="../shared/model")
-    p.add_argument("--tools", default="../shared/tools")
+    p.add_argument("--model", default="../shared/model", help=command_line.MODEL)
+    p.add_argument("--tools", default="../shared/tools", help="folder of cmark_list.py")
     args = p.parse_args()
     run = {"antt": compare_antt, "cmark": compare_cmark, "reading": compare_reading}[args.run]
     sys.exit(1 if run(args) else 0)

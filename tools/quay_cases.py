@@ -5,18 +5,16 @@
 The program builds the same sheets. Texts and the number 5 are the Rust's, numbers 9 and 10 the model's; every answer is compared with the one
 that stands here after document 01.
 """
-import argparse
 import os
 
-from compare import with_reference
-from sheets import Gen, field
+import command_line
+from sheets import el, field
 
 OUT = os.path.join(os.path.dirname(os.path.abspath(__file__)), "..", "crates", "quay_cases", "stdout")
 LARGE = 4194304
 SPACE = 65536           # the longest input of `sheet`, its node memory, its text memory
 END = field(6, b"")
 
-el = Gen(0).el
 X = el("p", "x")
 TABLE = el("table", el("tr", el("td", "010"), el("td", "a|b")))
 ASTERISKS = b"*" * 125
@@ -61,7 +59,7 @@ def answer(reference, sheet, start, include, memory, room):
 
 
 def main():
-    _, reference = with_reference(argparse.ArgumentParser())
+    _, reference = command_line.with_reference(command_line.parser(__doc__))
     lines = []
     for title, sheet, start, include, memory, room, expected in CASES:
         a = answer(reference, sheet, start, include, memory, room)

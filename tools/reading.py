@@ -11,11 +11,9 @@ through the module named; whatever the reading returns without anything foreign 
 
 Lists are written as in vectors/README.md. In an expected list the number ANY stands for every number.
 """
-import argparse
 import collections
 import html.entities
 import html.parser
-import importlib.util
 import itertools
 import json
 import os
@@ -24,6 +22,8 @@ import re
 import sys
 
 import antt
+import cmark
+import command_line
 
 HERE = os.path.dirname(os.path.abspath(__file__))
 VECTORS = os.path.join(HERE, "..", "vectors")
@@ -120,35 +120,6 @@ verdict x y = judged (strangest x) (sameList sameEntry x y)
 SAME, DIFFERENT, STRANGE = 0, 1, 2    # STRANGE: something foreign or other is in the reading
 
 
-def term_words(ws):
-    return "(%s)" % " ∷ ".join(["word %s" % antt.literal(w) for w in ws] + ["[]"])
-
-
-def term_cells(cs):
-    return "(%s)" % " ∷ ".join([term_words(c) for c in cs] + ["[]"])
-
-
-def term_entry(e):
-    if e[0] == "rule":
-        return "rule"
-    if e[0] == "heading":
-        return "heading %d %s" % (e[1], term_words(e[2]))
-    if e[0] == "paragraph":
-        return "paragraph " + term_words(e[1])
-    if e[0] == "fixed":
-        return "fixed " + antt.literal(e[1])
-    if e[0] == "item":
-        return "item %d %s %s" % (e[1], "none" if e[2] is None else "(some %d)" % e[2], term_words(e[3]))
-    if e[0] == "table":
-        return "table %s (%s)" % ("none" if e[1] is None else "(some %s)" % term_cells(e[1]),
-                                  " ∷ ".join([term_cells(r) for r in e[2]] + ["[]"]))
-    return "foreign"
-
-
-def term_list(es):
-    return "(%s)" % " ∷ ".join([term_entry(e) for e in es] + ["[]"])
-
-
 UNEXPECTED = [("foreign",)]    # equal to no reading
 
 
@@ -180,7 +151,7 @@ class Judge:
 
     def verdicts(self, pairs, group=200):
         """a guess for each text, in groups of about `group` bytes; then one text at a time, where a group has a wrong guess"""
-        terms = ["verdict (read %s) %s" % (antt.literal(t), term_list(e)) for t, e in pairs]
+        terms = ["verdict (read %s) %s" % (antt.literal(t), antt.entries(e)) for t, e in pairs]
         guess = [STRANGE if e == UNEXPECTED else SAME for _, e in pairs]
         groups, size = [[]], 0
         for k, (t, _) in enumerate(pairs):
@@ -364,37 +335,50 @@ EARLY = {(COMMONMARK, n): "foreign too early: " + why for why, ns in (
 OTHERWISE = {(COMMONMARK, n): "0.31 decides otherwise: an HTML comment may hold two hyphens, and may be <!--> or <!--->" for n in (625, 626)}
 
 
-def store(args):
-    with open(os.path.join(args.vectors, "commonmark-0.30.json"), encoding="utf-8") as h:
+def published_examples(folder):
+    """pairs of a source and an example"""
+    with open(os.path.join(folder, "commonmark-0.30.json"), encoding="utf-8") as h:
         examples = [(COMMONMARK, e) for e in json.load(h)]
-    with open(os.path.join(args.vectors, "gfm-tables.json"), encoding="utf-8") as h:
+    with open(os.path.join(folder, "gfm-tables.json"), encoding="utf-8") as h:
         examples += [(TABLES, dict(e, section="Tables (extension)")) for e in json.load(h)]
-    out = []
-    for source, e in examples:
-        entry = {"source": source, "example": e["example"], "section": e["section"], "markdown": e["markdown"]}
-        md = e["markdown"]
-        key = (source, e["example"])
-        try:
-            es, numbers = published(e["html"], source == TABLES)
-            reason = OTHERWISE.get(key) or EARLY.get(key) or (None if key in OPEN else hidden(md, es))
-        except Unfit as u:
-            reason = str(u)
-        if reason:
-            entry["left out"] = reason
-        else:
-            written = [int(x) for x in re.findall(r"^[ \t]*(?:[-+*][ \t]+)*([0-9]{1,9})[.)](?=[ \t\n])", md, re.M)]
-            if written != numbers:
-                last = {}
-                for x in es:
-                    if x[0] == "item" and x[2] is not None:
-                        d = x[1]
-                        if d in last and x[2] == last[d] + 1:
-                            last[d] += 1
-                            x[2] = ANY
-                        else:
-                            last[d] = x[2]
-            entry["list"] = es
-        out.append(entry)
+    return examples
+
+
+def count_on(es):
+    """ANY in place of the numbers that the HTML counts on from the number before"""
+    last = {}
+    for x in es:
+        if x[0] == "item" and x[2] is not None:
+            d = x[1]
+            if d in last and x[2] == last[d] + 1:
+                last[d] += 1
+                x[2] = ANY
+            else:
+                last[d] = x[2]
+
+
+def stored(source, e):
+    """an example with its list, or with the reason why it is left out"""
+    entry = {"source": source, "example": e["example"], "section": e["section"], "markdown": e["markdown"]}
+    md = e["markdown"]
+    key = (source, e["example"])
+    try:
+        es, numbers = published(e["html"], source == TABLES)
+        reason = OTHERWISE.get(key) or EARLY.get(key) or (None if key in OPEN else hidden(md, es))
+    except Unfit as u:
+        reason = str(u)
+    if reason:
+        entry["left out"] = reason
+        return entry
+    written = [int(x) for x in re.findall(r"^[ \t]*(?:[-+*][ \t]+)*([0-9]{1,9})[.)](?=[ \t\n])", md, re.M)]
+    if written != numbers:
+        count_on(es)
+    entry["list"] = es
+    return entry
+
+
+def store(args):
+    out = [stored(source, e) for source, e in published_examples(args.vectors)]
     with open(os.path.join(VECTORS, "reading.json"), "w", encoding="utf-8") as h:
         h.write("[\n" + ",\n".join(json.dumps(e, ensure_ascii=True) for e in out) + "\n]\n")
     with open(os.path.join(VECTORS, "left-out.md"), "w", encoding="utf-8") as h:
@@ -555,17 +539,11 @@ def with_lf(t):
 
 class Outside:
     def __init__(self, path):
-        spec = importlib.util.spec_from_file_location("cmark_list", path)
-        self.m = importlib.util.module_from_spec(spec)
-        spec.loader.exec_module(self.m)
+        self.m = cmark.load(path)
 
     def firsts(self, text):
         """for each item in document order: is it its list's first"""
-        c, out = self.m._c, []
-        p = c.cmark_parser_new(0)
-        c.cmark_parser_attach_syntax_extension(p, self.m._TABLE)
-        c.cmark_parser_feed(p, text, len(text))
-        d = c.cmark_parser_finish(p)
+        out = []
 
         def go(n):
             for k in self.m.kids(n):
@@ -573,9 +551,8 @@ class Outside:
                     for j, li in enumerate(self.m.kids(k)):
                         out.append(j == 0)
                         go(li)
-        go(d)
-        c.cmark_node_free(d)
-        c.cmark_parser_free(p)
+        with cmark.document(self.m, text) as root:
+            go(root)
         return out
 
     def list(self, text):
@@ -715,64 +692,80 @@ def why(t):
     return "other"
 
 
+class Findings:
+    """what comes of the verdicts on random texts"""
+
+    def __init__(self, judge, outside):
+        self.judge, self.outside = judge, outside
+        self.count, self.reasons, self.hiding, self.explained = (collections.Counter() for _ in range(4))
+        self.bad, self.shortest = [], {}
+
+    def add(self, texts, lists):
+        """lists: what cmark-gfm finds in each text, or None"""
+        vs = self.judge.verdicts([(t, UNEXPECTED if c is None else c) for t, c in zip(texts, lists)])
+        self.count.update(vs)
+        early = []
+        for t, c, v in zip(texts, lists, vs):
+            if v == STRANGE and c is not None:
+                u = unseen(t, c)
+                if u:
+                    self.hiding[u] += 1
+                else:
+                    early.append(t)
+        for t, f in zip(early, self.judge.foreign(early)):
+            r = ("foreign: " if f else "other: ") + why(t)
+            self.reasons[r] += 1
+            if len(t) < len(self.shortest.get(r, t + b"x")):
+                self.shortest[r] = t
+        for t, v in zip(texts, vs):
+            if v == DIFFERENT:
+                some = explained_by(t, self.outside, self.judge)
+                self.explained.update(some)
+                self.bad += [] if some else [t]
+
+    def progress(self, seed):
+        print("seed %d: %d texts, %d free of anything foreign, %d foreign too early, %d explained, %d wrong"
+              % (seed, sum(self.count.values()), self.count[SAME] + self.count[DIFFERENT], sum(self.reasons.values()),
+                 self.count[DIFFERENT] - len(self.bad), len(self.bad)), flush=True)
+
+    def report(self):
+        print("foreign although cmark-gfm's tree has nothing foreign: %d" % (sum(self.hiding.values()) + sum(self.reasons.values())))
+        for r, n in self.hiding.most_common():
+            print("  %6d  not too early: %s, which the tree does not show" % (n, r))
+        for r, n in self.reasons.most_common():
+            print("  %6d  too early, %s; the shortest: %r" % (n, r, self.shortest[r]))
+        print("differences explained by the specification:")
+        for k, n in self.explained.most_common():
+            print("  %6d  %s" % (n, CLASSES[k][0]))
+        if self.bad:
+            t = min(self.bad, key=len)
+            print("WRONG, the shortest of %d: %r\ncmark-gfm finds %r" % (len(self.bad), t, self.outside.list(t)))
+
+
 def random_run(args):
     rnd = random.Random(args.seed)
     outside = Outside(args.cmark)
     texts = [random_text(rnd) for _ in range(args.count)]
     lists = [outside.list(t) for t in texts]
     judge = Judge()
-    count = collections.Counter()
-    reasons, hiding, bad, explained = collections.Counter(), collections.Counter(), [], collections.Counter()
-    shortest = {}
+    found = Findings(judge, outside)
     step = 2000
     for k in range(0, len(texts), step):
-        pairs = [(t, UNEXPECTED if c is None else c) for t, c in zip(texts[k:k + step], lists[k:k + step])]
-        vs = judge.verdicts(pairs)
-        again = [t for (t, _), v in zip(pairs, vs) if v == DIFFERENT]
-        early = []
-        for (t, _), c, v in zip(pairs, lists[k:k + step], vs):
-            if v == STRANGE and c is not None:
-                u = unseen(t, c)
-                if u:
-                    hiding[u] += 1
-                else:
-                    early.append(t)
-        count.update(vs)
-        for t, f in zip(early, judge.foreign(early)):
-            r = ("foreign: " if f else "other: ") + why(t)
-            reasons[r] += 1
-            if len(t) < len(shortest.get(r, t + b"x")):
-                shortest[r] = t
-        for t in again:
-            some = explained_by(t, outside, judge)
-            explained.update(some)
-            bad += [] if some else [t]
-        print("seed %d: %d texts, %d free of anything foreign, %d foreign too early, %d explained, %d wrong"
-              % (args.seed, sum(count.values()), count[SAME] + count[DIFFERENT], sum(reasons.values()), count[DIFFERENT] - len(bad), len(bad)),
-              flush=True)
+        found.add(texts[k:k + step], lists[k:k + step])
+        found.progress(args.seed)
     judge.close()
-    print("foreign although cmark-gfm's tree has nothing foreign: %d" % (sum(hiding.values()) + sum(reasons.values())))
-    for r, n in hiding.most_common():
-        print("  %6d  not too early: %s, which the tree does not show" % (n, r))
-    for r, n in reasons.most_common():
-        print("  %6d  too early, %s; the shortest: %r" % (n, r, shortest[r]))
-    print("differences explained by the specification:")
-    for k, n in explained.most_common():
-        print("  %6d  %s" % (n, CLASSES[k][0]))
-    if bad:
-        t = min(bad, key=len)
-        print("WRONG, the shortest of %d: %r\ncmark-gfm finds %r" % (len(bad), t, outside.list(t)))
-    return not bad
+    found.report()
+    return not found.bad
 
 
 def main():
-    p = argparse.ArgumentParser(description=__doc__, formatter_class=argparse.RawDescriptionHelpFormatter)
+    p = command_line.parser(__doc__)
     sub = p.add_subparsers(dest="command", required=True)
-    s = sub.add_parser("store")
-    s.add_argument("--vectors", required=True)
-    sub.add_parser("examples")
-    r = sub.add_parser("random")
-    r.add_argument("--cmark", required=True)
+    s = sub.add_parser("store", help="make vectors/ from the published examples")
+    s.add_argument("--vectors", required=True, help="folder of the published examples")
+    sub.add_parser("examples", help="read the examples in vectors/")
+    r = sub.add_parser("random", help="read random texts, and compare with cmark-gfm")
+    r.add_argument("--cmark", required=True, help=command_line.CMARK)
     r.add_argument("--count", type=int, default=20000)
     r.add_argument("--seed", type=int, default=1)
     args = p.parse_args()

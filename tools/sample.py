@@ -4,9 +4,8 @@
 """
 import sys
 
-from sheets import Gen
-
-el = Gen(0).el
+import command_line
+from sheets import el
 
 
 def rows(kind, *cells):
@@ -35,4 +34,5 @@ def sheet():
 
 
 if __name__ == "__main__":
+    command_line.parser(__doc__).parse_args()
     sys.stdout.buffer.write(sheet())

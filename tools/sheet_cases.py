@@ -7,18 +7,15 @@ further inputs.
 The texts are the Rust's, and those of the model, a second definition in Python, are the same; that a text needs more room than the program
 has is the model's answer.
 """
-import argparse
 import os
 
+import command_line
 import sample
-from compare import with_reference
-from sheets import Gen, field
+from sheets import el, field
 
 HERE = os.path.dirname(os.path.abspath(__file__))
 SPACE = 65536           # the longest input, the node memory, the text memory
 WORDS = b"set the range ring "
-
-el = Gen(0).el
 
 
 def paragraph(text):
@@ -50,7 +47,7 @@ def put(data, *path):
 
 
 def main():
-    _, reference = with_reference(argparse.ArgumentParser())
+    _, reference = command_line.with_reference(command_line.parser(__doc__))
     cases = {
         "sheet": (el("ol", el("li", "A"), el("li", "B"), start="9"), b"9. A\n10. B"),
         "sheet_long": (filled(SPACE + 1), b"no 1\n"),

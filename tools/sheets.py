@@ -1,4 +1,6 @@
-"""Random sheets for the comparison: general trees, damaged bytes, skip lists. Written from document 01."""
+"""Sheets as fields: `field` and `el` make them, `spans` and `nodes_in` look at them; `Gen` makes random ones for the comparisons: general
+trees, damaged bytes, skip lists. Written from document 01.
+"""
 import random
 
 BLOCKS = ["article", "section", "div", "p", "h1", "h2", "h3", "h4", "h5", "h6", "ul", "ol", "dl", "table", "hr"]
@@ -20,6 +22,35 @@ SRCSETS = ["a.png 1x, b.png", " ,", "", "x,,", ", y", "z"]
 
 def field(tag, body):
     return bytes([tag, len(body) >> 8, len(body) & 255]) + body
+
+
+def as_bytes(s):
+    return s if isinstance(s, bytes) else s.encode()
+
+
+def el(name, *kids, attrs=(), **named):
+    """an element; children are fields (bytes) or texts (str), and the names of `named` attributes have `_` for `-`"""
+    out = field(1, as_bytes(name))
+    for k, v in list(attrs) + [(k.replace("_", "-"), v) for k, v in named.items()]:
+        out += field(2, as_bytes(k)) + field(3, as_bytes(v))
+    for k in kids:
+        out += k if isinstance(k, bytes) else field(4, k.encode())
+    return out + field(6, b"")
+
+
+def spans(sheet):
+    """[(place, tag, start, end)] of the fields; one that runs past the end ends there"""
+    out, p = [], 0
+    while len(sheet) - p >= 3:
+        end = min(p + 3 + sheet[p + 1] * 256 + sheet[p + 2], len(sheet))
+        out.append((p, sheet[p], p + 3, end))
+        p = end
+    return out
+
+
+def nodes_in(sheet):
+    """how many nodes, fragment included, where the sheet is whole"""
+    return 1 + sum(f[1] in (1, 4, 5) for f in spans(sheet))
 
 
 class Gen:
@@ -75,10 +106,7 @@ class Gen:
         return out
 
     def element(self, name, kids):
-        out = field(1, name.encode())
-        for k, v in self.attrs(name):
-            out += field(2, k.encode()) + field(3, v.encode())
-        return out + kids + field(6, b"")
+        return el(name, kids, attrs=self.attrs(name))
 
     def leaf(self):
         r = self.r
@@ -199,91 +227,83 @@ class Gen:
 
     # ---- scenes: trees that lead to a branch that random trees rarely meet
 
-    def el(self, name, *kids, **attrs):
-        out = field(1, name.encode())
-        for k, v in attrs.items():
-            out += field(2, k.replace("_", "-").encode()) + field(3, v.encode())
-        for k in kids:
-            out += k if isinstance(k, bytes) else field(4, k.encode())
-        return out + field(6, b"")
-
     def pick(self, *options):
         return self.r.choice(options)
 
     def inline(self):
-        return self.pick(field(4, self.text()), self.el("b", "B"), self.el("br"), self.el("code", "c"), self.el("span", "s"), field(5, b"k"), b"")
+        return self.pick(field(4, self.text()), el("b", "B"), el("br"), el("code", "c"), el("span", "s"), field(5, b"k"), b"")
 
     def digits(self):
         """digits and a point behind them in another text"""
         start = self.pick("1", "12", "x 1", "123456789", "1234567890", " 7", "a\n3", "- 4", "")
-        point = self.el(self.pick("span", "i", "p"), self.pick(".", ")", ". a", ") ", ".a", ","))
-        return self.el(self.pick("p", "li", "div", "td"), start, point) if self.r.random() < .5 else self.list_of(start, point)
+        point = el(self.pick("span", "i", "p"), self.pick(".", ")", ". a", ") ", ".a", ","))
+        return el(self.pick("p", "li", "div", "td"), start, point) if self.r.random() < .5 else self.list_of(start, point)
 
     def bang(self):
-        link = self.el("a", self.pick("x", ""), href=self.pick("u", "(", "a b"))
-        linked = self.el(self.pick("b", "i", "span"), link)
-        return self.pick(field(4, b"Wow!"), field(4, b"!"), self.el("b", "a!")) + self.pick(link, linked, self.el("b", "[x", link))
+        link = el("a", self.pick("x", ""), href=self.pick("u", "(", "a b"))
+        linked = el(self.pick("b", "i", "span"), link)
+        return self.pick(field(4, b"Wow!"), field(4, b"!"), el("b", "a!")) + self.pick(link, linked, el("b", "[x", link))
 
     def list_of(self, *kids):
         attrs = {"start": self.pick(*NUMBERS)} if self.r.random() < .5 else {}
         item = {"value": self.pick(*NUMBERS)} if self.r.random() < .3 else {}
-        return self.el(self.pick("ul", "ol"), self.el("li", *kids, **item), self.pick(b"", self.el("li", "z"), self.leaf()), **attrs)
+        return el(self.pick("ul", "ol"), el("li", *kids, **item), self.pick(b"", el("li", "z"), self.leaf()), **attrs)
 
     def nested_list(self):
-        inner = self.list_of(self.pick("A", " ", self.el("b"), field(5, b"c"), self.list_of("q")), self.inline())
-        return self.list_of(self.inline(), self.pick("A", "A ", "", self.el("p", "P"), self.el("b", "B")), inner, self.inline())
+        inner = self.list_of(self.pick("A", " ", el("b"), field(5, b"c"), self.list_of("q")), self.inline())
+        return self.list_of(self.inline(), self.pick("A", "A ", "", el("p", "P"), el("b", "B")), inner, self.inline())
 
     def emphasis(self):
         a, b = self.pick("b", "strong", "i", "em"), self.pick("b", "strong", "i", "em")
         between = self.pick(b"", field(4, b" "), field(4, b"\n"), field(4, b"  "), field(4, b"x"), field(5, b"c"))
-        one = self.el(a, self.pick("A", " A", "A ", "\\", "*", "A\\", "\u2003", "", " ", self.el(b, "n")))
-        return one + between + self.el(b, self.pick("B", " B ", "[", "\u00a0", self.el(a, "m"), self.el("a", "l", href="u")))
+        one = el(a, self.pick("A", " A", "A ", "\\", "*", "A\\", "\u2003", "", " ", el(b, "n")))
+        return one + between + el(b, self.pick("B", " B ", "[", "\u00a0", el(a, "m"), el("a", "l", href="u")))
 
     def picture(self):
         attrs = {k: v for k, v in (("src", self.pick("s", "", " ", "\u3000")), ("srcset", self.pick(*SRCSETS)), ("data_src", self.pick("d", " ")),
                                    ("alt", self.pick(*TITLES)), ("title", self.pick(*TITLES))) if self.r.random() < .5}
-        return self.el("img", **attrs)
+        return el("img", **attrs)
 
     def linked_picture(self):
-        inside = [self.pick(self.picture(), self.el("br"), self.el("p", "x"), self.el("li", "y"), self.list_of("z"), self.el("pre", "a  b\n`c`"), self.el("pre"),
-                            self.el("table", self.el("tr", self.el("td", "1"), self.el("td", "2"))), self.el("code", "a\nb"), self.el("h2", "h #"),
-                            field(4, self.text()), self.el("hr"), self.el("b", "b")) for _ in range(self.r.randint(1, 4))]
+        inside = [self.pick(self.picture(), el("br"), el("p", "x"), el("li", "y"), self.list_of("z"), el("pre", "a  b\n`c`"), el("pre"),
+                            el("table", el("tr", el("td", "1"), el("td", "2"))), el("code", "a\nb"), el("h2", "h #"),
+                            field(4, self.text()), el("hr"), el("b", "b")) for _ in range(self.r.randint(1, 4))]
         attrs = {"href": self.pick(*URLS)}
         if self.r.random() < .4:
             attrs["title"] = self.pick(*TITLES)
-        return self.el("a", *(inside + [self.picture()]), **attrs)
+        return el("a", *(inside + [self.picture()]), **attrs)
 
     def code_block(self):
-        code = self.el("code", self.pick("x", "a\nb", "```", "`"), **self.pick({"class": self.pick(*CLASSES)}, {"class": self.pick(*CLASSES)}, {}))
+        code = el("code", self.pick("x", "a\nb", "```", "`"), **self.pick({"class": self.pick(*CLASSES)}, {"class": self.pick(*CLASSES)}, {}))
         lang = self.pick({}, {}, {"data_lang": self.pick(*LANGS)}, {"data_language": self.pick(*LANGS), "data_lang": "z"})
-        pre = self.el("pre", self.pick("", "t", "\n"), code, **self.pick({}, lang))
+        pre = el("pre", self.pick("", "t", "\n"), code, **self.pick({}, lang))
         for _ in range(self.r.randint(0, 4)):
-            pre = self.el(self.pick("div", "b", "p", "section"), pre, **self.pick({}, {}, lang))
+            pre = el(self.pick("div", "b", "p", "section"), pre, **self.pick({}, {}, lang))
         return pre
 
     def code_spans(self):
-        return b"".join(self.pick(self.el("code", self.pick("x", "`", "``a", " a ", " ", "", "a ", "\n a \n", "\t\n", "a\u2003\nb", "\u00a0a\nb"),
-                                          self.pick(b"", self.el("br"), self.el("br") + self.el("br"), self.el("script", "s"), self.el("b", " y"), field(5, b"c"))),
+        return b"".join(self.pick(el("code", self.pick("x", "`", "``a", " a ", " ", "", "a ", "\n a \n", "\t\n", "a\u2003\nb", "\u00a0a\nb"),
+                                          self.pick(b"", el("br"), el("br") + el("br"), el("script", "s"), el("b", " y"), field(5, b"c"))),
                                   self.inline()) for _ in range(self.r.randint(1, 3)))
 
     def stale_cut(self):
         """an item whose start is stale behind a trim of the whole text, and a code block behind it"""
-        anchor = self.el("a", self.pick("\u00e9", "x", "\u65e5", "xyz"))
+        anchor = el("a", self.pick("\u00e9", "x", "\u65e5", "xyz"))
         blanks = field(4, self.pick("\u3000\u3000", "\u00a0\u00a0", "\u2003", "\u3000x", " ", "\u2003\u3000\u00a0").encode())
-        item = self.el("li", anchor, blanks, self.el("pre", self.pick("q", "q\n\nr", "")), self.pick(b"", self.el("hr"), self.el("p", "e")))
-        return self.list_of(self.pick("", "o"), self.el(self.pick("b", "i", "span", "div"), self.el(self.pick("ul", "ol"), item)))
+        item = el("li", anchor, blanks, el("pre", self.pick("q", "q\n\nr", "")), self.pick(b"", el("hr"), el("p", "e")))
+        return self.list_of(self.pick("", "o"), el(self.pick("b", "i", "span", "div"), el(self.pick("ul", "ol"), item)))
 
     def cell_breaks(self):
-        cell = [self.pick("a", "\\", "a ", "|", "\\|", "x|y", self.el("br"), self.el("p", "p"), self.el("ul", self.el("li", "i")), self.el("hr"), self.el("h3", "h #"),
-                          self.el("pre", "a|b"), self.list_of("l", self.el("p", "m")), self.el("ol", self.el("li", self.el("hr"), "k", self.el("hr"), "j")))
+        cell = [self.pick("a", "\\", "a ", "|", "\\|", "x|y", el("br"), el("p", "p"), el("ul", el("li", "i")), el("hr"), el("h3", "h #"),
+                          el("pre", "a|b"), self.list_of("l", el("p", "m")), el("ol", el("li", el("hr"), "k", el("hr"), "j")))
                 for _ in range(self.r.randint(0, 3))]
-        return self.el("table", self.el("tr", self.el(self.pick("th", "td"), *cell), self.el(self.pick("th", "td"), "b")),
-                       self.pick(b"", self.el("tr", self.el("td", *cell[:1]), self.el("td", *cell[1:])), self.el("tr"), self.el("tr", self.el("td", "1"))))
+        return el("table", el("tr", el(self.pick("th", "td"), *cell), el(self.pick("th", "td"), "b")),
+                       self.pick(b"", el("tr", el("td", *cell[:1]), el("td", *cell[1:])), el("tr"), el("tr", el("td", "1"))))
 
     def item_blocks(self):
-        kids = [self.pick(self.el("p", "p"), self.el("pre", "a\n\nb"), self.el("hr"), self.el("h2", "h #"), field(4, self.text()), field(4, b" "), self.list_of("n"),
-                          self.el("div", self.el("p", "w"), " ", self.el("pre", "v")), self.el("div", "t"), self.el("script", "s"), field(5, b"c"), self.el("br"),
-                          self.el("table", self.el("tr", self.el("td", "c"))), self.el("b", "e"), self.el("a", "k")) for _ in range(self.r.randint(1, 5))]
+        kids = [self.pick(el("p", "p"), el("pre", "a\n\nb"), el("hr"), el("h2", "h #"), field(4, self.text()), field(4, b" "), self.list_of("n"),
+                          el("div", el("p", "w"), " ", el("pre", "v")), el("div", "t"), el("script", "s"), field(5, b"c"), el("br"),
+                          el("table", el("tr", el("td", "c"))), el("b", "e"), el("a", "k")) for _ in range(self.r.randint(1, 5))]
         return self.list_of(*kids)
 
     def scene(self):
@@ -292,8 +312,8 @@ class Gen:
         if self.r.random() < .3:
             made = self.pick(b"", field(4, self.text())) + made + self.pick(b"", self.leaf())
         for _ in range(self.pick(0, 0, 0, 1, 1, 2)):
-            made = self.pick(lambda: self.el(self.pick("div", "b", "i", "span", "p", "h1", "a"), made), lambda: self.list_of(made), lambda: self.el(
-                "table", self.el("tr", self.el("td", made), self.el("td", "x"))), lambda: self.el("a", made, href="u"))()
+            made = self.pick(lambda: el(self.pick("div", "b", "i", "span", "p", "h1", "a"), made), lambda: self.list_of(made), lambda: el(
+                "table", el("tr", el("td", made), el("td", "x"))), lambda: el("a", made, href="u"))()
         return made
 
     def skips(self):

@@ -14,13 +14,13 @@ no style. What shows nothing is left out: a block without tokens, a list without
 rows are as wide as the widest of their table. Blanks at a destination's ends are no part of it (HTML strips a URL).
 Not in the structure: the language of code, whether a list is loose, `th` in a row that is not the heading.
 
-A tree is as in plain.py: a text (bytes) or an element (name, attributes, children).
+A tree is as in trees.py: a text (bytes) or an element (name, attributes, children).
 """
 import ctypes
-import importlib.util
 import re
 
-from plain import attribute
+import cmark
+from trees import attribute
 
 WHITE = "\t\n\x0c\r "
 HEADINGS = {"h1": 1, "h2": 2, "h3": 3, "h4": 4, "h5": 5, "h6": 6}
@@ -165,24 +165,15 @@ def numbered(node, styles):
 
 class Reader:
     def __init__(self, path):
-        spec = importlib.util.spec_from_file_location("cmark_list", path)
-        self.m = importlib.util.module_from_spec(spec)
-        spec.loader.exec_module(self.m)
+        self.m = cmark.load(path)
         self.c = self.m._c
         for f in ("cmark_node_get_url", "cmark_node_get_title"):
             getattr(self.c, f).restype = ctypes.c_char_p
             getattr(self.c, f).argtypes = [ctypes.c_void_p]
 
     def of_text(self, text):
-        p = self.c.cmark_parser_new(0)
-        self.c.cmark_parser_attach_syntax_extension(p, self.m._TABLE)
-        self.c.cmark_parser_feed(p, text, len(text))
-        d = self.c.cmark_parser_finish(p)
-        try:
-            return self.blocks(d)
-        finally:
-            self.c.cmark_node_free(d)
-            self.c.cmark_parser_free(p)
+        with cmark.document(self.m, text) as root:
+            return self.blocks(root)
 
     def literal(self, n):
         return (self.c.cmark_node_get_literal(n) or b"").decode()

@@ -8,9 +8,10 @@ The bytes that a case expects are the Rust's, where the leaf is reached by a sma
 with room exactly for the peak, and with one byte less, which is refused; where a text is begun behind the text, with some room left too.
 Where both give a text they must agree. The binary of the Rust is found as the oracle's client says (ORACLE or ORACLE_BUILD).
 """
-import argparse
 import os
 import sys
+
+import command_line
 
 HERE = os.path.dirname(os.path.abspath(__file__))
 TARGET = os.path.join(HERE, "..", "crates", "text_cases")
@@ -46,6 +47,7 @@ def hexed(b):
 class Maker:
     def __init__(self, oracle, writer, sheet):
         self.oracle, self.w, self.s = oracle, writer, sheet
+        self.model_writer = writer.Writer(sheet.decode(b""))
         self.lines = {}  # and whether the Rust gave it
 
     def line(self, file, name, room, numbers, text, a, b, answer, expected, rust):
@@ -58,14 +60,18 @@ class Maker:
         """a function that only reads: its text is a"""
         self.line(file, name, 0, numbers, b"", a, b, "F" if value is None else int(value), b"", rust)
 
-    def measure(self, text, begun, f):
-        """the text after f, and the room that it takes; `begun` bytes of another text count from the beginning"""
-        m = self.w.Meter()
-        t = self.w.Buf(m)
+    def buffer(self, text, begun=0):
+        """a text of the model; `begun` bytes of another text count from the beginning"""
+        t = self.w.Buf(self.w.Meter())
         t.b += text
-        m.total = len(text) + begun
+        t.m.total = len(text) + begun
+        return t
+
+    def measure(self, text, begun, f):
+        """the text after f, and the room that it takes"""
+        t = self.buffer(text, begun)
         f(t)
-        return bytes(t.b), max(m.peak, len(text))
+        return bytes(t.b), max(t.m.peak, len(text))
 
     def stored(self, file, name, out, peak, least, text, a, b, numbers, rust):
         for spare in (0, 3) if least > len(text) or name in ("push_title", "write_img") else (0,):
@@ -113,7 +119,7 @@ def text_utils(k):
             for t in (s, s + b"\n  ", s + b"<br>"):
                 k.model("text_utils", "add_linebreaks", lambda b: w.add_linebreaks(b, lb, end), t, lb, end)
     for t in STARTS + TEXTS:
-        k.answer("text_utils", "ends_with_marker_digits", w.ends_with_marker_digits(t), t)
+        k.answer("text_utils", "ends_with_marker_digits", w.ends_with_marker_digits(k.buffer(t)), t)
     for u in URLS:
         k.model("text_utils", "push_md_url", lambda b: b.push(w.md_url(u)), b"x", u)
         if w.utrim(u):
@@ -131,9 +137,9 @@ def heading(k):
         k.answer("heading", "is_heading", 5 <= n <= 10, numbers=(0, n, 0))
     for n in range(1, 7):
         prefix = k.written(el("h%d" % n, "x"))[:-1]
-        k.rust("heading", "md_prefix", prefix, lambda b: b.push(w.PREFIX[b"h%d" % n]), numbers=(0, 4 + n, 0))
-        k.model("heading", "md_prefix", lambda b: b.push(w.PREFIX[b"h%d" % n]), b"a", numbers=(0, 4 + n, 0))
-    k.model("heading", "md_prefix", lambda b: b.push(w.PREFIX[b"hr"]), b"a", numbers=(0, 15, 0))
+        k.rust("heading", "md_prefix", prefix, lambda b: b.push(k.model_writer.prefix(b"h%d" % n)), numbers=(0, 4 + n, 0))
+        k.model("heading", "md_prefix", lambda b: b.push(k.model_writer.prefix(b"h%d" % n)), b"a", numbers=(0, 4 + n, 0))
+    k.model("heading", "md_prefix", lambda b: b.push(k.model_writer.prefix(b"hr")), b"a", numbers=(0, 15, 0))
     k.model("heading", "md_prefix", lambda b: None, b"a", numbers=(0, 4, 0))
     for s in (b"a", b"a #", b"a ##", b"a#", b"a # b", b"#", b"a #  ", b"a \\#", b"a #\xc2\xa0", b"a  ###", b"", b" #", b"a\xc2\xa0#"):
         k.model("heading", "escape_closing_hashes", w.escape_closing_hashes, s)
@@ -161,8 +167,8 @@ def code(k):
             tree = el("pre", s, data_lang=lang) if lang else el("pre", s)
             pre = k.s.decode(k.s.encode(tree)).nodes[1]
             for t in (b"", b"a", b"a\n", b"a\n\n"):
-                k.model("code", "write_pre", lambda b: w.Writer.write_pre(None, b, pre, w.DEFAULT), t, s, lang, behind=len(s))
-            k.rust("code", "write_pre", b"a\n\n" + k.written(tree) + b"\n", lambda b: w.Writer.write_pre(None, b, pre, w.DEFAULT),
+                k.model("code", "write_pre", lambda b: k.model_writer.write_pre(b, pre, w.DEFAULT), t, s, lang, behind=len(s))
+            k.rust("code", "write_pre", b"a\n\n" + k.written(tree) + b"\n", lambda b: k.model_writer.write_pre(b, pre, w.DEFAULT),
                    b"a\n\n", s, lang, behind=len(s))
 
 
@@ -220,7 +226,7 @@ def lists(k):
                     w.trim_trailing_space(b)
                     if flags & BLOCKS:
                         b.drain(w.atrim_start_at(b.b))
-                    ctx = w.ListCtx(w.Opts(offset=indent), n if flags & ORDERED else None)
+                    ctx = w.ListCtx(w.Opts(offset=indent), n if flags & ORDERED else None, w.BASE)
                     b.push(b" " * ctx.indent)
                     b.push(ctx.prefix())
                 k.model("list", "begin_item", begin, t, numbers=(flags, indent, n))
@@ -237,17 +243,12 @@ ITEM_TEXTS = [  # text, indent, start
 def indented(k):
     w, el = k.w, k.s.el
 
-    class Block(w.Writer):
-        def __init__(self, b, block):
-            self.m, self.block, self.panic_on_cut, self.cut_inside = b.m, block, False, 0
-
-        def write(self, t, root, o):
-            t.push(self.block)
-
     def append(b, block, indent, start, cell):
         b.m.total -= len(block)
-        ctx = w.ListCtx(w.Opts(table_cell=cell), None)
-        Block(b, block).write_list_item_indented(b, None, b" " * indent, start, ctx)
+        written = w.Buf(b.m)
+        written.push(block)
+        ctx = w.ListCtx(w.Opts(table_cell=cell), None, w.BASE)
+        k.model_writer.write_list_item_indented(b, written, b" " * indent, start, ctx)
 
     for block in BLOCKS_WRITTEN:
         for t, indent, start in ITEM_TEXTS:
@@ -305,15 +306,15 @@ def images(k):
     ):
         sheet = s.encode(("img", list(attrs.items()), []))
         img = s.decode(sheet).nodes[1]
-        k.rust("image", "write_img", k.oracle.write(sheet), lambda b: w.Writer.write_img(None, b, img), a=sheet)
+        k.rust("image", "write_img", k.oracle.write(sheet), lambda b: k.model_writer.write_img(b, img), a=sheet)
         for t in (b"a", b"a!", b"a\n"):
-            k.model("image", "write_img", lambda b: w.Writer.write_img(None, b, img), t, sheet)
+            k.model("image", "write_img", lambda b: k.model_writer.write_img(b, img), t, sheet)
 
 
 def main():
-    p = argparse.ArgumentParser()
-    p.add_argument("--oracle", required=True)
-    p.add_argument("--model", required=True)
+    p = command_line.parser(__doc__)
+    p.add_argument("--oracle", required=True, help=command_line.ORACLE)
+    p.add_argument("--model", required=True, help=command_line.MODEL)
     args = p.parse_args()
     sys.path[:0] = [args.model, args.oracle]
     import model_sheet

@@ -14,13 +14,13 @@ fragment: distance to its end, number of its parent, distances to its first chil
 the attribute's value and of the language (0 0 for none; starts counted from its field); whether the skip list leaves it out; distance of its field
 from that of the node before it. " * n" says that the line above comes n times more.
 """
-import argparse
 import os
 import struct
 import sys
 
+import command_line
 import sheets
-from sheets import field
+from sheets import el, field, nodes_in, spans
 
 HERE = os.path.join(os.path.dirname(os.path.abspath(__file__)), "..", "crates", "tree_cases")
 NAMES = ("article section div p h1 h2 h3 h4 h5 h6 ul ol dl table hr li tr th td br a img pre code strong b em i thead tbody").split()
@@ -39,20 +39,6 @@ class Call:
         run = self.skips or b""
         out = struct.pack("<BHHIIH", self.skips is not None, len(run), len(self.name), self.start, self.memory, len(self.pieces)) + run + self.name
         return out + b"".join(struct.pack("<IH", n, len(p)) + p for n, p in self.pieces)
-
-
-def spans(sheet):
-    """[(place, tag, start, end)] of the fields; one that runs past the end ends there"""
-    out, p = [], 0
-    while len(sheet) - p >= 3:
-        end = min(p + 3 + sheet[p + 1] * 256 + sheet[p + 2], len(sheet))
-        out.append((p, sheet[p], p + 3, end))
-        p = end
-    return out
-
-
-def nodes_in(sheet):
-    return 1 + sum(f[1] in (1, 4, 5) for f in spans(sheet))
 
 
 def value(fields, k, sheet, wanted):
@@ -100,10 +86,6 @@ def answer(call, tree):
     if again:
         out.append(" * %d" % again)
     return "\n".join(out) + "\n"
-
-
-def el(name, *kids, attrs=()):
-    return field(1, name) + b"".join(field(2, k) + field(3, v) for k, v in attrs) + b"".join(kids) + CLOSE
 
 
 def limits():
@@ -193,10 +175,10 @@ def random_calls(count, decode):
 
 
 def main():
-    parser = argparse.ArgumentParser()
-    parser.add_argument("--model", required=True)
-    parser.add_argument("--oracle")
-    parser.add_argument("--random", type=int, default=400)
+    parser = command_line.parser(__doc__)
+    parser.add_argument("--model", required=True, help=command_line.MODEL)
+    parser.add_argument("--oracle", help=command_line.ORACLE)
+    parser.add_argument("--random", type=int, default=400, help="how many random calls")
     args = parser.parse_args()
     sys.path.insert(0, args.model)
     import model_sheet
