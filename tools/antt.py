@@ -151,6 +151,22 @@ class Bench:
             raise RuntimeError(out)
         return bad
 
+    def failing(self, claims, batch=500):
+        """claims: lists of a term and its number each; the indices of those that do not hold, `batch` of them to a check"""
+        out = []
+        for k in range(0, len(claims), batch):
+            body = []
+            for j, claim in enumerate(claims[k:k + batch]):
+                body.append("\nc%d : List ℕ\nc%d =\n    %s ∷ []\n\ns%d : c%d ≡ (%s ∷ [])\nunfolding c%d %s\ns%d = refl\n" % (
+                    j, j, "\n    ∷ ".join(t for t, _ in claim), j, j, " ∷ ".join(str(n) for _, n in claim), j, self.unfolding, j))
+            code, text = self.run("".join(body))
+            said = re.split(r"error: (?=`s\d+`:)", text)
+            bad = [int(re.match(r"`s(\d+)`", x).group(1)) for x in said[1:]]
+            if (code == 0) != (not bad) or "error: " in said[0] or any("expected" not in x for x in said[1:]):
+                raise RuntimeError(text[-3000:])
+            out += [k + j for j in bad]
+        return out
+
 
 if __name__ == "__main__":
     command_line.parser(__doc__).parse_args()

@@ -120,32 +120,16 @@ class Judge:
     def close(self):
         self.bench.close()
 
-    def failing(self, claims, batch=400):
-        """claims: lists of a term and its number each; the indices of those that do not hold"""
-        out = []
-        for k in range(0, len(claims), batch):
-            body = []
-            for j, claim in enumerate(claims[k:k + batch]):
-                body.append("\nc%d : List ℕ\nc%d =\n    %s ∷ []\n\ns%d : c%d ≡ (%s ∷ [])\nunfolding c%d %s\ns%d = refl\n" % (
-                    j, j, "\n    ∷ ".join(t for t, _ in claim), j, j, " ∷ ".join(str(n) for _, n in claim), j, self.bench.unfolding, j))
-            code, text = self.bench.run("".join(body))
-            said = re.split(r"error: (?=`s\d+`:)", text)
-            bad = [int(re.match(r"`s(\d+)`", x).group(1)) for x in said[1:]]
-            if (code == 0) != (not bad) or "error: " in said[0] or any("expected" not in x for x in said[1:]):
-                raise RuntimeError(text[-3000:])
-            out += [k + j for j in bad]
-        return out
-
     def verdicts(self, pairs, group=12):
         def term(t, e):
             return "verdict %s (%s)" % (antt.literal(t), " ∷ ".join([str(b) for b in e or []] + ["[]"]))
         terms = [term(t, e) for t, e in pairs]
         guess = [UNREAD if e is None else SAME for _, e in pairs]
         groups = [list(range(k, min(k + group, len(pairs)))) for k in range(0, len(pairs), group)]
-        wrong = self.failing([[(terms[k], guess[k]) for k in g] for g in groups])
+        wrong = self.bench.failing([[(terms[k], guess[k]) for k in g] for g in groups])
         singles = [k for j in wrong for k in groups[j]]
         for turn in range(3):
-            singles = [singles[j] for j in self.failing([[(terms[k], guess[k])] for k in singles])]
+            singles = [singles[j] for j in self.bench.failing([[(terms[k], guess[k])] for k in singles])]
             for k in singles:
                 guess[k] = (guess[k] + 2) % 3    # SAME, UNREAD, DIFFERENT
         return guess

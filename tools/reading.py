@@ -128,26 +128,9 @@ class Judge:
 
     def __init__(self):
         self.bench = antt.Bench(PREAMBLE)
-        self.names = self.bench.unfolding
 
     def close(self):
         self.bench.close()
-
-    def failing(self, claims, batch=500):
-        """claims: lists of a term and its number each; the indices of those that do not hold"""
-        out = []
-        for k in range(0, len(claims), batch):
-            body = []
-            for j, claim in enumerate(claims[k:k + batch]):
-                body.append("\nc%d : List ℕ\nc%d =\n    %s ∷ []\n\ns%d : c%d ≡ (%s ∷ [])\nunfolding c%d %s\ns%d = refl\n" % (
-                    j, j, "\n    ∷ ".join(t for t, _ in claim), j, j, " ∷ ".join(str(n) for _, n in claim), j, self.names, j))
-            code, text = self.bench.run("".join(body))
-            said = re.split(r"error: (?=`s\d+`:)", text)
-            bad = [int(re.match(r"`s(\d+)`", x).group(1)) for x in said[1:]]
-            if (code == 0) != (not bad) or "error: " in said[0] or any("expected" not in x for x in said[1:]):
-                raise RuntimeError(text[-3000:])
-            out += [k + j for j in bad]
-        return out
 
     def verdicts(self, pairs, group=200):
         """a guess for each text, in groups of about `group` bytes; then one text at a time, where a group has a wrong guess"""
@@ -160,18 +143,18 @@ class Judge:
                 size = 0
             groups[-1].append(k)
             size += len(t) + 10
-        wrong = [groups[j] for j in self.failing([[(terms[k], guess[k]) for k in g] for g in groups])]
+        wrong = [groups[j] for j in self.bench.failing([[(terms[k], guess[k]) for k in g] for g in groups])]
         singles = [k for g in wrong for k in g]
-        singles = [singles[j] for j in self.failing([[(terms[k], guess[k])] for k in singles])]
+        singles = [singles[j] for j in self.bench.failing([[(terms[k], guess[k])] for k in singles])]
         while singles:
             for k in singles:
                 guess[k] = {SAME: STRANGE, STRANGE: DIFFERENT}[guess[k]]
-            singles = [singles[j] for j in self.failing([[(terms[k], guess[k])] for k in singles])]
+            singles = [singles[j] for j in self.bench.failing([[(terms[k], guess[k])] for k in singles])]
         return guess
 
     def foreign(self, texts):
         """for texts in whose reading something is foreign or other: which of the two comes first"""
-        bad = set(self.failing([[("strangest (read %s)" % antt.literal(t), 2)] for t in texts]))
+        bad = set(self.bench.failing([[("strangest (read %s)" % antt.literal(t), 2)] for t in texts]))
         return [k not in bad for k in range(len(texts))]
 
 
