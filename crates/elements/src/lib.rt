@@ -1,4 +1,7 @@
 // The element writers that reach no other writer, but for tables.
+
+#![tactic(auto)]
+
 pub mod code;
 pub mod code_language;
 pub mod item_steps;

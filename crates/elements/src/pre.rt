@@ -21,7 +21,7 @@ use tree::attributes::Value;
 use tree::nodes::{node_end, node_place, text_at};
 
 // How long a text is behind the words of a piece, whether a word stands there, and whether a white byte came last.
-#[derive(Drop)]
+#[derive(Clone, Copy)]
 pub enum Joined {
     Words(usize, bool, bool),
     Full,

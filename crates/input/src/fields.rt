@@ -5,7 +5,7 @@ ghost use Rattle.spec.specs.Fields.{whole};
 ghost use Rattle.input.specs.Spans.{length_at, Spanned};
 
 // A field: its tag, and where its bytes start and end.
-#[derive(Drop)]
+#[derive(Clone, Copy)]
 pub struct Span {
     pub tag: u8,
     pub start: usize,

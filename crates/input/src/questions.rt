@@ -106,7 +106,7 @@ fn field_right(before: u8, depth: usize, tag: u8, len: usize) -> bool
 }
 
 // What the rules on fields say of a sheet: broken, or kept with so many elements still open at its end.
-#[derive(Drop)]
+#[derive(Clone, Copy)]
 pub enum Scan {
     Broken,
     Open(usize),

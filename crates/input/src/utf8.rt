@@ -6,7 +6,7 @@ ghost use Rattle.input.specs.Lead.{lead_of, lead3_of, lead4_of, next_of, is_asci
 
 // What the first byte of a sequence says of the rest: how many bytes follow, and the range of the first of them.
 // `more` is 4 where no sequence begins with the byte.
-#[derive(Drop)]
+#[derive(Clone, Copy)]
 pub struct Lead {
     pub more: u8,
     pub low: u8,

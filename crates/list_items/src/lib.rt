@@ -1,4 +1,7 @@
 // The beginnings of the two item writers of elements/list.rs: the list context is lent to each and advanced in it.
+
+#![tactic(auto)]
+
 ghost use Rattle.std.specs.Prelude.{◌≡◌, false, true, ◌+◌, ◌≤◌, ◌<◌, ◌^◌, length, take};
 ghost use Rattle.spec.specs.Md.Ctx.{advance_ol_number};
 ghost use Rattle.spec.specs.Md.Elements.List.{begin_item};
@@ -37,7 +40,7 @@ pub fn write_list_item_blocks(text: &mut [u8], len: usize, ctx: &mut ListContext
 }
 
 // What a writer of an item answers: whether there was room, and the context with which the list goes on.
-#[derive(Drop)]
+#[derive(Clone, Copy)]
 pub struct ItemWrote {
     pub wrote: Wrote,
     pub ctx: ListContext,

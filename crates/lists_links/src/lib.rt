@@ -1,4 +1,7 @@
 // Lists, links, images and destinations: what stands before and behind the text of their children.
+
+#![tactic(auto)]
+
 pub mod ctx;
 pub mod image;
 pub mod link;

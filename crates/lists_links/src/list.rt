@@ -17,7 +17,7 @@ use text::buffer::{
 
 // What the loop over an item's children knows: the context after its number is written, how many blanks stand before its
 // blocks, the place where its content begins.
-#[derive(Drop)]
+#[derive(Clone, Copy)]
 pub struct Item {
     pub ctx: ListContext,
     pub indent: usize,

@@ -9,7 +9,7 @@ ghost use Rattle.text.specs.Trimmed.{Skipped};
 use text::buffer::{Class, starts_with_byte, trim_start_matches};
 
 // The number that an attribute's value says, if it says one.
-#[derive(Drop)]
+#[derive(Clone, Copy)]
 pub enum Parsed {
     Number(u32),
     Nothing,

@@ -14,7 +14,7 @@ use text::buffer::{
 use text::lifted::push_lifted;
 
 // The longest run of backticks that has ended, and the run before what follows.
-#[derive(Drop)]
+#[derive(Clone, Copy)]
 pub struct Runs {
     pub best: usize,
     pub run: usize,

@@ -19,7 +19,7 @@ use tree::nodes::node_end;
 use tree::store::store_nodes;
 
 // The length of the text, or the number of the question that said no.
-#[derive(Drop)]
+#[derive(Clone, Copy)]
 pub enum Answer {
     Written(usize),
     Refused(u8),

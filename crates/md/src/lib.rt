@@ -1,2 +1,5 @@
 // The call that writes a sheet.
+
+#![tactic(auto)]
+
 pub mod call;

@@ -5,7 +5,7 @@ use tree::memory::read_quad;
 
 // A stored call. A flag says that the skip list is an own one, that the start node is written too, that the sheet is all zeros.
 // The number is that of the question that says no; 0 is none, and then the room is the peak.
-#[derive(Drop)]
+#[derive(Clone, Copy)]
 pub struct Head {
     pub own: bool,
     pub with_node: bool,

@@ -1,6 +1,9 @@
 // Makes the calls of a stored list, with memories that hold other bytes before, and compares the answer and every byte of both
 // memories with what the list says. Writes which stored calls differ, then how many calls were made and how many of them differ.
 // tools/md_cases.py makes the list.
+
+#![tactic(auto)]
+
 mod list;
 
 ghost use Rattle.std.specs.Prelude.{◌+◌, ◌≤◌, ◌<◌, ◌≡◌, length};
@@ -121,7 +124,7 @@ fn replay_lent(
 }
 
 // How many calls were made, and how many of them differ.
-#[derive(Drop)]
+#[derive(Clone, Copy)]
 struct Tally {
     calls: u64,
     differ: u64,

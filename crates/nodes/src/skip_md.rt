@@ -19,7 +19,7 @@ use tree::names::is_skipped;
 use tree::nodes::{node_end, node_parent, node_place, tag_at};
 
 // A place among the nodes: the innermost element that is open there, and the number of the node that follows.
-#[derive(Drop)]
+#[derive(Clone, Copy)]
 pub struct Spot {
     pub open: usize,
     pub at: usize,

@@ -6,7 +6,7 @@ ghost use Rattle.nodes.specs.declared.white_space.Begun.TheVariants as begun;
 use text::buffer::{is_white_space_1, is_white_space_2, is_white_space_3};
 
 // The bytes of a character that is begun, behind White_Space: none, one, two; or bytes that are not White_Space.
-#[derive(Drop)]
+#[derive(Clone, Copy)]
 pub enum Begun {
     Nothing,
     One(u8),

@@ -233,7 +233,7 @@ pub fn is_sign(b: u8, next: u8) -> bool
 }
 
 // What 16 bytes add: for each 1 if a backslash stands before it, else 0, and whether each adds itself.
-#[derive(Drop)]
+#[derive(Clone, Copy)]
 pub struct Block {
     pub signs: [u8; 16],
     pub even: bool,

@@ -12,7 +12,7 @@ use text::buffer::{Class, ends_with_byte, ends_with_either, ends_with_white, tri
 
 // A text is `lead`, unless it is 0, what its bytes from `at` on add, with a backslash more before the byte at `mark` if `sign`
 // says so, and a blank if `last` does.
-#[derive(Drop)]
+#[derive(Clone, Copy)]
 pub struct Layout {
     pub lead: u8,
     pub at: usize,

@@ -1,4 +1,7 @@
 // Normalized text and its escapes: text_utils.rs.
+
+#![tactic(auto)]
+
 pub mod fast_copy;
 pub mod layout;
 pub mod line_start;

@@ -1,6 +1,9 @@
 // The cases of document 01 that are run and not proved, and inputs of the program `sheet`: a line for each with what is called, then
 // the number of the question that says no, or 0, the length of the text and the text, with `/` for LF. tools/quay_cases.py has what
 // they must be.
+
+#![tactic(auto)]
+
 mod build;
 
 use build::{field, fields, holding, two_cells};

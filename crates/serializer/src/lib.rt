@@ -1,5 +1,8 @@
 // The writers of serializer.rs and elements: one call cycle, in which `levels` falls. They stand in the crate's own file, since
 // the proof of a cycle is named by its members, with their modules.
+
+#![tactic(auto)]
+
 ghost use Rattle.std.specs.Prelude.{◌≡◌, Bool, cond, List, [], ℕ, ◌+◌, ◌-◌, ◌≤◌, ◌<◌, eqb, length, take, drop};
 ghost use Rattle.spec.specs.Bytes.{Bytes};
 ghost use Rattle.spec.specs.Names.{tag_of};

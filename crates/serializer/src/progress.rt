@@ -8,7 +8,7 @@ use lists_links::list::{Item, push_rule};
 use text::buffer::Wrote;
 
 // The length of the text, whether no block stood before, whether a blank line is due.
-#[derive(Drop)]
+#[derive(Clone, Copy)]
 pub enum Going {
     On(usize, bool, bool),
     Full,

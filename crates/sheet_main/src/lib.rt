@@ -1,4 +1,7 @@
 // The program `sheet`: a sheet from standard input as Markdown, from node 0 without it, with the default skip list.
+
+#![tactic(auto)]
+
 ghost use Rattle.sheet_main.specs.Reply.{reply, Is};
 
 use libc::{STDIN_FILENO, STDOUT_FILENO};

@@ -5,7 +5,7 @@ ghost use Rattle.spec.specs.Bytes.{decimal};
 ghost use Rattle.spec.specs.Md.Constants.{MAX_LIST_NUMBER};
 ghost use Rattle.spec.specs.Md.Ctx as def;
 
-#[derive(Drop)]
+#[derive(Clone, Copy)]
 pub struct EmphasisScope(pub u8);
 
 impl EmphasisScope {
@@ -27,7 +27,7 @@ impl EmphasisScope {
     }
 }
 
-#[derive(Drop)]
+#[derive(Clone, Copy)]
 pub struct FormatOpts {
     pub include_node: bool,
     pub skip_escape: bool,
@@ -132,7 +132,7 @@ impl FormatOpts {
     }
 }
 
-#[derive(Drop)]
+#[derive(Clone, Copy)]
 pub enum ListKind {
     Ul,
     Ol(u32),
@@ -172,7 +172,7 @@ pub fn next_number(n: u32) -> u32
     if n < 999999999 { n + 1 } else { 999999999 }
 }
 
-#[derive(Drop)]
+#[derive(Clone, Copy)]
 pub struct ListContext {
     pub opts: FormatOpts,
     pub kind: ListKind,

@@ -20,7 +20,7 @@ use tree::memory::{read_long, store_long};
 use tree::nodes::node_end;
 
 // How many cells a row has, how long their texts are together, and how many of them are empty.
-#[derive(Drop)]
+#[derive(Clone, Copy)]
 pub struct Size {
     pub cells: usize,
     pub bytes: usize,

@@ -12,7 +12,7 @@ ghost use Rattle.text.specs.Writes.{Writes};
 use input::fields::is_same;
 
 // Whether a text had room, and how long it is then.
-#[derive(Drop)]
+#[derive(Clone, Copy)]
 pub enum Wrote {
     Done(usize),
     Full,
@@ -48,7 +48,7 @@ pub fn front(s: &[u8], n: usize) -> &[u8]
 
 // Sets of bytes, for the functions that trim, skip and test by one. Black bytes are not white; ordinary ones are neither white
 // nor ever escaped behind the beginning of a line.
-#[derive(Drop)]
+#[derive(Clone, Copy)]
 pub enum Class {
     Blank,
     White,

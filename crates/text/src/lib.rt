@@ -1,3 +1,6 @@
 // The text memory: a text is the front of a lent slice.
+
+#![tactic(auto)]
+
 pub mod buffer;
 pub mod lifted;

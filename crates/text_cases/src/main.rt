@@ -3,6 +3,9 @@
 // hexadecimal, the answer (a number, or F where there is no room or no number), the bytes that stand at the front of the text
 // then. Writes each line whose answer or bytes are others, then how many lines there are and how many of them differ.
 // tools/text_cases.py makes the lines.
+
+#![tactic(auto)]
+
 mod case;
 mod leaf;
 mod setup;

@@ -7,7 +7,7 @@ use spec::ctx::{FormatOpts, ListContext, ListKind};
 use text::buffer::{Wrote, push_all};
 
 // The numbers of a case: options as bits, and two that each function reads in its own way.
-#[derive(Drop)]
+#[derive(Clone, Copy)]
 pub struct Case {
     pub flags: usize,
     pub x: usize,

@@ -10,7 +10,7 @@ ghost use Rattle.tree.specs.Attributes.{ends_attrs, either_attr, language_attr, 
 use input::fields::{is_same, span_at};
 
 // The value of an attribute: where it starts and ends in the sheet.
-#[derive(Drop)]
+#[derive(Clone, Copy)]
 pub enum Value {
     At(usize, usize),
     Missing,

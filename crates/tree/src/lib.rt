@@ -1,4 +1,7 @@
 // The tree of a sheet in node memory, and access to it.
+
+#![tactic(auto)]
+
 pub mod attributes;
 pub mod memory;
 pub mod names;

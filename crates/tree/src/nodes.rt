@@ -7,14 +7,14 @@ use crate::memory::{read_quad, read_word};
 use input::fields::span_at;
 
 // A part of the sheet.
-#[derive(Drop)]
+#[derive(Clone, Copy)]
 pub struct Part {
     pub start: usize,
     pub end: usize,
 }
 
 // A node, or none.
-#[derive(Drop)]
+#[derive(Clone, Copy)]
 pub enum Node {
     At(usize),
     Nothing,

@@ -10,7 +10,7 @@ use crate::names::name_at;
 use input::fields::length_at;
 
 // How far storing has come: the nodes begun, and the innermost open one.
-#[derive(Drop)]
+#[derive(Clone, Copy)]
 pub struct Turn {
     pub count: usize,
     pub cur: usize,

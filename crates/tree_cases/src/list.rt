@@ -5,7 +5,7 @@ ghost use Rattle.std.specs.Prelude.{◌+◌, ◌≤◌, ◌≡◌, length};
 use tree::memory::{read_quad, read_word};
 
 // A call but for its sheet: the skip list is input[run..name], the attribute name input[name..end].
-#[derive(Drop)]
+#[derive(Clone, Copy)]
 pub struct Head {
     pub own: bool,
     pub start: usize,
@@ -35,7 +35,7 @@ pub fn read_head(input: &[u8], at: usize) -> Head
 }
 
 // Where the pieces of a sheet end in the input, and how long the sheet is.
-#[derive(Drop)]
+#[derive(Clone, Copy)]
 pub struct Built {
     pub at: usize,
     pub len: usize,

@@ -1,4 +1,7 @@
 // Puts questions 1 to 9 to each sheet of a stored list, and writes the number of the first no and the nodes of an accepted sheet.
+
+#![tactic(auto)]
+
 mod dump;
 mod list;
 

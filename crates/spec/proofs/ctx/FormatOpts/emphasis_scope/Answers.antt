@@ -1,11 +1,8 @@
--- `spec::ctx::FormatOpts::emphasis_scope` meets its contract. Assumes nothing.
 use mathlib.Core.Path.{ap}
 use Rattle.spec.specs.Md.Ctx.{emphasis_scope}
 use Rattle.spec.specs.declared.ctx.EmphasisScope.{EmphasisScope}
 use Rattle.spec.specs.declared.ctx.FormatOpts.{FormatOpts}
-use borrow.Author.Rules.{rules}
-use Rattle.spec.proofs.ctx.FormatOpts.emphasis_scope.Statement.{statement}
-use Rattle.spec.proofs.ctx.FormatOpts.emphasis_scope.Tie as tie
+use Rattle.spec.proofs.ctx.FormatOpts.emphasis_scope.Goals as goal
 
 abbrev setScope : EmphasisScope → FormatOpts → FormatOpts
 setScope s self =
@@ -21,12 +18,6 @@ setScope s self =
       emphasis_scope = s;
     }
 
-insert-requires : tie.Need-insert-requires
-insert-requires c κs = search rules
-
-returns : tie.Need-returns
+pub returns : goal.returns
 returns c =
-    ap (λ (s : EmphasisScope). setScope s c.before.args.self) c.insert.ensures
-
-pub emphasis-scope-spec : {M : Type 1} → statement M
-emphasis-scope-spec = tie.close (tie.spec insert-requires returns)
+    ap (λ (s : EmphasisScope). setScope s c.args.self) c.insert-s.ensures

@@ -1,0 +1,260 @@
+#!/usr/bin/env python3
+"""Turns proofs that close a function's `Tie` to the files Invariants.antt and Answers.antt.
+
+usage: to_answers.py CRATE NAMES [FUNCTION..]     at the top of the repository
+
+NAMES is the file names.json that `rt check --generated FOLDER --old-names` wrote for the crate. It lists each goal and each step under
+its old and its new name. An answer that was only a search is left out: the check tries it itself.
+"""
+import json
+import os
+import re
+import sys
+
+HEAD = re.compile(r"^(?:abbrev |pub |unfoldable |opaque )*«?([^\s(){}:«»]+)»?(?: \{[^}]*\})* :(?= |$)")
+
+
+def declarations(text):
+    """The file's use lines, and a list of (name, comment, lines) of what it declares."""
+    uses, out, comment, cur = [], [], [], None
+    for line in text.split("\n"):
+        if line.startswith("use ") or (uses and uses[-1].count("{") > uses[-1].count("}")):
+            if line.startswith("use "):
+                uses.append(line)
+            else:
+                uses[-1] += " " + line.strip()
+            cur = None
+            continue
+        m = HEAD.match(line)
+        if m:
+            cur = (m[1], comment, [line])
+            out.append(cur)
+            comment = []
+        elif line.startswith("--"):
+            if "meets its contract" not in line:
+                comment.append(line)
+            cur = None
+        elif cur is not None and line.strip():
+            cur[2].append(line)
+        elif line.strip() and re.match(r"^(data|record|pub data|pub record|mutual)", line):
+            cur = (line.split()[1], comment, [line])
+            out.append(cur)
+            comment = []
+        elif not line.strip() and cur is not None:
+            cur[2].append("")
+    return uses, out
+
+
+def plain(name):
+    name = re.sub(r"^(overflow|nonzero|bounds|slice_bounds|offset_bounds)[-_]", "", name)
+    return name.replace("-", "_")
+
+
+class Function:
+    def __init__(self, entry):
+        self.needs = entry["needs"]
+        self.asked = entry["asked_at"]
+        self.places = {p[0]: p for p in entry["places"]}
+        self.order = [p[0] for p in entry["places"]]
+        self.by_name = dict(zip(self.order, entry["places_by_name"]))
+        self.arms = dict(zip(self.order, entry["arms"]))
+        self.loops = entry["loops"]
+        self.changed = entry["changed"]
+        self.said = []
+
+    def need(self, name):
+        each = [(o, n, a) for (o, n), a in zip(self.needs, self.asked) if plain(o) == plain(name)]
+        if not each:
+            each = [(o, n, a) for (o, n), a in zip(self.needs, self.asked) if plain(o).replace("_", "") == plain(name).replace("_", "")]
+        return each[0] if len(each) == 1 else None
+
+    def chain(self, place):
+        out = []
+        while place is not None:
+            out.append(place)
+            place = self.places[place][1]
+        return out
+
+    def step(self, place, ups, field, rest):
+        """(new path of the step, rest) of the field that stands `ups` steps above the place."""
+        chain = self.chain(place)
+        if field in ("args", "requires", "ranges", "utf8", "lifetimes", "ghost", "type_inv"):
+            return field, rest
+        norm = lambda s: s.replace("-", "_")
+        hits = [k for k, p in enumerate(chain) if norm(self.places[p][2][0]) == norm(field)]
+        if not hits:
+            self.said.append(f"no step {field} above {place}: {[self.places[p][2][0] for p in chain]}")
+            return field, rest
+        best = min(hits, key=lambda k: (abs(k - ups), k))
+        p = chain[best]
+        # an arm of a match: what its parts are called now
+        parts = rest.lstrip(".").split(".") if rest else []
+        for q in chain:
+            arm = self.arms.get(q)
+            if not arm:
+                continue
+            for new, old, path in arm[2]:
+                if norm(old) == norm(field) and path and parts[: len(path)] == path and best >= chain.index(q):
+                    more = parts[len(path):]
+                    return f"{arm[0]}.{new}", "." + ".".join(more) if more else ""
+        return self.places[p][2][1], rest
+
+    def turn(self, text, place):
+        # places that a let names
+        while True:
+            m = re.search(r"let ([^\s:]+)(?: : [^=\n]*)? = (c(?:\.before)+|c) in\s*", text)
+            if not m:
+                break
+            name, path = m[1], m[2]
+            text = text[: m.start()] + text[m.end():]
+            text = re.sub(rf"(?<![\w.'-]){re.escape(name)}(?=\.)", path, text)
+
+        def one(m):
+            ups = m[1].count(".before")
+            field, rest = self.step(place, ups, m[2], m[3])
+            return "c." + field + rest
+
+        return re.sub(r"(?<![\w.'₀-])c((?:\.before)*)\.([A-Za-z_][\w'₀-]*)((?:\.[\w'₀-]+)*)", one, text)
+
+
+def is_searched(lines, name):
+    body = "\n".join(lines[1:])
+    body = re.sub(r"(?m)^unfolding .*$", "", body)
+    return re.fullmatch(rf"\s*{re.escape(name)}[^=]*=\s*search rules\s*", body) is not None and "unfolding" not in "\n".join(lines)
+
+
+def invariant(f, lines, name, old):
+    """The lines of an invariant or a measure over the record l."""
+    text = "\n".join(lines[1:])
+    text = re.sub(r"(?m)^unfolding .*\n", "", text)
+    m = re.match(rf"\s*{re.escape(name)}\s+([^=]*)=\s*(.*)", text, re.S)
+    if not m:
+        return None
+    kind, label = old
+    vars_, changed = None, None
+    for ((o, n), vs), ch in zip(f.loops, f.changed):
+        if o.replace("-", "_") == label.replace("-", "_"):
+            vars_, changed, new = vs, ch, n
+    if vars_ is None:
+        f.said.append(f"no loop {label}")
+        return None
+    params = m[1].split()
+    want = [(f"l.{v}" if not c else f"l.initial.{v}") for v, c in zip(vars_, changed)] + [f"l.{v}" for v, c in zip(vars_, changed) if c]
+    if len(params) != len(want):
+        f.said.append(f"{name}: {params} against {want}")
+        return None
+    table = dict(zip(params, want))
+    body = re.sub(r"(?<![\w.'₀·-])([A-Za-z_«][\w'₀₁₂»-]*)", lambda w: table.get(w[1], w[1]) if w[1] != "_" else w[1], m[2].rstrip())
+    return [f"abbrev pub {kind}-{new} : goal.{kind}-{new}", f"{kind}-{new} l = {body}"]
+
+
+def convert(crate, path, entry, write=True):
+    text = open(path, encoding="utf-8").read()
+    uses, decls = declarations(text)
+    f = Function(entry)
+    module = None
+    for u in uses:
+        m = re.match(r"use (Rattle\.[^\s]*)\.Tie as tie", u)
+        if m:
+            module = m[1]
+    if module is None:
+        return [f"{path}: no Tie"], False
+    keep = [u for u in uses if not re.search(r"\.(Statement\.\{statement\}|Tie as tie)", u)]
+    invs, answers, helpers, lost = [], [], [], 0
+    for name, comment, lines in decls:
+        head = lines[0]
+        m = re.search(r": tie\.(invariant|decreases)-(\S+)", head)
+        if m:
+            inv = invariant(f, lines, name, (m[1], m[2]))
+            if inv is None:
+                lost += 1
+            else:
+                invs.append((comment, inv))
+            continue
+        m = re.search(r": tie\.Need-([^\s]+)", head)
+        if m:
+            if is_searched(lines, name):
+                continue
+            need = f.need(m[1]) or f.need(name)
+            if need is None:
+                f.said.append(f"no goal {m[1]} ({name}); the goals are {[o for o, _ in f.needs]}")
+                lost += 1
+                answers.append((comment, [f"-- LOST {m[1]}"] + ["-- " + l for l in lines]))
+                continue
+            old, new, (at, _) = need
+            body = "\n".join(lines[1:]).rstrip("\n")
+            body = re.sub(rf"(?m)^{re.escape(name)}(?= )", new, body)
+            body = re.sub(rf"(?m)^({re.escape(new)}) c κs? ?=", r"\1 c =", body)
+            body = re.sub(rf"(?m)^({re.escape(new)}) c κs =", r"\1 c =", body)
+            body = f.turn(body, at)
+            answers.append((comment, [f"pub {new} : goal.{new}"] + body.split("\n")))
+            continue
+        if "statement M" in head or "-spec" in name or name.endswith("_spec"):
+            continue
+        helpers.append((comment, [l for l in lines]))
+    folder = os.path.dirname(path)
+    out = []
+    intro = [l for l in text.split("\n")[:3] if l.startswith("--")]
+
+    def lay(sections):
+        return "\n\n".join("\n".join(c + [x for x in ls]).rstrip() for c, ls in sections) + "\n"
+
+    def used(lines_text, u):
+        m = re.match(r"use (\S+?)\.\{(.*)\}$", u)
+        if m:
+            names = []
+            for x in m[2].split(","):
+                x = x.strip()
+                w = re.split(r"\s+as\s+", x)[-1].strip("«»")
+                bare = [p for p in w.split("◌") if p]
+                if all(p in lines_text for p in bare) and bare or (not bare):
+                    names.append(x)
+            return f"use {m[1]}.{{{', '.join(names)}}}" if names else None
+        m = re.match(r"use (\S+?)(?: as (\S+))?$", u)
+        if m:
+            w = m[2] or m[1].split(".")[-1]
+            return u if w in lines_text else None
+        return u
+
+    if invs:
+        body = lay(invs)
+        inv_helpers = [h for h in helpers if HEAD.match(h[1][0]) and HEAD.match(h[1][0])[1] in body]
+        full = (lay(inv_helpers) + "\n" if inv_helpers else "") + body
+        us = [x for x in (used(full, u) for u in keep) if x]
+        out.append((os.path.join(folder, "Invariants.antt"), "\n".join(us + [f"use {module}.Given as goal"]) + "\n\n" + full))
+    if answers:
+        full = (lay(helpers) + "\n" if helpers else "") + lay(answers)
+        us = [x for x in (used(full, u) for u in keep) if x]
+        out.append((os.path.join(folder, "Answers.antt"), "\n".join(us + [f"use {module}.Goals as goal"]) + "\n\n" + full))
+    if write:
+        os.remove(path)
+        for p, t in out:
+            with open(p, "w", encoding="utf-8") as w:
+                w.write(t)
+    return [f"{path}: {s}" for s in f.said], lost == 0
+
+
+def main():
+    crate, names, only = sys.argv[1], sys.argv[2], sys.argv[3:]
+    table = json.load(open(names))
+    good = bad = 0
+    for key, entry in sorted(table.items()):
+        m = re.fullmatch(rf"Rattle-{crate}-proofs\.(.*)\.Lts", key)
+        if not m:
+            continue
+        fn = m[1]
+        if only and not any(fn.endswith(o) for o in only):
+            continue
+        path = f"crates/{crate}/proofs/" + fn.replace(".", "/") + "/Proof.antt"
+        if not os.path.exists(path):
+            continue
+        said, ok = convert(crate, path, entry)
+        good += ok
+        bad += not ok
+        for s in said:
+            print(s)
+    print(f"to_answers: {good} turned, {bad} with something lost")
+
+
+if __name__ == "__main__":
+    main()
