@@ -80,7 +80,7 @@ class Function:
         chain = self.chain(place)
         if field in ("args", "requires", "ranges", "utf8", "lifetimes", "ghost", "type_inv"):
             return field, rest
-        norm = lambda s: s.replace("-", "_")
+        norm = lambda s: re.sub(r"_lem$", "", s.replace("-", "_").lower())
         hits = [k for k, p in enumerate(chain) if norm(self.places[p][2][0]) == norm(field)]
         if not hits:
             self.said.append(f"no step {field} above {place}: {[self.places[p][2][0] for p in chain]}")
@@ -114,7 +114,9 @@ class Function:
             field, rest = self.step(place, ups, m[2], m[3])
             return "c." + field + rest
 
-        return re.sub(r"(?<![\w.'₀-])c((?:\.before)*)\.([A-Za-z_][\w'₀-]*)((?:\.[\w'₀-]+)*)", one, text)
+        text = re.sub(r"(?<![\w.'₀-])c((?:\.before)*)\.([A-Za-z_][\w'₀-]*)((?:\.[\w'₀-]+)*)", one, text)
+        # a test of `!b` says what b is
+        return re.sub(r"not-(?:true|false) (?:[^\s()]+|\([^()]*\)) (c\.[^\s(),]*(?:if|test)[^\s(),]*\.(?:true|false))", r"\1", text)
 
 
 def is_searched(lines, name):

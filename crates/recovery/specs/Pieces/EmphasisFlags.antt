@@ -31,9 +31,12 @@ unfolding ends_with_emphasis trim_ascii_end star
 quiet_word m x z l s h =
     rw (trim_cut white x z l h) (by m)
   where
-    exact : (m : Bool) → ends_with (marks m) x ≡ false
-    exact true = unfold extra in last_not (42 ∷ []) 42 x s
-    exact false = unfold extra in last_not [] 42 x s
+    unmarked : (t : Bytes) → last_is star t ≡ false → (n : Bool) → ends_with (marks n) t ≡ false
+    unmarked t q true = unfold extra in last_not (42 ∷ []) 42 t q
+    unmarked t q false = unfold extra in last_not [] 42 t q
+
+    exact : (n : Bool) → ends_with (marks n) x ≡ false
+    exact n = unmarked x s n
 
     by : (m : Bool)
         → (not (null (marks m) || null (x ++ z)) && ((null (drop (length x) (x ++ z)) || same (drop (length x) (x ++ z)) (ascii " ")) && is_exact_marker_end x (marks m))) ≡ false

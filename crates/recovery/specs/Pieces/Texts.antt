@@ -232,7 +232,7 @@ texts_line opts {l} u (s ∷ ss) e i h k c r =
     let n : Bytes = normalized opts (u ++ l) s in
     let first : (led u l s && unjoined l s) ≡ true = and_l (led u l s && unjoined l s) _ c in
     rw (← append_assoc l n (appended opts ((u ++ l) ++ n) ss), append_assoc u l n)
-    (texts_line opts u ss e i h (and_r (every kept s) _ k) (and_r (led u l s && unjoined l s) _ c)
+    (texts_line opts {l = l ++ n} u ss e i h (and_r (every kept s) _ k) (and_r (led u l s && unjoined l s) _ c)
     (text_line_lem opts e i u s h (and_l (every kept s) _ k) (and_l (led u l s) _ first) (and_r (led u l s) _ first) r))
 
 -- 4.8: a line of texts begins no block, behind an open paragraph or not, whatever the texts hold but NUL, VT and `&`

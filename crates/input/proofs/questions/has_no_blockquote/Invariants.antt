@@ -1,0 +1,12 @@
+use Prim.Native.Nat.{◌≤◌, ◌-◌}
+use mathlib.Core.Path.{◌≡◌}
+use lib.ListN.{length, drop}
+use Rattle.spec.specs.Fields.{fields}
+use Rattle.spec.specs.Questions.{every_field, no_blockquote}
+use Rattle.input.proofs.questions.has_no_blockquote.Given as goal
+
+abbrev pub invariant-loop-p : goal.invariant-loop-p
+invariant-loop-p l = (l.p ≤ length l.s) × (every_field no_blockquote (fields l.s) ≡ every_field no_blockquote (fields (drop l.p l.s)))
+
+abbrev pub decreases-loop-p : goal.decreases-loop-p
+decreases-loop-p l = length l.s - l.p
