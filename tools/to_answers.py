@@ -50,6 +50,32 @@ def plain(name):
     return name.replace("-", "_")
 
 
+def lent_parameters():
+    """path of a function -> the names of its parameters that are a `&mut`."""
+    out = {}
+    for c in os.listdir("crates"):
+        for folder, _, names in os.walk(f"crates/{c}/src"):
+            for n in names:
+                if not n.endswith(".rt"):
+                    continue
+                mods = os.path.relpath(os.path.join(folder, n), f"crates/{c}/src")[:-3].split("/")
+                mods = [m for m in mods if m not in ("lib", "main")]
+                text = open(os.path.join(folder, n)).read()
+                impl = None
+                for m in re.finditer(r"(?m)^impl (\w+)|^}|^ *(?:pub )?(?:extern \"C\" )?fn (\w+)(?:<[^>]*>)?\(([^)]*)\)", text):
+                    if m[1]:
+                        impl = m[1]
+                    elif m[0] == "}":
+                        impl = None
+                    else:
+                        path = "::".join([c] + mods + ([impl] if impl else []) + [m[2]])
+                        out[path] = re.findall(r"(\w+): &mut ", m[3]) + (["self"] if "&mut self" in m[3] else [])
+    return out
+
+
+LENT = lent_parameters()
+
+
 class Function:
     def __init__(self, entry):
         self.needs = entry["needs"]
@@ -82,6 +108,8 @@ class Function:
             return field, rest
         norm = lambda s: re.sub(r"_lem$", "", s.replace("-", "_").lower())
         hits = [k for k, p in enumerate(chain) if norm(self.places[p][2][0]) == norm(field)]
+        if not hits and field.lower().startswith("is"):
+            hits = [k for k, p in enumerate(chain) if norm(self.places[p][2][0]) == norm(field[2:])]
         if not hits:
             self.said.append(f"no step {field} above {place}: {[self.places[p][2][0] for p in chain]}")
             return field, rest
@@ -94,10 +122,15 @@ class Function:
             if not arm:
                 continue
             for new, old, path in arm[2]:
-                if norm(old) == norm(field) and path and parts[: len(path)] == path and best >= chain.index(q):
+                if norm(old) == norm(field) and (path or parts) and parts[: len(path)] == path and best >= chain.index(q):
                     more = parts[len(path):]
                     return f"{arm[0]}.{new}", "." + ".".join(more) if more else ""
-        return self.places[p][2][1], rest
+        return self.places[p][2][1], self.lent(self.places[p][3], rest)
+
+    def lent(self, callee, rest):
+        """`.new.0` and `.auto.0` by the name of the parameter."""
+        names = LENT.get(callee or "", [])
+        return re.sub(r"^\.(new|auto)\.(\d)(?!\d)", lambda m: f".{m[1]}.{names[int(m[2])]}" if int(m[2]) < len(names) else m[0], rest)
 
     def turn(self, text, place):
         # places that a let names
@@ -114,6 +147,11 @@ class Function:
             field, rest = self.step(place, ups, m[2], m[3])
             return "c." + field + rest
 
+        for m in list(re.finditer(r"let ([^\s:]+)(?: : [^=\n]*)? = c((?:\.before)*)\.([A-Za-z_][\w'₀-]*) in", text)):
+            chain = self.chain(place)
+            norm = lambda s: re.sub(r"_lem$", "", s.replace("-", "_").lower())
+            callee = next((self.places[p][3] for p in chain[max(0, m[2].count(".before") - 3):] + chain if norm(self.places[p][2][0]) == norm(m[3])), None)
+            text = re.sub(rf"(?<![\w.'-]){re.escape(m[1])}((?:\.(?:new|auto)\.\d))", lambda w: m[1] + self.lent(callee, w[1]), text)
         text = re.sub(r"(?<![\w.'₀-])c((?:\.before)*)\.([A-Za-z_][\w'₀-]*)((?:\.[\w'₀-]+)*)", one, text)
         # a test of `!b` says what b is
         return re.sub(r"not-(?:true|false) (?:[^\s()]+|\([^()]*\)) (c\.[^\s(),]*(?:if|test)[^\s(),]*\.(?:true|false))", r"\1", text)
