@@ -87,6 +87,17 @@ class Function:
         self.loops = entry["loops"]
         self.changed = entry["changed"]
         self.said = []
+        args = entry["args"] if isinstance(entry["args"], list) else []
+        self.args = {a.split(".")[-1]: b.split(".")[-1] for a, b in args if a.startswith(".args ")}
+
+    def arg(self, rest):
+        """The parameter's name behind `c.args`."""
+        m = re.match(r"\.([^.\s]+)(.*)", rest, re.S)
+        if not m:
+            return rest
+        name = self.args.get(m[1], m[1])
+        name = re.sub(r"_lem$", "", name.replace("-", "_"))
+        return f".{name}{m[2]}"
 
     def need(self, name):
         each = [(o, n, a) for (o, n), a in zip(self.needs, self.asked) if plain(o) == plain(name)]
@@ -104,8 +115,12 @@ class Function:
     def step(self, place, ups, field, rest):
         """(new path of the step, rest) of the field that stands `ups` steps above the place."""
         chain = self.chain(place)
-        if field in ("args", "requires", "ranges", "utf8", "lifetimes", "ghost", "type_inv"):
+        if field in ("args", "ranges"):
+            return field, self.arg(rest)
+        if field in ("requires", "utf8", "lifetimes", "ghost", "type_inv"):
             return field, rest
+        if field == "well-formed":
+            return "well_formed", rest
         norm = lambda s: re.sub(r"_lem$", "", s.replace("-", "_").lower())
         hits = [k for k, p in enumerate(chain) if norm(self.places[p][2][0]) == norm(field)]
         if not hits and field.lower().startswith("is"):
@@ -147,6 +162,8 @@ class Function:
             field, rest = self.step(place, ups, m[2], m[3])
             return "c." + field + rest
 
+        for m in list(re.finditer(r"let ([^\s:]+)(?: : [^=\n]*)? = c(?:\.before)*\.args in", text)):
+            text = re.sub(rf"(?<![\w.'-]){re.escape(m[1])}(\.[\w'₀-]+)", lambda w: m[1] + self.arg(w[1]), text)
         for m in list(re.finditer(r"let ([^\s:]+)(?: : [^=\n]*)? = c((?:\.before)*)\.([A-Za-z_][\w'₀-]*) in", text)):
             chain = self.chain(place)
             norm = lambda s: re.sub(r"_lem$", "", s.replace("-", "_").lower())

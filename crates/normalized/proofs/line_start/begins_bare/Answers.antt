@@ -1,0 +1,34 @@
+use mathlib.Core.Path.{sym, ◌∙◌}
+use mathlib.Core.Bool.{true, false≢true}
+use lib.ListN.{get_or}
+use lib.Dec.{ltb}
+use native.Mathlib.Omega.{arith}
+use borrow.Author.Tests.{ltb-true, not-true}
+use Rattle.text.proofs.Ordinary.{not_white}
+use Rattle.normalized.proofs.Starting.{first_letter, first_digit, digit_black}
+use Rattle.normalized.proofs.line_start.begins_bare.Goals as goal
+
+pub returns-then-s-ge65 : goal.returns-then-s-ge65
+returns-then-s-ge65 c =
+    let s = c.args.s.now in
+    λ e. (not_white (get_or s 0 0) (omega (arith, c.if-s-ge65.true)), λ k. first_letter s c.if-s-ge65.true)
+
+pub returns-then-not-escape : goal.returns-then-not-escape
+returns-then-not-escape c =
+    let s = c.args.s.now in
+    λ e. (not_white (get_or s 0 0) (omega (arith, ltb-true 32 (get_or s 0 0) e)), λ k. absurd (false≢true (sym (c.if-not-escape.true) ∙ k)))
+
+pub returns-then-not-is_in : goal.returns-then-not-is_in
+returns-then-not-is_in c =
+    λ e. absurd (false≢true e)
+
+pub begins_marker-requires : goal.begins_marker-requires
+begins_marker-requires c = let d = c.is_in in sym d.ensures ∙ c.if-not-is_in.false
+
+pub returns : goal.returns
+returns c =
+    let s = c.args.s.now in
+    let d = c.is_in in
+    let m = c.begins_marker in
+    let h = sym d.ensures ∙ c.if-not-is_in.false in
+    λ e. (digit_black (get_or s 0 0) h, λ k. first_digit s h (sym m.ensures ∙ not-true m.result e))

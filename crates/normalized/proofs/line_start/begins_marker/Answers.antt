@@ -1,0 +1,30 @@
+use Prim.Native.Nat.{◌-◌}
+use mathlib.Core.Path.{sym, ◌∙◌}
+use native.Mathlib.Omega.{arith}
+use Rattle.normalized.proofs.Starting.{digit_some, marker_begun, tail_on, tail_here, tail_none}
+use Rattle.normalized.proofs.line_start.begins_marker.Goals as goal
+
+pub loop-i-init : goal.loop-i-init
+loop-i-init c =
+    let s = c.args.s.now in
+    (digit_some s c.requires, marker_begun s c.requires)
+
+pub returns-then-not-is_in : goal.returns-then-not-is_in
+returns-then-not-is_in c =
+    let s = c.args.s.now in
+    let l = c.loop-i in
+    let d = c.is_in in
+    c.is_last_dot.ensures
+    ∙ sym (l.invariant.1 ∙ tail_here s l.i c.loop-i-test.true (sym d.ensures ∙ c.if-not-is_in.true))
+
+pub loop-i-preserved : goal.loop-i-preserved
+loop-i-preserved c =
+    let s = c.args.s.now in
+    let l = c.loop-i in
+    let d = c.is_in in
+    (omega arith, l.invariant.1 ∙ tail_on s l.i c.loop-i-test.true (sym d.ensures ∙ c.if-not-is_in.false))
+
+pub returns : goal.returns
+returns c =
+    let l = c.loop-i in
+    sym (l.invariant.1 ∙ tail_none c.args.s.now l.i c.loop-i-test.false)
