@@ -50,32 +50,6 @@ def plain(name):
     return name.replace("-", "_")
 
 
-def lent_parameters():
-    """path of a function -> the names of its parameters that are a `&mut`."""
-    out = {}
-    for c in os.listdir("crates"):
-        for folder, _, names in os.walk(f"crates/{c}/src"):
-            for n in names:
-                if not n.endswith(".rt"):
-                    continue
-                mods = os.path.relpath(os.path.join(folder, n), f"crates/{c}/src")[:-3].split("/")
-                mods = [m for m in mods if m not in ("lib", "main")]
-                text = open(os.path.join(folder, n)).read()
-                impl = None
-                for m in re.finditer(r"(?m)^impl (\w+)|^}|^ *(?:pub )?(?:extern \"C\" )?fn (\w+)(?:<[^>]*>)?\(([^)]*)\)", text):
-                    if m[1]:
-                        impl = m[1]
-                    elif m[0] == "}":
-                        impl = None
-                    else:
-                        path = "::".join([c] + mods + ([impl] if impl else []) + [m[2]])
-                        out[path] = re.findall(r"(\w+): &mut ", m[3]) + (["self"] if "&mut self" in m[3] else [])
-    return out
-
-
-LENT = lent_parameters()
-
-
 class Function:
     def __init__(self, entry):
         self.needs = entry["needs"]
@@ -87,6 +61,7 @@ class Function:
         self.loops = entry["loops"]
         self.changed = entry["changed"]
         self.said = []
+        self.params = entry["params"]
         args = entry["args"] if isinstance(entry["args"], list) else []
         self.args = {a.split(".")[-1]: b.split(".")[-1] for a, b in args if a.startswith(".args ")}
 
@@ -144,8 +119,8 @@ class Function:
 
     def lent(self, callee, rest):
         """`.new.0` and `.auto.0` by the name of the parameter."""
-        names = LENT.get(callee or "", [])
-        return re.sub(r"^\.(new|auto)\.(\d)(?!\d)", lambda m: f".{m[1]}.{names[int(m[2])]}" if int(m[2]) < len(names) else m[0], rest)
+        names = self.params.get(callee or "", [])
+        return re.sub(r"^\.(new|auto)((?:\.1)*)\.0", lambda m: f".{m[1]}.{names[len(m[2]) // 2]}" if len(m[2]) // 2 < len(names) else m[0], rest)
 
     def turn(self, text, place):
         # places that a let names
@@ -168,7 +143,7 @@ class Function:
             chain = self.chain(place)
             norm = lambda s: re.sub(r"_lem$", "", s.replace("-", "_").lower())
             callee = next((self.places[p][3] for p in chain[max(0, m[2].count(".before") - 3):] + chain if norm(self.places[p][2][0]) == norm(m[3])), None)
-            text = re.sub(rf"(?<![\w.'-]){re.escape(m[1])}((?:\.(?:new|auto)\.\d))", lambda w: m[1] + self.lent(callee, w[1]), text)
+            text = re.sub(rf"(?<![\w.'-]){re.escape(m[1])}(\.(?:new|auto)(?:\.1)*\.0)", lambda w: m[1] + self.lent(callee, w[1]), text)
         text = re.sub(r"(?<![\w.'₀-])c((?:\.before)*)\.([A-Za-z_][\w'₀-]*)((?:\.[\w'₀-]+)*)", one, text)
         # a test of `!b` says what b is
         return re.sub(r"not-(?:true|false) (?:[^\s()]+|\([^()]*\)) (c\.[^\s(),]*(?:if|test)[^\s(),]*\.(?:true|false))", r"\1", text)
@@ -211,12 +186,12 @@ def convert(crate, path, entry, write=True):
     f = Function(entry)
     module = None
     for u in uses:
-        m = re.match(r"use (Rattle\.[^\s]*)\.Tie as tie", u)
+        m = re.match(r"use (Rattle\.[^\s]*)\.Tie(?: as tie|\.\{close\})", u)
         if m:
             module = m[1]
     if module is None:
         return [f"{path}: no Tie"], False
-    keep = [u for u in uses if not re.search(r"\.(Statement\.\{statement\}|Tie as tie)", u)]
+    keep = [u for u in uses if not re.search(r"\.(Statement\.\{statement\}|Tie as tie|Tie\.\{close\}|\{statement\}|(?:Reads|Kinds|Lts-\w+)( as \w+)?$)", u)]
     invs, answers, helpers, lost = [], [], [], 0
     for name, comment, lines in decls:
         head = lines[0]
@@ -228,7 +203,7 @@ def convert(crate, path, entry, write=True):
             else:
                 invs.append((comment, inv))
             continue
-        m = re.search(r": tie\.Need-([^\s]+)", head)
+        m = re.search(r"(?:: tie|: \(t : ℕ\) → lts)\.Need-([^\s]+)", head)
         if m:
             if is_searched(lines, name):
                 continue
@@ -241,10 +216,11 @@ def convert(crate, path, entry, write=True):
             old, new, (at, _) = need
             body = "\n".join(lines[1:]).rstrip("\n")
             body = re.sub(rf"(?m)^{re.escape(name)}(?= )", new, body)
-            body = re.sub(rf"(?m)^({re.escape(new)}) c κs? ?=", r"\1 c =", body)
-            body = re.sub(rf"(?m)^({re.escape(new)}) c κs =", r"\1 c =", body)
+            body = re.sub(rf"(?m)^({re.escape(new)})((?: t)?) c κs =", r"\1\2 c =", body)
             body = f.turn(body, at)
             answers.append((comment, [f"pub {new} : goal.{new}"] + body.split("\n")))
+            continue
+        if re.match(r"abbrev (μ|at|below|claims) :", head):
             continue
         if "statement M" in head or "-spec" in name or name.endswith("_spec"):
             continue
@@ -296,10 +272,10 @@ def main():
     table = json.load(open(names))
     good = bad = 0
     for key, entry in sorted(table.items()):
-        m = re.fullmatch(rf"Rattle-{crate}-proofs\.(.*)\.Lts", key)
+        m = re.fullmatch(rf"Rattle-{crate}-proofs\.(.*?)(?:\.Lts|(?<=\.)(?=Lts-))", key) or re.fullmatch(rf"Rattle-{crate}-proofs\.(.*)\.Lts-\w+", key)
         if not m:
             continue
-        fn = m[1]
+        fn = re.sub(r"\.Lts-\w+$", "", m[1])
         if only and not any(fn.endswith(o) for o in only):
             continue
         path = f"crates/{crate}/proofs/" + fn.replace(".", "/") + "/Proof.antt"

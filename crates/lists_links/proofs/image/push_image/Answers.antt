@@ -1,0 +1,43 @@
+use Prim.Native.Nat.{ℕ, ◌-◌}
+use mathlib.Core.Path.{refl, sym}
+use mathlib.Core.List.{List}
+use lib.ListN.{take, drop}
+use Rattle.spec.specs.Bytes.{ascii}
+use Rattle.spec.specs.Out.{push, and_then}
+use Rattle.spec.specs.Tree.{attr}
+use Rattle.spec.specs.Md.Ctx.{new}
+use Rattle.spec.specs.Md.TextUtils.{push_normalized_text, push_md_url, push_title}
+use Rattle.spec.specs.Md.Elements.Image.{if_some, image_of}
+use Rattle.spec.specs.Md.Elements.Link.{link_end}
+use Rattle.tree.specs.Represents.{attrs_behind}
+use Rattle.text.proofs.Writing.{alike, owes_all, owes_step, owes_stop, owes_last, then_assoc}
+use Rattle.lists_links.proofs.image.push_image.Goals as goal
+
+pub push_all-requires : goal.push_all-requires
+push_all-requires c =
+    c.requires.0
+
+pub push_alt-requires : goal.push_alt-requires
+unfolding image_of
+push_alt-requires c =
+    ((owes_step (owes_all c.args.text.now c.args.len (image_of (attrs_behind c.args.sheet.now c.args.place) (take (c.args.to - c.args.from) (drop c.args.from c.args.sheet.now))) c.requires.0 refl) (push (ascii "![")) (λ (t : List ℕ). and_then ((if_some (attr (ascii "alt") (attrs_behind c.args.sheet.now c.args.place)) (λ (alt : List ℕ). push_normalized_text alt new)) t) (λ (t : List ℕ). and_then (push (ascii "](") t) (λ (u : List ℕ). and_then (push_md_url (take (c.args.to - c.args.from) (drop c.args.from c.args.sheet.now)) u) (λ (t : List ℕ). and_then (if_some (attr (ascii "title") (attrs_behind c.args.sheet.now c.args.place)) push_title t) (push (ascii ")")))))) refl c.in-Done.is c.push_all.ensures).reach, c.requires.1)
+
+pub push_link_end-requires : goal.push_link_end-requires
+unfolding image_of
+push_link_end-requires c =
+    ((owes_step (owes_step (owes_all c.args.text.now c.args.len (image_of (attrs_behind c.args.sheet.now c.args.place) (take (c.args.to - c.args.from) (drop c.args.from c.args.sheet.now))) c.requires.0 refl) (push (ascii "![")) (λ (t : List ℕ). and_then ((if_some (attr (ascii "alt") (attrs_behind c.args.sheet.now c.args.place)) (λ (alt : List ℕ). push_normalized_text alt new)) t) (λ (t : List ℕ). and_then (push (ascii "](") t) (λ (u : List ℕ). and_then (push_md_url (take (c.args.to - c.args.from) (drop c.args.from c.args.sheet.now)) u) (λ (t : List ℕ). and_then (if_some (attr (ascii "title") (attrs_behind c.args.sheet.now c.args.place)) push_title t) (push (ascii ")")))))) refl c.in-Done.is c.push_all.ensures) (if_some (attr (ascii "alt") (attrs_behind c.args.sheet.now c.args.place)) (λ (alt : List ℕ). push_normalized_text alt new)) (λ (t : List ℕ). and_then (push (ascii "](") t) (λ (u : List ℕ). and_then (push_md_url (take (c.args.to - c.args.from) (drop c.args.from c.args.sheet.now)) u) (λ (t : List ℕ). and_then (if_some (attr (ascii "title") (attrs_behind c.args.sheet.now c.args.place)) push_title t) (push (ascii ")"))))) refl c.in-Done-push_alt.is c.push_alt.ensures).reach, c.requires.1, c.requires.2, c.requires.3, c.requires.4)
+
+pub returns-in-Done-push_alt : goal.returns-in-Done-push_alt
+unfolding image_of link_end
+returns-in-Done-push_alt c =
+    owes_last (owes_step (owes_step (owes_all c.args.text.now c.args.len (image_of (attrs_behind c.args.sheet.now c.args.place) (take (c.args.to - c.args.from) (drop c.args.from c.args.sheet.now))) c.requires.0 refl) (push (ascii "![")) (λ (t : List ℕ). and_then ((if_some (attr (ascii "alt") (attrs_behind c.args.sheet.now c.args.place)) (λ (alt : List ℕ). push_normalized_text alt new)) t) (λ (t : List ℕ). and_then (push (ascii "](") t) (λ (u : List ℕ). and_then (push_md_url (take (c.args.to - c.args.from) (drop c.args.from c.args.sheet.now)) u) (λ (t : List ℕ). and_then (if_some (attr (ascii "title") (attrs_behind c.args.sheet.now c.args.place)) push_title t) (push (ascii ")")))))) refl c.in-Done.is c.push_all.ensures) (if_some (attr (ascii "alt") (attrs_behind c.args.sheet.now c.args.place)) (λ (alt : List ℕ). push_normalized_text alt new)) (λ (t : List ℕ). and_then (push (ascii "](") t) (λ (u : List ℕ). and_then (push_md_url (take (c.args.to - c.args.from) (drop c.args.from c.args.sheet.now)) u) (λ (t : List ℕ). and_then (if_some (attr (ascii "title") (attrs_behind c.args.sheet.now c.args.place)) push_title t) (push (ascii ")"))))) refl c.in-Done-push_alt.is c.push_alt.ensures) (alike (sym (then_assoc (push (ascii "](") (take c.in-Done-push_alt.m c.push_alt.new.text)) (push_md_url (take (c.args.to - c.args.from) (drop c.args.from c.args.sheet.now))) (λ (t : List ℕ). and_then (if_some (attr (ascii "title") (attrs_behind c.args.sheet.now c.args.place)) push_title t) (push (ascii ")"))))) c.push_link_end.ensures)
+
+pub returns-in-Full-push_alt : goal.returns-in-Full-push_alt
+unfolding image_of
+returns-in-Full-push_alt c =
+    owes_stop (owes_step (owes_all c.args.text.now c.args.len (image_of (attrs_behind c.args.sheet.now c.args.place) (take (c.args.to - c.args.from) (drop c.args.from c.args.sheet.now))) c.requires.0 refl) (push (ascii "![")) (λ (t : List ℕ). and_then ((if_some (attr (ascii "alt") (attrs_behind c.args.sheet.now c.args.place)) (λ (alt : List ℕ). push_normalized_text alt new)) t) (λ (t : List ℕ). and_then (push (ascii "](") t) (λ (u : List ℕ). and_then (push_md_url (take (c.args.to - c.args.from) (drop c.args.from c.args.sheet.now)) u) (λ (t : List ℕ). and_then (if_some (attr (ascii "title") (attrs_behind c.args.sheet.now c.args.place)) push_title t) (push (ascii ")")))))) refl c.in-Done.is c.push_all.ensures) (if_some (attr (ascii "alt") (attrs_behind c.args.sheet.now c.args.place)) (λ (alt : List ℕ). push_normalized_text alt new)) (λ (t : List ℕ). and_then (push (ascii "](") t) (λ (u : List ℕ). and_then (push_md_url (take (c.args.to - c.args.from) (drop c.args.from c.args.sheet.now)) u) (λ (t : List ℕ). and_then (if_some (attr (ascii "title") (attrs_behind c.args.sheet.now c.args.place)) push_title t) (push (ascii ")"))))) refl c.in-Full-push_alt.is c.push_alt.ensures
+
+pub returns-in-Full : goal.returns-in-Full
+unfolding image_of
+returns-in-Full c =
+    owes_stop (owes_all c.args.text.now c.args.len (image_of (attrs_behind c.args.sheet.now c.args.place) (take (c.args.to - c.args.from) (drop c.args.from c.args.sheet.now))) c.requires.0 refl) (push (ascii "![")) (λ (t : List ℕ). and_then ((if_some (attr (ascii "alt") (attrs_behind c.args.sheet.now c.args.place)) (λ (alt : List ℕ). push_normalized_text alt new)) t) (λ (t : List ℕ). and_then (push (ascii "](") t) (λ (u : List ℕ). and_then (push_md_url (take (c.args.to - c.args.from) (drop c.args.from c.args.sheet.now)) u) (λ (t : List ℕ). and_then (if_some (attr (ascii "title") (attrs_behind c.args.sheet.now c.args.place)) push_title t) (push (ascii ")")))))) refl c.in-Full.is c.push_all.ensures

@@ -1,0 +1,38 @@
+use Prim.Native.Nat.{ℕ, ◌-◌}
+use mathlib.Core.Path.{refl}
+use mathlib.Core.List.{List}
+use lib.ListN.{take, drop, length-take}
+use Rattle.spec.specs.Bytes.{ascii}
+use Rattle.spec.specs.Out.{push, and_then}
+use Rattle.spec.specs.Md.TextUtils.{push_md_url}
+use Rattle.text.proofs.Writing.{owes_all, owes_step, owes_stop, owes_last}
+use native.Mathlib.Omega.{arith}
+use Rattle.lists_links.proofs.link.push_dest.Goals as goal
+
+pub push_all-requires : goal.push_all-requires
+push_all-requires c =
+    c.requires.0
+
+pub slice_bounds-push_md_url-count : goal.slice_bounds-push_md_url-count
+slice_bounds-push_md_url-count c =
+    omega (arith, c.requires.1, c.requires.2)
+
+pub slice_bounds-push_md_url-start : goal.slice_bounds-push_md_url-start
+slice_bounds-push_md_url-start c =
+    omega (arith, c.requires.1, c.requires.2)
+
+pub slice_bounds-push_md_url-end : goal.slice_bounds-push_md_url-end
+slice_bounds-push_md_url-end c =
+    omega (arith, c.requires.1, c.requires.2)
+
+pub push_md_url-requires : goal.push_md_url-requires
+push_md_url-requires c =
+    ((owes_step (owes_all c.args.text.now c.args.len (λ (t : List ℕ). and_then (push (ascii "](") t) (push_md_url (take (c.args.to - c.args.from) (drop c.args.from c.args.sheet.now)))) c.requires.0 refl) (push (ascii "](")) (push_md_url (take (c.args.to - c.args.from) (drop c.args.from c.args.sheet.now))) refl c.in-Done.is c.push_all.ensures).reach, omega (arith, length-take (c.args.to - c.args.from) (drop c.args.from c.args.sheet.now), c.requires.1, c.requires.2, c.requires.3))
+
+pub returns-in-Done : goal.returns-in-Done
+returns-in-Done c =
+    owes_last (owes_step (owes_all c.args.text.now c.args.len (λ (t : List ℕ). and_then (push (ascii "](") t) (push_md_url (take (c.args.to - c.args.from) (drop c.args.from c.args.sheet.now)))) c.requires.0 refl) (push (ascii "](")) (push_md_url (take (c.args.to - c.args.from) (drop c.args.from c.args.sheet.now))) refl c.in-Done.is c.push_all.ensures) c.push_md_url.ensures
+
+pub returns-in-Full : goal.returns-in-Full
+returns-in-Full c =
+    owes_stop (owes_all c.args.text.now c.args.len (λ (t : List ℕ). and_then (push (ascii "](") t) (push_md_url (take (c.args.to - c.args.from) (drop c.args.from c.args.sheet.now)))) c.requires.0 refl) (push (ascii "](")) (push_md_url (take (c.args.to - c.args.from) (drop c.args.from c.args.sheet.now))) refl c.in-Full.is c.push_all.ensures

@@ -1,0 +1,57 @@
+use mathlib.Core.Path.{refl, sym, ap, ◌∙◌}
+use mathlib.Core.List.{List, ◌++◌}
+use Prim.Native.Nat.{ℕ, ◌-◌}
+use lib.ListN.{length, take, drop}
+use lib.Seq.{length-take-le}
+use Rattle.spec.specs.Bytes.{split}
+use Rattle.spec.specs.Out.{push}
+use Rattle.spec.specs.Md.Elements.List as def
+use Rattle.lists_links.specs.Items.{item_of, block_text, own_block, indented_block}
+use Rattle.lists_links.proofs.ItemLines.{beside_behind}
+use Rattle.text.proofs.Lifting.{lifted_writes}
+use Rattle.text.proofs.Sourcing.{owed_all, owed_step, owed_stop, owed_last, owed_reach, alike_in, lent_front}
+use native.Mathlib.Omega.{arith}
+use Rattle.lists_links.proofs.list_indented.push_indented.Goals as goal
+
+pub overflow_sub-base : goal.overflow_sub-base
+overflow_sub-base c =
+    omega (arith, c.requires)
+
+pub lift-requires : goal.lift-requires
+lift-requires c =
+    (omega (arith, c.requires), omega (arith, c.requires))
+
+pub slice_bounds-own_line-end : goal.slice_bounds-own_line-end
+slice_bounds-own_line-end c =
+    (omega (arith, c.lift.ensures.long, c.requires))
+
+pub slice_bounds-own_line-end-2 : goal.slice_bounds-own_line-end-2
+slice_bounds-own_line-end-2 c =
+    sym (length-take-le (length c.args.text.now - c.args.n) c.lift.new.text (omega (arith, c.lift.ensures.long, c.requires)))
+
+pub own_line-requires : goal.own_line-requires
+own_line-requires c =
+    omega (arith, length-take-le (length c.args.text.now - c.args.n) c.lift.new.text (omega (arith, c.lift.ensures.long, c.requires)), c.requires)
+
+pub push_block-requires : goal.push_block-requires
+push_block-requires c =
+    let o = owed_step (owed_all (length c.args.text.now - c.args.n) c.lift.new.text c.args.len ((own_block (item_of c.args.item)) (drop (length c.args.text.now - c.args.n) c.lift.new.text)) (omega (arith, c.requires)) (omega (arith, c.lift.ensures.long, c.requires)) refl) (def.own_line (item_of c.args.item)) (push (def.block_lines (item_of c.args.item) (split def.is_line_end (block_text (drop (length c.args.text.now - c.args.n) c.lift.new.text))))) refl c.in-Done.is (lent_front (length c.args.text.now - c.args.n) c.args.len c.lift.new.text c.own_line.new.text (def.own_line (item_of c.args.item)) (omega (arith, c.requires)) (omega (arith, c.lift.ensures.long, c.requires)) c.own_line.auto.text c.own_line.ensures) in
+    (owed_reach o, omega (arith, o.still.long, c.lift.ensures.long))
+
+pub shape_of-text-in-Done : goal.shape_of-text-in-Done
+shape_of-text-in-Done c =
+    c.push_block.ensures.long ∙ (lent_front (length c.args.text.now - c.args.n) c.args.len c.lift.new.text c.own_line.new.text (def.own_line (item_of c.args.item)) (omega (arith, c.requires)) (omega (arith, c.lift.ensures.long, c.requires)) c.own_line.auto.text c.own_line.ensures).long ∙ c.lift.ensures.long
+
+pub returns-in-Done : goal.returns-in-Done
+returns-in-Done c =
+    let o = owed_step (owed_all (length c.args.text.now - c.args.n) c.lift.new.text c.args.len ((own_block (item_of c.args.item)) (drop (length c.args.text.now - c.args.n) c.lift.new.text)) (omega (arith, c.requires)) (omega (arith, c.lift.ensures.long, c.requires)) refl) (def.own_line (item_of c.args.item)) (push (def.block_lines (item_of c.args.item) (split def.is_line_end (block_text (drop (length c.args.text.now - c.args.n) c.lift.new.text))))) refl c.in-Done.is (lent_front (length c.args.text.now - c.args.n) c.args.len c.lift.new.text c.own_line.new.text (def.own_line (item_of c.args.item)) (omega (arith, c.requires)) (omega (arith, c.lift.ensures.long, c.requires)) c.own_line.auto.text c.own_line.ensures) in
+    lifted_writes {len = c.args.len} (omega arith) c.requires refl c.lift.ensures (indented_block (item_of c.args.item)) (beside_behind (omega (arith, c.lift.ensures.long, c.requires))
+    (owed_last o (alike_in (ap (λ (s : List ℕ). push (def.block_lines (item_of c.args.item) (split def.is_line_end (block_text s))) (take c.in-Done.m (c.own_line.new.text ++ drop (length c.args.text.now - c.args.n) c.lift.new.text))) (sym o.still.behind)) c.push_block.ensures)))
+
+pub shape_of-text-in-Full : goal.shape_of-text-in-Full
+shape_of-text-in-Full c =
+    (lent_front (length c.args.text.now - c.args.n) c.args.len c.lift.new.text c.own_line.new.text (def.own_line (item_of c.args.item)) (omega (arith, c.requires)) (omega (arith, c.lift.ensures.long, c.requires)) c.own_line.auto.text c.own_line.ensures).long ∙ c.lift.ensures.long
+
+pub returns-in-Full : goal.returns-in-Full
+returns-in-Full c =
+    lifted_writes {len = c.args.len} (omega arith) c.requires refl c.lift.ensures (indented_block (item_of c.args.item)) (beside_behind (omega (arith, c.lift.ensures.long, c.requires)) (owed_stop (owed_all (length c.args.text.now - c.args.n) c.lift.new.text c.args.len ((own_block (item_of c.args.item)) (drop (length c.args.text.now - c.args.n) c.lift.new.text)) (omega (arith, c.requires)) (omega (arith, c.lift.ensures.long, c.requires)) refl) (def.own_line (item_of c.args.item)) (push (def.block_lines (item_of c.args.item) (split def.is_line_end (block_text (drop (length c.args.text.now - c.args.n) c.lift.new.text))))) refl c.in-Full.is (lent_front (length c.args.text.now - c.args.n) c.args.len c.lift.new.text c.own_line.new.text (def.own_line (item_of c.args.item)) (omega (arith, c.requires)) (omega (arith, c.lift.ensures.long, c.requires)) c.own_line.auto.text c.own_line.ensures)))

@@ -1,0 +1,33 @@
+use mathlib.Core.Path.{refl}
+use mathlib.Core.Bool.{cond}
+use mathlib.Core.List.{[], ◌++◌}
+use Rattle.spec.specs.Bytes.{ascii}
+use Rattle.spec.specs.Out.{push}
+use Rattle.text.proofs.Writing.{owes_all, owes_last, push_on, push_stop}
+use Rattle.marks.proofs.emphasis.push_end.Goals as goal
+
+pub push_byte_if-requires : goal.push_byte_if-requires
+push_byte_if-requires c =
+    let a = c.args in
+    let x = a.marker.now in
+    let y = cond a.trail (ascii " ") [] in
+    let o₁ = owes_all a.text.now a.len (push (x ++ y)) c.requires refl in
+    let o₂ = push_on x y o₁ c.in-Done.is c.push_all.ensures in
+    o₂.reach
+
+pub returns-in-Done : goal.returns-in-Done
+returns-in-Done c =
+    let a = c.args in
+    let x = a.marker.now in
+    let y = cond a.trail (ascii " ") [] in
+    let o₁ = owes_all a.text.now a.len (push (x ++ y)) c.requires refl in
+    let o₂ = push_on x y o₁ c.in-Done.is c.push_all.ensures in
+    owes_last o₂ c.push_byte_if.ensures
+
+pub returns-in-Full : goal.returns-in-Full
+returns-in-Full c =
+    let a = c.args in
+    let x = a.marker.now in
+    let y = cond a.trail (ascii " ") [] in
+    let o₁ = owes_all a.text.now a.len (push (x ++ y)) c.requires refl in
+    push_stop x y o₁ c.in-Full.is c.push_all.ensures

@@ -1,0 +1,42 @@
+use Prim.Native.Nat.{◌-◌}
+use mathlib.Core.Path.{refl}
+use Rattle.spec.specs.Bytes.{Bytes}
+use Rattle.nodes.proofs.Appending.{Spells, appends_all, appends_node, appends_on, appends_stop, appends_end}
+use native.Mathlib.Omega.{arith}
+use Rattle.nodes.proofs.nodes.push_text_of.Goals as goal
+
+-- each text appends itself, in one state
+abbrev itself : Unit {0} → Bytes → Bytes
+itself x s = s
+
+spells : Spells itself (λ (x : Unit {0}) (s : Bytes). x)
+spells = record { none = λ x. refl; joins = λ x s t. refl }
+
+pub loop-i-init : goal.loop-i-init
+loop-i-init c =
+    let a = c.args in
+    appends_all itself a.sheet.now a.nodes.now a.from a.to tt a.text.now a.len c.requires.1
+
+pub node_place-place-requires : goal.node_place-place-requires
+node_place-place-requires c =
+    (appends_node c.loop-i.invariant c.requires.0 c.loop-i-test.true).inside
+
+pub text_at-part-requires : goal.text_at-part-requires
+text_at-part-requires c =
+    omega (arith, (appends_node c.loop-i.invariant c.requires.0 c.loop-i-test.true).placed, c.node_place-place.ensures)
+
+pub push_all-requires : goal.push_all-requires
+push_all-requires c =
+    c.loop-i.invariant.owes.reach
+
+pub returns-in-Full : goal.returns-in-Full
+returns-in-Full c =
+    appends_stop c.loop-i.invariant spells c.loop-i-test.true c.node_place-place.ensures c.text_at-part.ensures.bytes_are c.in-Full.is c.push_all.ensures
+
+pub loop-i-preserved : goal.loop-i-preserved
+loop-i-preserved c =
+    appends_on c.loop-i.invariant spells c.loop-i-test.true c.node_place-place.ensures c.text_at-part.ensures.bytes_are refl c.in-Done.is c.push_all.ensures
+
+pub returns : goal.returns
+returns c =
+    appends_end c.loop-i.invariant spells c.loop-i-test.false

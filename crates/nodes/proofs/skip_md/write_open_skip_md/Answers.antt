@@ -1,0 +1,64 @@
+use Prim.Native.Nat.{ℕ}
+use mathlib.Core.Path.{ap, sym, ◌∙◌}
+use lib.ListN.{take}
+use Rattle.spec.specs.Call.{tags_to_skip}
+use Rattle.spec.specs.Out.{and_then}
+use Rattle.spec.specs.Md.Elements.Code.{write_skip_md, close_skip_md}
+use Rattle.input.specs.Scans.{skip_list}
+use Rattle.text.proofs.Writing.{alike}
+use Rattle.nodes.proofs.Interrupts.{element_name}
+use Rattle.nodes.proofs.Spots.{inside_node, going_start, going_inside, going_on, going_stop, going_end, going_less}
+use native.Mathlib.Omega.{arith}
+use Rattle.nodes.proofs.skip_md.write_open_skip_md.Goals as goal
+
+pub overflow_add-at : goal.overflow_add-at
+overflow_add-at c =
+    omega (arith, c.requires.0.3.inside)
+
+pub loop-open-init : goal.loop-open-init
+loop-open-init c =
+    λ kids h. going_start (tags_to_skip (skip_list c.args.own c.args.run.now)) c.args.opts c.args.text.now c.args.len c.requires.0.3 kids h c.requires.1
+
+pub write_spot-requires : goal.write_spot-requires
+write_spot-requires c =
+    let x = c.requires.0 in
+    let g = c.loop-open.invariant x.2 x.3.kids_are in
+    let k = going_inside g c.loop-open-test.true in
+    (k.this.node, inside_node k, g.owes.reach)
+
+pub next_spot-next-requires : goal.next_spot-next-requires
+next_spot-next-requires c =
+    let x = c.requires.0 in
+    let k = going_inside (c.loop-open.invariant x.2 x.3.kids_are) c.loop-open-test.true in
+    (k.this.node, inside_node k)
+
+pub returns-in-Full : goal.returns-in-Full
+returns-in-Full c =
+    let t = take c.args.len c.args.text.now in
+    λ name attrs kids x. alike (ap (λ (k : ℕ). and_then (write_skip_md (tags_to_skip (skip_list c.args.own c.args.run.now)) c.args.opts kids t) (close_skip_md k)) (sym (element_name x)))
+    (going_stop (c.loop-open.invariant kids x.kids_are) c.loop-open-test.true c.write_spot.ensures c.in-Full.is)
+
+pub loop-open-smaller : goal.loop-open-smaller
+loop-open-smaller c =
+    let x = c.requires.0 in
+    going_less (c.loop-open.invariant x.2 x.3.kids_are) c.loop-open-test.true c.next_spot-next.ensures
+
+pub loop-open-preserved : goal.loop-open-preserved
+loop-open-preserved c =
+    λ kids h. going_on (c.loop-open.invariant kids h) c.loop-open-test.true c.write_spot.ensures c.in-Done.is c.next_spot-next.ensures
+
+pub shape_of-text-in-Full : goal.shape_of-text-in-Full
+shape_of-text-in-Full c =
+    let x = c.requires.0 in
+    c.write_spot.auto.text ∙ (c.loop-open.invariant x.2 x.3.kids_are).owes.long
+
+pub shape_of-text : goal.shape_of-text
+shape_of-text c =
+    let x = c.requires.0 in
+    (c.loop-open.invariant x.2 x.3.kids_are).owes.long
+
+pub returns : goal.returns
+returns c =
+    let t = take c.args.len c.args.text.now in
+    λ name attrs kids x. alike (ap (λ (k : ℕ). and_then (write_skip_md (tags_to_skip (skip_list c.args.own c.args.run.now)) c.args.opts kids t) (close_skip_md k)) (sym (element_name x)))
+    (going_end (c.loop-open.invariant kids x.kids_are) c.loop-open-test.false)
