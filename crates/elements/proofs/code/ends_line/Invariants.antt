@@ -1,0 +1,11 @@
+use Prim.Native.Nat.{◌-◌}
+use mathlib.Core.Bool.{false}
+use Rattle.nodes.proofs.Numbers.{Carried}
+use Rattle.elements.specs.Edges.{ended_by}
+use Rattle.elements.proofs.code.ends_line.Given as goal
+
+abbrev pub invariant-loop-i : goal.invariant-loop-i
+invariant-loop-i l = Carried ended_by l.sheet l.nodes l.from l.to false l.i l.ended
+
+abbrev pub decreases-loop-i : goal.decreases-loop-i
+decreases-loop-i l = l.to - l.i

@@ -1,0 +1,30 @@
+use mathlib.Core.List.{◌∷◌}
+use Rattle.spec.specs.Md.Elements.Code.{find_code_language}
+use Rattle.nodes.proofs.Interrupts.{element_kids}
+use Rattle.elements.proofs.Languages.{around_it, language_as, language_first, language_second}
+use Rattle.elements.proofs.code_language.find_code_language.Goals as goal
+
+pub nearest_language-requires : goal.nearest_language-requires
+nearest_language-requires c =
+    let p = c.requires in
+    (p.0.1 ∷ p.1.0, around_it p.1.0 p.0.3 p.1.1)
+
+pub node_end-to-requires : goal.node_end-to-requires
+node_end-to-requires c =
+    c.requires.0.3.inside
+
+pub find_code_language_css_class-requires : goal.find_code_language_css_class-requires
+find_code_language_css_class-requires c =
+    let p = c.requires in
+    (c.args.i, p.0.2, element_kids p.0.3 c.node_end-to.ensures)
+
+pub returns-in-At : goal.returns-in-At
+unfolding find_code_language
+returns-in-At c =
+    λ name attrs kids anc x y. language_first _ (language_as c.in-At.is (c.nearest_language.ensures (attrs ∷ anc) (around_it anc x y)))
+
+pub returns-in-Missing : goal.returns-in-Missing
+unfolding find_code_language
+returns-in-Missing c =
+    λ name attrs kids anc x y. language_second (language_as c.in-Missing.is (c.nearest_language.ensures (attrs ∷ anc) (around_it anc x y)))
+    (c.find_code_language_css_class.ensures c.args.i kids (element_kids x c.node_end-to.ensures))

@@ -1,0 +1,10 @@
+use Prim.Native.Nat.{◌-◌}
+use Rattle.spec.specs.Md.Elements.Code.{find_code_language_css_class}
+use Rattle.nodes.proofs.Siblings.{Left}
+use Rattle.elements.proofs.code_language.find_code_language_css_class.Given as goal
+
+abbrev pub invariant-loop-i : goal.invariant-loop-i
+invariant-loop-i l = Left find_code_language_css_class l.sheet l.nodes l.from l.to l.i
+
+abbrev pub decreases-loop-i : goal.decreases-loop-i
+decreases-loop-i l = l.to - l.i

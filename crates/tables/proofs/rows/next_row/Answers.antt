@@ -1,0 +1,33 @@
+use Prim.Native.Nat.{◌-◌}
+use native.Mathlib.Omega.{arith}
+use mathlib.Core.Path.{sym, ◌∙◌}
+use Rattle.tables.proofs.TableRows.{rows_node, rows_here, rows_on, rows_ended, rows_le}
+use Rattle.tables.proofs.rows.next_row.Goals as goal
+
+pub loop-r-init : goal.loop-r-init
+loop-r-init c = (omega arith, λ rows x. x)
+
+pub node_name-requires : goal.node_name-requires
+node_name-requires c =
+    rows_node c.args.sheet.now c.args.nodes.now c.loop-r.r c.args.to c.requires.0 (c.loop-r.invariant.1 c.requires.0 c.requires.1) c.loop-r-test.true
+
+pub returns-then-node_name-eq17 : goal.returns-then-node_name-eq17
+returns-then-node_name-eq17 c =
+    let l = c.loop-r in (
+      l.invariant.0,
+      λ rows x. rows_here c.args.sheet.now c.args.nodes.now l.r c.args.to rows (l.invariant.1 rows x) c.loop-r-test.true (sym c.node_name.ensures ∙ c.if-node_name-eq17.true),
+    )
+
+pub loop-r-preserved : goal.loop-r-preserved
+loop-r-preserved c =
+    let l = c.loop-r in (
+      omega (arith, l.invariant.0),
+      λ rows x. rows_on c.args.sheet.now c.args.nodes.now l.r c.args.to rows (l.invariant.1 rows x) c.loop-r-test.true (λ q. c.if-node_name-eq17.false (c.node_name.ensures ∙ q)),
+    )
+
+pub returns : goal.returns
+returns c =
+    let l = c.loop-r in (
+      rows_le c.args.sheet.now c.args.nodes.now c.args.i c.args.to c.requires.0 c.requires.1,
+      λ rows x. rows_ended c.args.sheet.now c.args.nodes.now l.r c.args.to rows (l.invariant.1 rows x) c.loop-r-test.false,
+    )

@@ -1,0 +1,39 @@
+use Prim.Native.Nat.{ℕ, ◌-◌}
+use mathlib.Core.Path.{sym, ap, subst, ◌∙◌}
+use Rattle.spec.specs.Md.Elements.Table.{is_table_cell}
+use Rattle.tables.proofs.Gathering.{Looking, looking_all, looking_first, looking_node, looking_on, looking_done}
+use native.Mathlib.Omega.{arith}
+use Rattle.tables.proofs.table.next_cell.Goals as goal
+
+pub loop-c-init : goal.loop-c-init
+loop-c-init c =
+    let a = c.args in
+    (omega arith, looking_all a.sheet.now a.nodes.now a.from a.to c.requires)
+
+pub node_name-name-requires : goal.node_name-name-requires
+node_name-name-requires c =
+    looking_node c.loop-c.invariant.1 c.loop-c-test.true
+
+pub returns-then-is_table_cell : goal.returns-then-is_table_cell
+returns-then-is_table_cell c =
+    (c.loop-c.invariant.0, looking_done c.loop-c.invariant.1 (λ l. sym (c.is_table_cell.ensures ∙ ap is_table_cell c.node_name-name.ensures) ∙ c.if-is_table_cell.true))
+
+pub node_end-c-requires : goal.node_end-c-requires
+node_end-c-requires c =
+    (looking_node c.loop-c.invariant.1 c.loop-c-test.true).inside
+
+pub loop-c-smaller : goal.loop-c-smaller
+loop-c-smaller c =
+    omega (arith, (looking_first c.loop-c.invariant.1 c.loop-c-test.true).later, c.node_end-c.ensures)
+
+pub loop-c-preserved : goal.loop-c-preserved
+loop-c-preserved c =
+    let a = c.args in (
+      omega (arith, (looking_first c.loop-c.invariant.1 c.loop-c-test.true).later, c.node_end-c.ensures, c.loop-c.invariant.0),
+      subst (λ (j : ℕ). Looking a.sheet.now a.nodes.now a.from a.to j) (sym c.node_end-c.ensures)
+          (looking_on c.loop-c.invariant.1 c.loop-c-test.true (sym (c.is_table_cell.ensures ∙ ap is_table_cell c.node_name-name.ensures) ∙ c.if-is_table_cell.false)),
+    )
+
+pub returns : goal.returns
+returns c =
+    (c.loop-c.invariant.0, looking_done c.loop-c.invariant.1 (λ l. absurd (omega arith)))

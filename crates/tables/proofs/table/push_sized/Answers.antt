@@ -1,0 +1,136 @@
+use Prim.Native.Nat.{ℕ, ◌+◌, ◌-◌, ◌*◌, ◌≤◌}
+use mathlib.Core.List.{List}
+use mathlib.Core.Path.{◌≡◌, refl, sym, ◌∙◌}
+use lib.ListN.{length, take, drop}
+use lib.Seq.{length-take-le}
+use borrow.Author.Tests.{leb-true, leb-false, not-false}
+use Rattle.spec.specs.Bytes.{Bytes}
+use Rattle.tables.specs.Spans.{cell_lengths, table_lengths, filled, width, marks}
+use Rattle.tables.proofs.Putting.{part_length, puts_reach}
+use Rattle.tables.proofs.Cutting.{marks_few, width_few}
+use Rattle.tables.proofs.Gathering.{zeros_few}
+use Rattle.tables.proofs.Tables.{sized_full, sized_done}
+use native.Mathlib.Omega.{arith}
+use Rattle.tables.proofs.table.push_sized.Goals as goal
+
+-- the cells' texts, those of the headings once more, and what else the lines take
+abbrev taken : tie.After-has-room → ℕ
+taken c =
+    let a = c.before.before.before.before.before.before.before.args in
+    a.n + a.bytes + (5 + 6 * a.cells + 9 * c.before.before.saturating-sub.result + a.empty + c.before.lines-marks.result)
+
+abbrev left : tie.After-has-room → ℕ
+left c =
+    let a = c.before.before.before.before.before.before.before.args in
+    length a.text.now - a.len - a.n
+
+fits : (c : tie.Else1) → c.before.before.before.before.before.before.before.before.args.len + c.before.before.before.before.before.before.before.before.args.n + c.before.before.before.before.before.before.before.before.args.n + c.before.before.before.before.before.before.before.before.args.bytes + (5 + 6 * c.before.before.before.before.before.before.before.before.args.cells + 9 * c.before.before.before.saturating-sub.result + c.before.before.before.before.before.before.before.before.args.empty + c.before.before.lines-marks.result) ≤ length c.before.before.before.before.before.before.before.before.args.text.now
+fits c = omega (arith, leb-true (taken c.before) (left c.before) (sym c.before.has_room.ensures ∙ not-false _ c.if1.false), c.before.before.before.before.before.before.before.before.requires.5)
+
+pub first_width-wide-requires : goal.first_width-wide-requires
+first_width-wide-requires c =
+    c.requires.1
+
+pub lines_marks-extra-requires : goal.lines_marks-extra-requires
+lines_marks-extra-requires c =
+    (c.requires.1, omega (arith, c.requires.7))
+
+pub overflow_mul-more : goal.overflow_mul-more
+overflow_mul-more c =
+    let a = c.args in
+    let rows = table_lengths a.sheet.now a.nodes.now a.from a.to in
+    omega
+    (arith, c.lines_marks-extra.ensures, c.saturating_sub-blanks.ensures, c.first_width-wide.ensures, marks_few rows, width_few rows, zeros_few (cell_lengths a.sheet.now a.nodes.now a.row (a.row + 1) a.end), c.requires.2, c.requires.4, c.requires.7)
+
+pub overflow_add-more : goal.overflow_add-more
+overflow_add-more c =
+    let a = c.args in
+    let rows = table_lengths a.sheet.now a.nodes.now a.from a.to in
+    omega
+    (arith, c.lines_marks-extra.ensures, c.saturating_sub-blanks.ensures, c.first_width-wide.ensures, marks_few rows, width_few rows, zeros_few (cell_lengths a.sheet.now a.nodes.now a.row (a.row + 1) a.end), c.requires.2, c.requires.4, c.requires.7)
+
+pub overflow_mul-more-2 : goal.overflow_mul-more-2
+overflow_mul-more-2 c =
+    let a = c.args in
+    let rows = table_lengths a.sheet.now a.nodes.now a.from a.to in
+    omega
+    (arith, c.lines_marks-extra.ensures, c.saturating_sub-blanks.ensures, c.first_width-wide.ensures, marks_few rows, width_few rows, zeros_few (cell_lengths a.sheet.now a.nodes.now a.row (a.row + 1) a.end), c.requires.2, c.requires.4, c.requires.7)
+
+pub overflow_add-more-2 : goal.overflow_add-more-2
+overflow_add-more-2 c =
+    let a = c.args in
+    let rows = table_lengths a.sheet.now a.nodes.now a.from a.to in
+    omega
+    (arith, c.lines_marks-extra.ensures, c.saturating_sub-blanks.ensures, c.first_width-wide.ensures, marks_few rows, width_few rows, zeros_few (cell_lengths a.sheet.now a.nodes.now a.row (a.row + 1) a.end), c.requires.2, c.requires.4, c.requires.7)
+
+pub overflow_add-more-3 : goal.overflow_add-more-3
+overflow_add-more-3 c =
+    let a = c.args in
+    let rows = table_lengths a.sheet.now a.nodes.now a.from a.to in
+    omega
+    (arith, c.lines_marks-extra.ensures, c.saturating_sub-blanks.ensures, c.first_width-wide.ensures, marks_few rows, width_few rows, zeros_few (cell_lengths a.sheet.now a.nodes.now a.row (a.row + 1) a.end), c.requires.2, c.requires.4, c.requires.7)
+
+pub overflow_add-more-4 : goal.overflow_add-more-4
+overflow_add-more-4 c =
+    let a = c.args in
+    let rows = table_lengths a.sheet.now a.nodes.now a.from a.to in
+    omega
+    (arith, c.lines_marks-extra.ensures, c.saturating_sub-blanks.ensures, c.first_width-wide.ensures, marks_few rows, width_few rows, zeros_few (cell_lengths a.sheet.now a.nodes.now a.row (a.row + 1) a.end), c.requires.2, c.requires.4, c.requires.7)
+
+pub overflow_sub-room : goal.overflow_sub-room
+overflow_sub-room c =
+    omega (arith, c.requires.5)
+
+pub overflow_sub-room-2 : goal.overflow_sub-room-2
+overflow_sub-room-2 c =
+    omega (arith, c.requires.5)
+
+pub returns-then-not-has_room : goal.returns-then-not-has_room
+returns-then-not-has_room c =
+    let a = c.args in
+    let lens : List ℕ = cell_lengths a.sheet.now a.nodes.now a.row (a.row + 1) a.end in
+    let rows : List (List ℕ) = filled (table_lengths a.sheet.now a.nodes.now a.from a.to) in
+    let s : Bytes = take a.n (drop a.len a.text.now) in
+    let m = part_length a.text.now a.len a.n c.requires.5 in
+    let wide : c.first_width-wide.result ≡ width rows = c.first_width-wide.ensures in
+    let more : c.lines_marks-extra.result ≡ marks rows = c.lines_marks-extra.ensures in
+    record {
+      says = sized_full lens rows s (omega (arith, m, c.requires.3, c.requires.6)) (length a.text.now) (take a.len a.text.now)
+          (omega
+          (arith, leb-false (taken c.before) (left c.before) (sym c.has_room.ensures ∙ c.if-not-has_room.true), c.saturating_sub-blanks.ensures, m, length-take-le a.len a.text.now (omega (arith, c.requires.5)), c.requires.2, c.requires.3, c.requires.4, c.requires.5, c.requires.6));
+    }
+
+pub overflow_sub-base : goal.overflow_sub-base
+overflow_sub-base c =
+    omega (arith, c.requires.5)
+
+pub lift-requires : goal.lift-requires
+lift-requires c =
+    (omega (arith, c.requires.5, fits c.before), omega (arith, c.requires.5))
+
+pub put_table-done-requires : goal.put_table-done-requires
+put_table-done-requires c =
+    let a = c.args in (
+      c.requires.0,
+      c.requires.1,
+      c.requires.3,
+      c.saturating_sub-blanks.ensures ∙ omega (arith, c.first_width-wide.ensures, c.requires.2),
+      omega (arith, fits c.before, c.requires.2, c.requires.3, c.requires.4, c.requires.6, c.lines_marks-extra.ensures),
+      omega (arith, c.lift.ensures.long, c.requires.5, c.requires.6),
+    )
+
+pub push_byte-requires : goal.push_byte-requires
+push_byte-requires c =
+    puts_reach c.put_table-done.ensures (omega (arith, c.lift.ensures.long, c.requires.5))
+
+pub returns : goal.returns
+returns c =
+    let a = c.args in
+    let lens : List ℕ = cell_lengths a.sheet.now a.nodes.now a.row (a.row + 1) a.end in
+    let rows : List (List ℕ) = filled (table_lengths a.sheet.now a.nodes.now a.from a.to) in
+    let s : Bytes = take a.n (drop a.len a.text.now) in
+    let m = part_length a.text.now a.len a.n c.requires.5 in
+    let wide : c.first_width-wide.result ≡ width rows = c.first_width-wide.ensures in
+    let more : c.lines_marks-extra.result ≡ marks rows = c.lines_marks-extra.ensures in
+    sized_done lens rows s (omega (arith, m, c.requires.3, c.requires.6)) a.text.now _ a.len a.n _
+    (omega (arith, fits c.before, c.saturating_sub-blanks.ensures, c.requires.2, c.requires.3, c.requires.4, c.requires.6)) (sym m) refl c.lift.ensures refl c.put_table-done.ensures c.push_byte.ensures

@@ -1,0 +1,17 @@
+use Prim.Native.Nat.{◌+◌, ◌-◌, ◌≤◌}
+use mathlib.Core.Path.{◌≡◌}
+use lib.ListN.{drop}
+use Rattle.spec.specs.Md.Elements.Table.{concat}
+use Rattle.tables.specs.Puts.{bar_line, bar_lines}
+use Rattle.tables.specs.Spans.{table_lengths, filled, sum, cut_rows}
+use Rattle.tables.proofs.Putting.{Due}
+use Rattle.tables.proofs.Lines.{LineFrom}
+use Rattle.tables.proofs.table.put_lines.Given as goal
+
+abbrev pub invariant-loop-r : goal.invariant-loop-r
+invariant-loop-r l = LineFrom l.sheet l.nodes l.r l.to
+    × Due l.initial.text l.text l.len l.end (bar_lines (cut_rows (filled (table_lengths l.sheet l.nodes l.r l.to)) (drop l.at l.initial.text))) (bar_lines (cut_rows (filled (table_lengths l.sheet l.nodes l.from l.to)) (drop l.src l.initial.text)))
+    × (l.src ≤ l.at) × (l.at + sum (concat (filled (table_lengths l.sheet l.nodes l.r l.to))) ≡ l.src + sum (concat (filled (table_lengths l.sheet l.nodes l.from l.to))))
+
+abbrev pub decreases-loop-r : goal.decreases-loop-r
+decreases-loop-r l = l.to - l.r
