@@ -50,6 +50,77 @@ def plain(name):
     return name.replace("-", "_")
 
 
+def clause_labels():
+    """path of a function -> the names of its `ensures`, where it has several."""
+    out = {}
+    for c in os.listdir("crates"):
+        for folder, _, names in os.walk(f"crates/{c}/src"):
+            for n in names:
+                if not n.endswith(".rt"):
+                    continue
+                mods = os.path.relpath(os.path.join(folder, n), f"crates/{c}/src")[:-3].split("/")
+                mods = [m for m in mods if m not in ("lib", "main")]
+                name = None
+                for line in open(os.path.join(folder, n)):
+                    m = re.match(r" *(?:pub )?(?:extern \"C\" )?fn (\w+)", line)
+                    if m:
+                        name = "::".join([c] + mods + [m[1]])
+                    m = re.match(r" +ensures (\w+) \{", line)
+                    if m and name:
+                        out.setdefault(name, []).append(m[1])
+    return {k: v for k, v in out.items() if len(v) > 1}
+
+
+LABELS = clause_labels()
+
+
+def parted(text):
+    """The parts of a tuple `( .. , .. )`, or None."""
+    text = text.strip()
+    if not text.startswith("(") or not text.endswith(")"):
+        return None
+    depth, parts, cur = 0, [], ""
+    for k, ch in enumerate(text):
+        if ch in "([{":
+            depth += 1
+            if depth == 1 and k == 0:
+                continue
+        if ch in ")]}":
+            depth -= 1
+            if depth == 0:
+                if k != len(text) - 1:
+                    return None
+                break
+        if ch == "," and depth == 1:
+            parts.append(cur.strip())
+            cur = ""
+            continue
+        cur += ch
+    if cur.strip():
+        parts.append(cur.strip())
+    return parts
+
+
+def as_record(body, labels):
+    """A body that ends with a tuple, with a record in its place."""
+    body = body.rstrip()
+    if not body.endswith(")"):
+        return body
+    depth = 0
+    for k in range(len(body) - 1, -1, -1):
+        if body[k] in ")]}":
+            depth += 1
+        elif body[k] in "([{":
+            depth -= 1
+            if depth == 0:
+                break
+    parts = parted(body[k:])
+    before = body[:k].rstrip()
+    if parts is None or len(parts) != len(labels) or not (before.endswith(" in") or before.endswith("=")):
+        return body
+    return body[:k] + "record {\n" + "\n".join(f"      {l} = {p};" for l, p in zip(labels, parts)) + "\n    }"
+
+
 class Function:
     def __init__(self, entry):
         self.needs = entry["needs"]
@@ -120,6 +191,10 @@ class Function:
     def lent(self, callee, rest):
         """`.new.0` and `.auto.0` by the name of the parameter."""
         names = self.params.get(callee or "", [])
+        labels = LABELS.get(callee or "", [])
+        m = re.match(r"^\.ensures\.(\d)(?!\d)", rest)
+        if m and int(m[1]) < len(labels):
+            return f".ensures.{labels[int(m[1])]}" + rest[m.end():]
         return re.sub(r"^\.(new|auto)((?:\.1)*)\.0", lambda m: f".{m[1]}.{names[len(m[2]) // 2]}" if len(m[2]) // 2 < len(names) else m[0], rest)
 
     def turn(self, text, place):
@@ -143,7 +218,7 @@ class Function:
             chain = self.chain(place)
             norm = lambda s: re.sub(r"_lem$", "", s.replace("-", "_").lower())
             callee = next((self.places[p][3] for p in chain[max(0, m[2].count(".before") - 3):] + chain if norm(self.places[p][2][0]) == norm(m[3])), None)
-            text = re.sub(rf"(?<![\w.'-]){re.escape(m[1])}(\.(?:new|auto)(?:\.1)*\.0)", lambda w: m[1] + self.lent(callee, w[1]), text)
+            text = re.sub(rf"(?<![\w.'-]){re.escape(m[1])}(\.(?:new|auto)(?:\.1)*\.0|\.ensures\.\d(?!\d))", lambda w: m[1] + self.lent(callee, w[1]), text)
         text = re.sub(r"(?<![\w.'₀-])c((?:\.before)*)\.([A-Za-z_][\w'₀-]*)((?:\.[\w'₀-]+)*)", one, text)
         # a test of `!b` says what b is
         return re.sub(r"not-(?:true|false) (?:[^\s()]+|\([^()]*\)) (c\.[^\s(),]*(?:if|test)[^\s(),]*\.(?:true|false))", r"\1", text)
@@ -172,12 +247,32 @@ def invariant(f, lines, name, old):
         return None
     params = m[1].split()
     want = [(f"l.{v}" if not c else f"l.initial.{v}") for v, c in zip(vars_, changed)] + [f"l.{v}" for v, c in zip(vars_, changed) if c]
+    if len(params) == len(want) + 1:
+        # a constant that the older compiler kept beside the loop
+        params = [x for x in params if x != "prefix"]
     if len(params) != len(want):
         f.said.append(f"{name}: {params} against {want}")
         return None
     table = dict(zip(params, want))
     body = re.sub(r"(?<![\w.'₀·-])([A-Za-z_«][\w'₀₁₂»-]*)", lambda w: table.get(w[1], w[1]) if w[1] != "_" else w[1], m[2].rstrip())
     return [f"abbrev pub {kind}-{new} : goal.{kind}-{new}", f"{kind}-{new} l = {body}"]
+
+
+def module_path(crate, path):
+    parts = path.split("/proofs/")[1].split("/")[:-1]
+    return "::".join([crate] + parts)
+
+
+def macro_of(name, kind, body, is_plain):
+    """A change of a text: the name at a step `c.before..`, with its body in its place."""
+    def one(m):
+        step = m[1]
+        inner = re.sub(r"(?<![\w.'₀-])c(?=\.)", step, body)
+        typed = re.sub(r"(?<![\w.'₀-])c(?=\.)", step, kind)
+        inner = re.sub(r"\n\s*", " ", inner)
+        return f"({inner})" if is_plain else f"(let it : {typed} = {inner} in it)"
+
+    return lambda text: re.sub(rf"\(?(?<![\w.'₀-]){re.escape(name)} (c(?:\.before)*)(?![\w.'₀-])", lambda m: ("(" if m[0].startswith("(") else "") + one(m), text)
 
 
 def convert(crate, path, entry, write=True):
@@ -193,6 +288,27 @@ def convert(crate, path, entry, write=True):
         return [f"{path}: no Tie"], False
     keep = [u for u in uses if not re.search(r"\.(Statement\.\{statement\}|Tie as tie|Tie\.\{close\}|\{statement\}|(?:Reads|Kinds|Lts-\w+)( as \w+)?$)", u)]
     invs, answers, helpers, lost = [], [], [], 0
+    function = module_path(crate, path)
+    renamed, cited = {}, set()
+    for name, comment, lines in decls:
+        m = re.search(r"(?:: tie|: \(t : ℕ\) → lts)\.Need-([^\s]+)", lines[0])
+        if m:
+            need = f.need(m[1]) or f.need(name)
+            if need:
+                renamed[name] = need[1]
+    for name, comment, lines in decls:
+        body = "\n".join(lines[1:])
+        for o in renamed:
+            if o != name and not re.search(r"tie\.close|lts\.spec|= close", body) and re.search(rf"(?<![\w.'₀-]){re.escape(o)} c", body):
+                cited.add(o)
+    macros = {}
+    for name, comment, lines in decls:
+        m = re.match(r"(?:abbrev )?(\S+) : (?:\(c : )?tie\.([^\s)]+)[^)→]*\)? → (.*)", lines[0])
+        if m and not m[2].startswith(("Need", "invariant", "decreases")):
+            text_ = "\n".join(lines[1:])
+            b = re.match(rf"(?s)\s*(?:unfolding [^\n]*\n)?{re.escape(name)} c =\s*(.*)", text_)
+            if b:
+                macros[name] = macro_of(name, m[3].strip(), b[1].strip(), lines[0].startswith("abbrev"))
     for name, comment, lines in decls:
         head = lines[0]
         m = re.search(r": tie\.(invariant|decreases)-(\S+)", head)
@@ -205,7 +321,7 @@ def convert(crate, path, entry, write=True):
             continue
         m = re.search(r"(?:: tie|: \(t : ℕ\) → lts)\.Need-([^\s]+)", head)
         if m:
-            if is_searched(lines, name):
+            if is_searched(lines, name) and name not in cited:
                 continue
             need = f.need(m[1]) or f.need(name)
             if need is None:
@@ -217,14 +333,23 @@ def convert(crate, path, entry, write=True):
             body = "\n".join(lines[1:]).rstrip("\n")
             body = re.sub(rf"(?m)^{re.escape(name)}(?= )", new, body)
             body = re.sub(rf"(?m)^({re.escape(new)})((?: t)?) c κs =", r"\1\2 c =", body)
+            for _ in range(4):
+                for o, macro in macros.items():
+                    body = macro(body)
             body = f.turn(body, at)
+            for o, n in renamed.items():
+                body = re.sub(rf"(?<![\w.'₀\n-])(?<!^){re.escape(o)}(?![\w'₀-])(?= c)", n, body)
+            labels = LABELS.get(function, [])
+            if labels and new.startswith("returns"):
+                body = as_record(body, labels)
             answers.append((comment, [f"pub {new} : goal.{new}"] + body.split("\n")))
             continue
         if re.match(r"abbrev (μ|at|below|claims) :", head):
             continue
         if "statement M" in head or "-spec" in name or name.endswith("_spec"):
             continue
-        helpers.append((comment, [l for l in lines]))
+        if name not in macros:
+            helpers.append((comment, [l for l in lines]))
     folder = os.path.dirname(path)
     out = []
     intro = [l for l in text.split("\n")[:3] if l.startswith("--")]

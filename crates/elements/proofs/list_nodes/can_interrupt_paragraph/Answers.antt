@@ -30,19 +30,19 @@ first_element-li-requires c =
 pub node_name-requires : goal.node_name-requires
 node_name-requires c =
     its_node c.args.sheet.now c.args.nodes.now c.args.i c.first_element-li.result c.node_end-to.result (first_element c.requires.2)
-    (c.first_element-li.ensures.0 c.args.i c.requires.2 (element_kids c.requires.3 c.node_end-to.ensures)) (omega arith)
+    (c.first_element-li.ensures.elements c.args.i c.requires.2 (element_kids c.requires.3 c.node_end-to.ensures)) (omega arith)
 
 pub node_end-end-requires : goal.node_end-end-requires
 node_end-end-requires c =
     (its_node c.args.sheet.now c.args.nodes.now c.args.i c.first_element-li.result c.node_end-to.result (first_element c.requires.2)
-    (c.first_element-li.ensures.0 c.args.i c.requires.2 (element_kids c.requires.3 c.node_end-to.ensures)) (omega arith)).inside
+    (c.first_element-li.ensures.elements c.args.i c.requires.2 (element_kids c.requires.3 c.node_end-to.ensures)) (omega arith)).inside
 
 pub overflow_add-li : goal.overflow_add-li
 overflow_add-li c =
     omega (
       arith,
       (first c.args.sheet.now c.args.nodes.now c.args.i c.first_element-li.result c.node_end-to.result (first_element c.requires.2)
-          (c.first_element-li.ensures.0 c.args.i c.requires.2 (element_kids c.requires.3 c.node_end-to.ensures)) (omega arith)).later,
+          (c.first_element-li.ensures.elements c.args.i c.requires.2 (element_kids c.requires.3 c.node_end-to.ensures)) (omega arith)).later,
       c.node_end-end.ensures,
     )
 
@@ -52,7 +52,7 @@ has_text_before_list-requires c =
       c.first_element-li.result,
       kids_of (first_element c.requires.2),
       its_kids c.args.sheet.now c.args.nodes.now c.args.i c.first_element-li.result c.node_end-to.result (first_element c.requires.2)
-          (c.first_element-li.ensures.0 c.args.i c.requires.2 (element_kids c.requires.3 c.node_end-to.ensures)) (omega arith) c.node_end-end.ensures,
+          (c.first_element-li.ensures.elements c.args.i c.requires.2 (element_kids c.requires.3 c.node_end-to.ensures)) (omega arith) c.node_end-end.ensures,
     )
 
 pub node_name-requires-2 : goal.node_name-requires-2
@@ -64,34 +64,34 @@ begins_with_one-requires c =
     (
       element_node c.requires.3,
       its_node c.args.sheet.now c.args.nodes.now c.args.i c.first_element-li.result c.node_end-to.result (first_element c.requires.2)
-          (c.first_element-li.ensures.0 c.args.i c.requires.2 (element_kids c.requires.3 c.node_end-to.ensures)) (omega arith),
+          (c.first_element-li.ensures.elements c.args.i c.requires.2 (element_kids c.requires.3 c.node_end-to.ensures)) (omega arith),
     )
 
 pub returns-then-to-li : goal.returns-then-to-li
 returns-then-to-li c =
     λ name attrs kids x. sym (can_none c.args.sheet.now c.args.nodes.now (tag_of name) attrs c.args.i c.first_element-li.result c.node_end-to.result kids
-    (c.first_element-li.ensures.0 c.args.i kids (element_kids x c.node_end-to.ensures)) c.if-to-li.true)
+    (c.first_element-li.ensures.elements c.args.i kids (element_kids x c.node_end-to.ensures)) c.if-to-li.true)
 
 pub returns-then-node_name-ne16 : goal.returns-then-node_name-ne16
 returns-then-node_name-ne16 c =
     let l : c.first_element-li.result < c.node_end-to.result = omega arith in
     λ name attrs kids x. sym (can_other c.args.sheet.now c.args.nodes.now (tag_of name) attrs c.args.i c.first_element-li.result c.node_end-to.result kids
-    (c.first_element-li.ensures.0 c.args.i kids (element_kids x c.node_end-to.ensures)) l (c.first_element-li.ensures.1 l) (λ q. c.if-node_name-ne16.true (c.node_name.ensures ∙ q)))
+    (c.first_element-li.ensures.elements c.args.i kids (element_kids x c.node_end-to.ensures)) l (c.first_element-li.ensures.tagged l) (λ q. c.if-node_name-ne16.true (c.node_name.ensures ∙ q)))
 
 pub returns-then-not-has_text_before_list : goal.returns-then-not-has_text_before_list
 returns-then-not-has_text_before_list c =
     let l : c.first_element-li.result < c.node_end-to.result = omega arith in
     λ name attrs kids x.
-    let h = c.first_element-li.ensures.0 c.args.i kids (element_kids x c.node_end-to.ensures) in
-    sym (can_blank c.args.sheet.now c.args.nodes.now (tag_of name) attrs c.args.i c.first_element-li.result c.node_end-to.result kids h l (c.first_element-li.ensures.1 l) (sym c.node_name.ensures ∙ c.if-node_name-ne16.false)
+    let h = c.first_element-li.ensures.elements c.args.i kids (element_kids x c.node_end-to.ensures) in
+    sym (can_blank c.args.sheet.now c.args.nodes.now (tag_of name) attrs c.args.i c.first_element-li.result c.node_end-to.result kids h l (c.first_element-li.ensures.tagged l) (sym c.node_name.ensures ∙ c.if-node_name-ne16.false)
     (sym (c.has_text_before_list.ensures c.first_element-li.result (kids_of (first_element kids)) (its_kids c.args.sheet.now c.args.nodes.now c.args.i c.first_element-li.result c.node_end-to.result (first_element kids) h l c.node_end-end.ensures)) ∙ c.if-not-has_text_before_list.true))
 
 pub returns-then-node_name-ne12 : goal.returns-then-node_name-ne12
 returns-then-node_name-ne12 c =
     let l : c.first_element-li.result < c.node_end-to.result = omega arith in
     λ name attrs kids x.
-    let h = c.first_element-li.ensures.0 c.args.i kids (element_kids x c.node_end-to.ensures) in
-    sym (can_bullet c.args.sheet.now c.args.nodes.now (tag_of name) attrs c.args.i c.first_element-li.result c.node_end-to.result kids h l (c.first_element-li.ensures.1 l) (sym c.node_name.ensures ∙ c.if-node_name-ne16.false)
+    let h = c.first_element-li.ensures.elements c.args.i kids (element_kids x c.node_end-to.ensures) in
+    sym (can_bullet c.args.sheet.now c.args.nodes.now (tag_of name) attrs c.args.i c.first_element-li.result c.node_end-to.result kids h l (c.first_element-li.ensures.tagged l) (sym c.node_name.ensures ∙ c.if-node_name-ne16.false)
     (sym (c.has_text_before_list.ensures c.first_element-li.result (kids_of (first_element kids)) (its_kids c.args.sheet.now c.args.nodes.now c.args.i c.first_element-li.result c.node_end-to.result (first_element kids) h l c.node_end-end.ensures)) ∙ c.if-not-has_text_before_list.false)
     (λ q. c.if-node_name-ne12.true (c.node_name-2.ensures ∙ (element_name x ∙ q))))
 
@@ -99,9 +99,9 @@ pub returns : goal.returns
 returns c =
     let l : c.first_element-li.result < c.node_end-to.result = omega arith in
     λ name attrs kids x.
-    let h = c.first_element-li.ensures.0 c.args.i kids (element_kids x c.node_end-to.ensures) in
+    let h = c.first_element-li.ensures.elements c.args.i kids (element_kids x c.node_end-to.ensures) in
     c.begins_with_one.ensures
-    ∙ sym (can_number c.args.sheet.now c.args.nodes.now (tag_of name) attrs c.args.i c.first_element-li.result c.node_end-to.result kids h l (c.first_element-li.ensures.1 l) (sym c.node_name.ensures ∙ c.if-node_name-ne16.false)
+    ∙ sym (can_number c.args.sheet.now c.args.nodes.now (tag_of name) attrs c.args.i c.first_element-li.result c.node_end-to.result kids h l (c.first_element-li.ensures.tagged l) (sym c.node_name.ensures ∙ c.if-node_name-ne16.false)
     (sym (c.has_text_before_list.ensures c.first_element-li.result (kids_of (first_element kids)) (its_kids c.args.sheet.now c.args.nodes.now c.args.i c.first_element-li.result c.node_end-to.result (first_element kids) h l c.node_end-end.ensures)) ∙ c.if-not-has_text_before_list.false)
     (sym (c.node_name-2.ensures ∙ element_name x) ∙ c.if-node_name-ne12.false)
     ∙ ap (λ (a : List Attr). eqb (number_or (number_of (attr (ascii "value") (attrs_behind c.args.sheet.now (place_at c.args.nodes.now c.first_element-li.result)))) (start_of a)) 1) x.attrs_are)

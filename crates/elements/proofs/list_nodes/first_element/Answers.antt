@@ -28,12 +28,12 @@ tag_at-requires c =
 
 pub returns-then-tag_at-eq1 : goal.returns-then-tag_at-eq1
 returns-then-tag_at-eq1 c =
-    let t : get_or c.args.sheet.now (place_at c.args.nodes.now c.loop-i.i) 0 ≡ 1 = sym (c.tag_at.ensures ∙ ap (λ (p : ℕ). get_or c.args.sheet.now p 0) c.node_place-place.ensures) ∙ c.if-tag_at-eq1.true in (
-      λ parent f h. let q = c.loop-i.invariant.goes parent f h in
+    let t : get_or c.args.sheet.now (place_at c.args.nodes.now c.loop-i.i) 0 ≡ 1 = sym (c.tag_at.ensures ∙ ap (λ (p : ℕ). get_or c.args.sheet.now p 0) c.node_place-place.ensures) ∙ c.if-tag_at-eq1.true in record {
+      elements = λ parent f h. let q = c.loop-i.invariant.goes parent f h in
           subst (λ (g : Forest). Rep c.args.sheet.now c.args.nodes.now parent c.loop-i.i c.args.to g)
-          (sym (q.2 ∙ element_first c.args.sheet.now c.args.nodes.now parent c.loop-i.i c.args.to q.0 q.1 c.loop-i-test.true t)) q.1,
-      λ l. t,
-    )
+          (sym (q.2 ∙ element_first c.args.sheet.now c.args.nodes.now parent c.loop-i.i c.args.to q.0 q.1 c.loop-i-test.true t)) q.1;
+      tagged = λ l. t;
+    }
 
 pub loop-i-smaller : goal.loop-i-smaller
 loop-i-smaller c =
@@ -47,8 +47,8 @@ loop-i-preserved c =
 
 pub returns : goal.returns
 returns c =
-    (
-      λ parent f h. let q = c.loop-i.invariant.goes parent f h in
-          element_none c.args.sheet.now c.args.nodes.now parent c.loop-i.i c.args.to f q.0 q.1 q.2 c.loop-i-test.false,
-      λ l. absurd (omega arith),
-    )
+    record {
+      elements = λ parent f h. let q = c.loop-i.invariant.goes parent f h in
+          element_none c.args.sheet.now c.args.nodes.now parent c.loop-i.i c.args.to f q.0 q.1 q.2 c.loop-i-test.false;
+      tagged = λ l. absurd (omega arith);
+    }

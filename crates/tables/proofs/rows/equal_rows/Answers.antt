@@ -9,7 +9,7 @@ pub next_row-r-requires : goal.next_row-r-requires
 next_row-r-requires c = c.requires
 
 pub loop-r-init : goal.loop-r-init
-loop-r-init c = λ rows x. (rows, c.next_row-r.ensures.1 rows x, refl)
+loop-r-init c = λ rows x. (rows, c.next_row-r.ensures.rows rows x, refl)
 
 pub count_cells-n-requires : goal.count_cells-n-requires
 count_cells-n-requires c =
@@ -31,13 +31,13 @@ next_row-r-requires-in-loop-r c =
     (m.0, m.1)
 
 pub loop-r-smaller : goal.loop-r-smaller
-loop-r-smaller c = omega (arith, c.next_row-r-in-loop-r.ensures.0, c.loop-r-test.true)
+loop-r-smaller c = omega (arith, c.next_row-r-in-loop-r.ensures.later, c.loop-r-test.true)
 
 pub loop-r-preserved : goal.loop-r-preserved
 loop-r-preserved c = λ rows x.
     let q = c.loop-r.invariant rows x in
     let m = equal_on c.count_cells-n.result c.count_cells-n.ensures c.loop-r.common q.0 q.1 c.loop-r-test.true c.if-common-n.false in
-    (m.0, c.next_row-r-in-loop-r.ensures.1 m.0 m.1, q.2 ∙ m.2)
+    (m.0, c.next_row-r-in-loop-r.ensures.rows m.0 m.1, q.2 ∙ m.2)
 
 pub returns : goal.returns
 unfolding equal_rows

@@ -10,7 +10,7 @@ pub next_row-r-requires : goal.next_row-r-requires
 next_row-r-requires c = c.requires
 
 pub loop-r-init : goal.loop-r-init
-loop-r-init c = (c.next_row-r.ensures.0, λ rows x. (rows, c.next_row-r.ensures.1 rows x, refl))
+loop-r-init c = (c.next_row-r.ensures.later, λ rows x. (rows, c.next_row-r.ensures.rows rows x, refl))
 
 pub count_cells-requires : goal.count_cells-requires
 count_cells-requires c =
@@ -18,13 +18,13 @@ count_cells-requires c =
     some_row q.0 q.1 c.loop-r-test.true
 
 pub returns-then-count_cells-ne0 : goal.returns-then-count_cells-ne0
-returns-then-count_cells-ne0 c = (
-  c.loop-r.invariant.0,
-  λ rows x.
+returns-then-count_cells-ne0 c = record {
+      later = c.loop-r.invariant.0;
+      rows = λ rows x.
       let q = c.loop-r.invariant.1 rows x in
       subst (RowsAt c.args.sheet.now c.args.nodes.now c.loop-r.r c.args.to) (sym q.2)
-      (filled_here c.count_cells.result c.count_cells.ensures q.0 q.1 c.loop-r-test.true c.if-count_cells-ne0.true),
-)
+      (filled_here c.count_cells.result c.count_cells.ensures q.0 q.1 c.loop-r-test.true c.if-count_cells-ne0.true);
+    }
 
 pub overflow_add-r : goal.overflow_add-r
 overflow_add-r c = omega (arith, c.loop-r-test.true)
@@ -36,21 +36,21 @@ next_row-r-requires-in-loop-r c =
     (m.0, m.1)
 
 pub loop-r-smaller : goal.loop-r-smaller
-loop-r-smaller c = omega (arith, c.next_row-r-in-loop-r.ensures.0, c.loop-r-test.true)
+loop-r-smaller c = omega (arith, c.next_row-r-in-loop-r.ensures.later, c.loop-r-test.true)
 
 pub loop-r-preserved : goal.loop-r-preserved
 loop-r-preserved c = (
-  omega (arith, c.loop-r.invariant.0, c.next_row-r-in-loop-r.ensures.0),
+  omega (arith, c.loop-r.invariant.0, c.next_row-r-in-loop-r.ensures.later),
   λ rows x.
       let q = c.loop-r.invariant.1 rows x in
       let m = filled_on c.count_cells.result c.count_cells.ensures q.0 q.1 c.loop-r-test.true c.if-count_cells-ne0.false in
-      (m.0, c.next_row-r-in-loop-r.ensures.1 m.0 m.1, q.2 ∙ m.2),
+      (m.0, c.next_row-r-in-loop-r.ensures.rows m.0 m.1, q.2 ∙ m.2),
 )
 
 pub returns : goal.returns
-returns c = (
-  rows_le c.args.sheet.now c.args.nodes.now c.args.i c.args.to c.requires.0 c.requires.1,
-  λ rows x.
+returns c = record {
+      later = rows_le c.args.sheet.now c.args.nodes.now c.args.i c.args.to c.requires.0 c.requires.1;
+      rows = λ rows x.
       let q = c.loop-r.invariant.1 rows x in
-      filled_none c.args.sheet.now c.args.nodes.now c.loop-r.r c.args.to q.0 q.1 c.loop-r-test.false rows q.2,
-)
+      filled_none c.args.sheet.now c.args.nodes.now c.loop-r.r c.args.to q.0 q.1 c.loop-r-test.false rows q.2;
+    }

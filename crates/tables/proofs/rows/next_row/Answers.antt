@@ -13,10 +13,10 @@ node_name-requires c =
 
 pub returns-then-node_name-eq17 : goal.returns-then-node_name-eq17
 returns-then-node_name-eq17 c =
-    let l = c.loop-r in (
-      l.invariant.0,
-      λ rows x. rows_here c.args.sheet.now c.args.nodes.now l.r c.args.to rows (l.invariant.1 rows x) c.loop-r-test.true (sym c.node_name.ensures ∙ c.if-node_name-eq17.true),
-    )
+    let l = c.loop-r in record {
+      later = l.invariant.0;
+      rows = λ rows x. rows_here c.args.sheet.now c.args.nodes.now l.r c.args.to rows (l.invariant.1 rows x) c.loop-r-test.true (sym c.node_name.ensures ∙ c.if-node_name-eq17.true);
+    }
 
 pub loop-r-preserved : goal.loop-r-preserved
 loop-r-preserved c =
@@ -27,7 +27,7 @@ loop-r-preserved c =
 
 pub returns : goal.returns
 returns c =
-    let l = c.loop-r in (
-      rows_le c.args.sheet.now c.args.nodes.now c.args.i c.args.to c.requires.0 c.requires.1,
-      λ rows x. rows_ended c.args.sheet.now c.args.nodes.now l.r c.args.to rows (l.invariant.1 rows x) c.loop-r-test.false,
-    )
+    let l = c.loop-r in record {
+      later = rows_le c.args.sheet.now c.args.nodes.now c.args.i c.args.to c.requires.0 c.requires.1;
+      rows = λ rows x. rows_ended c.args.sheet.now c.args.nodes.now l.r c.args.to rows (l.invariant.1 rows x) c.loop-r-test.false;
+    }

@@ -19,7 +19,7 @@ next_cell-c-requires c =
 
 pub loop-c-init : goal.loop-c-init
 loop-c-init c =
-    let n = c.next_cell-c.ensures.1 c.args.row c.requires.0.0 (omega arith) c.requires.0.1 in
+    let n = c.next_cell-c.ensures.cells c.args.row c.requires.0.0 (omega arith) c.requires.0.1 in
     (n.0, omega (arith, ap length n.1), omega (arith, ap sum n.1), omega (arith, ap zeros n.1))
 
 pub overflow_mul-c : goal.overflow_mul-c
@@ -63,12 +63,12 @@ next_cell-c-requires-in-loop-c c =
 
 pub loop-c-smaller : goal.loop-c-smaller
 loop-c-smaller c =
-    omega (arith, (from_first c.loop-c.invariant.0 c.loop-c-test.true).later, c.node_end-after.ensures, c.next_cell-c-in-loop-c.ensures.0, c.loop-c-test.true)
+    omega (arith, (from_first c.loop-c.invariant.0 c.loop-c-test.true).later, c.node_end-after.ensures, c.next_cell-c-in-loop-c.ensures.later, c.loop-c-test.true)
 
 pub loop-c-preserved : goal.loop-c-preserved
 loop-c-preserved c =
     let x = c.loop-c.invariant.0 in
-    let n = c.next_cell-c-in-loop-c.ensures.1 c.args.row (rest_of x.rest) (from_later x c.loop-c-test.true c.node_end-after.ensures) (from_rest x c.loop-c-test.true c.node_end-after.ensures) in
+    let n = c.next_cell-c-in-loop-c.ensures.cells c.args.row (rest_of x.rest) (from_later x c.loop-c-test.true c.node_end-after.ensures) (from_rest x c.loop-c-test.true c.node_end-after.ensures) in
     let e = from_turn x c.loop-c-test.true c.node_end-after.ensures c.next_cell-c-in-loop-c.result c.read_long-n.ensures n.1 in
     (n.0, omega (arith, length_first e, c.loop-c.invariant.1), omega (arith, sum_first e, c.loop-c.invariant.2), omega (arith, zeros_first e, c.loop-c.invariant.3, c.at_least_one.ensures))
 

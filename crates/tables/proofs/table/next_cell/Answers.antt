@@ -16,7 +16,10 @@ node_name-name-requires c =
 
 pub returns-then-is_table_cell : goal.returns-then-is_table_cell
 returns-then-is_table_cell c =
-    (c.loop-c.invariant.0, looking_done c.loop-c.invariant.1 (λ l. sym (c.is_table_cell.ensures ∙ ap is_table_cell c.node_name-name.ensures) ∙ c.if-is_table_cell.true))
+    record {
+      later = c.loop-c.invariant.0;
+      cells = looking_done c.loop-c.invariant.1 (λ l. sym (c.is_table_cell.ensures ∙ ap is_table_cell c.node_name-name.ensures) ∙ c.if-is_table_cell.true);
+    }
 
 pub node_end-c-requires : goal.node_end-c-requires
 node_end-c-requires c =
@@ -36,4 +39,7 @@ loop-c-preserved c =
 
 pub returns : goal.returns
 returns c =
-    (c.loop-c.invariant.0, looking_done c.loop-c.invariant.1 (λ l. absurd (omega arith)))
+    record {
+      later = c.loop-c.invariant.0;
+      cells = looking_done c.loop-c.invariant.1 (λ l. absurd (omega arith));
+    }

@@ -3,7 +3,7 @@ use mathlib.Core.List.{List}
 use mathlib.Core.Path.{◌≡◌, refl, sym, ◌∙◌}
 use lib.ListN.{length, take, drop}
 use lib.Seq.{length-take-le}
-use borrow.Author.Tests.{leb-true, leb-false, not-false}
+use borrow.Author.Tests.{leb-true, leb-false}
 use Rattle.spec.specs.Bytes.{Bytes}
 use Rattle.tables.specs.Spans.{cell_lengths, table_lengths, filled, width, marks}
 use Rattle.tables.proofs.Putting.{part_length, puts_reach}
@@ -12,20 +12,6 @@ use Rattle.tables.proofs.Gathering.{zeros_few}
 use Rattle.tables.proofs.Tables.{sized_full, sized_done}
 use native.Mathlib.Omega.{arith}
 use Rattle.tables.proofs.table.push_sized.Goals as goal
-
--- the cells' texts, those of the headings once more, and what else the lines take
-abbrev taken : tie.After-has-room → ℕ
-taken c =
-    let a = c.before.before.before.before.before.before.before.args in
-    a.n + a.bytes + (5 + 6 * a.cells + 9 * c.before.before.saturating-sub.result + a.empty + c.before.lines-marks.result)
-
-abbrev left : tie.After-has-room → ℕ
-left c =
-    let a = c.before.before.before.before.before.before.before.args in
-    length a.text.now - a.len - a.n
-
-fits : (c : tie.Else1) → c.before.before.before.before.before.before.before.before.args.len + c.before.before.before.before.before.before.before.before.args.n + c.before.before.before.before.before.before.before.before.args.n + c.before.before.before.before.before.before.before.before.args.bytes + (5 + 6 * c.before.before.before.before.before.before.before.before.args.cells + 9 * c.before.before.before.saturating-sub.result + c.before.before.before.before.before.before.before.before.args.empty + c.before.before.lines-marks.result) ≤ length c.before.before.before.before.before.before.before.before.args.text.now
-fits c = omega (arith, leb-true (taken c.before) (left c.before) (sym c.before.has_room.ensures ∙ not-false _ c.if1.false), c.before.before.before.before.before.before.before.before.requires.5)
 
 pub first_width-wide-requires : goal.first_width-wide-requires
 first_width-wide-requires c =
@@ -97,7 +83,7 @@ returns-then-not-has_room c =
     record {
       says = sized_full lens rows s (omega (arith, m, c.requires.3, c.requires.6)) (length a.text.now) (take a.len a.text.now)
           (omega
-          (arith, leb-false (taken c.before) (left c.before) (sym c.has_room.ensures ∙ c.if-not-has_room.true), c.saturating_sub-blanks.ensures, m, length-take-le a.len a.text.now (omega (arith, c.requires.5)), c.requires.2, c.requires.3, c.requires.4, c.requires.5, c.requires.6));
+          (arith, leb-false ((let a = c.args in a.n + a.bytes + (5 + 6 * a.cells + 9 * c.saturating_sub-blanks.result + a.empty + c.lines_marks-extra.result))) ((let a = c.args in length a.text.now - a.len - a.n)) (sym c.has_room.ensures ∙ c.if-not-has_room.true), c.saturating_sub-blanks.ensures, m, length-take-le a.len a.text.now (omega (arith, c.requires.5)), c.requires.2, c.requires.3, c.requires.4, c.requires.5, c.requires.6));
     }
 
 pub overflow_sub-base : goal.overflow_sub-base
@@ -106,7 +92,7 @@ overflow_sub-base c =
 
 pub lift-requires : goal.lift-requires
 lift-requires c =
-    (omega (arith, c.requires.5, fits c.before), omega (arith, c.requires.5))
+    (omega (arith, c.requires.5, (let it : c.args.len + c.args.n + c.args.n + c.args.bytes + (5 + 6 * c.args.cells + 9 * c.saturating_sub-blanks.result + c.args.empty + c.lines_marks-extra.result) ≤ length c.args.text.now = omega (arith, leb-true ((let a = c.args in a.n + a.bytes + (5 + 6 * a.cells + 9 * c.saturating_sub-blanks.result + a.empty + c.lines_marks-extra.result))) ((let a = c.args in length a.text.now - a.len - a.n)) (sym c.has_room.ensures ∙ c.if-not-has_room.false), c.requires.5) in it)), omega (arith, c.requires.5))
 
 pub put_table-done-requires : goal.put_table-done-requires
 put_table-done-requires c =
@@ -115,7 +101,7 @@ put_table-done-requires c =
       c.requires.1,
       c.requires.3,
       c.saturating_sub-blanks.ensures ∙ omega (arith, c.first_width-wide.ensures, c.requires.2),
-      omega (arith, fits c.before, c.requires.2, c.requires.3, c.requires.4, c.requires.6, c.lines_marks-extra.ensures),
+      omega (arith, (let it : c.args.len + c.args.n + c.args.n + c.args.bytes + (5 + 6 * c.args.cells + 9 * c.saturating_sub-blanks.result + c.args.empty + c.lines_marks-extra.result) ≤ length c.args.text.now = omega (arith, leb-true ((let a = c.args in a.n + a.bytes + (5 + 6 * a.cells + 9 * c.saturating_sub-blanks.result + a.empty + c.lines_marks-extra.result))) ((let a = c.args in length a.text.now - a.len - a.n)) (sym c.has_room.ensures ∙ c.if-not-has_room.false), c.requires.5) in it), c.requires.2, c.requires.3, c.requires.4, c.requires.6, c.lines_marks-extra.ensures),
       omega (arith, c.lift.ensures.long, c.requires.5, c.requires.6),
     )
 
@@ -133,4 +119,4 @@ returns c =
     let wide : c.first_width-wide.result ≡ width rows = c.first_width-wide.ensures in
     let more : c.lines_marks-extra.result ≡ marks rows = c.lines_marks-extra.ensures in
     sized_done lens rows s (omega (arith, m, c.requires.3, c.requires.6)) a.text.now _ a.len a.n _
-    (omega (arith, fits c.before, c.saturating_sub-blanks.ensures, c.requires.2, c.requires.3, c.requires.4, c.requires.6)) (sym m) refl c.lift.ensures refl c.put_table-done.ensures c.push_byte.ensures
+    (omega (arith, (let it : c.args.len + c.args.n + c.args.n + c.args.bytes + (5 + 6 * c.args.cells + 9 * c.saturating_sub-blanks.result + c.args.empty + c.lines_marks-extra.result) ≤ length c.args.text.now = omega (arith, leb-true ((let a = c.args in a.n + a.bytes + (5 + 6 * a.cells + 9 * c.saturating_sub-blanks.result + a.empty + c.lines_marks-extra.result))) ((let a = c.args in length a.text.now - a.len - a.n)) (sym c.has_room.ensures ∙ c.if-not-has_room.false), c.requires.5) in it), c.saturating_sub-blanks.ensures, c.requires.2, c.requires.3, c.requires.4, c.requires.6)) (sym m) refl c.lift.ensures refl c.put_table-done.ensures c.push_byte.ensures

@@ -25,7 +25,7 @@ next_cell-c-requires c =
 pub loop-c-init : goal.loop-c-init
 loop-c-init c =
     let a = c.args in
-    let n = c.next_cell-c.ensures.1 a.row c.requires.0.0 (omega arith) c.requires.0.1 in (
+    let n = c.next_cell-c.ensures.cells a.row c.requires.0.0 (omega arith) c.requires.0.1 in (
       n.0,
       subst (λ (l : List ℕ). Due a.text.now a.text.now a.len a.len (bars (columns a.under l (drop a.src a.text.now))) (bars (columns a.under (cell_lengths a.sheet.now a.nodes.now a.row (a.row + 1) a.to) (drop a.src a.text.now)))) n.1
           (due_all a.text.now a.len (bars (columns a.under (cell_lengths a.sheet.now a.nodes.now a.row (a.row + 1) a.to) (drop a.src a.text.now)))),
@@ -74,14 +74,14 @@ next_cell-c-requires-in-loop-c c =
 
 pub loop-c-smaller : goal.loop-c-smaller
 loop-c-smaller c =
-    omega (arith, (from_first c.loop-c.invariant.0 c.loop-c-test.true).later, c.node_end-after.ensures, c.next_cell-c-in-loop-c.ensures.0, c.loop-c-test.true)
+    omega (arith, (from_first c.loop-c.invariant.0 c.loop-c-test.true).later, c.node_end-after.ensures, c.next_cell-c-in-loop-c.ensures.later, c.loop-c-test.true)
 
 pub loop-c-preserved : goal.loop-c-preserved
 loop-c-preserved c =
     let a = c.args in
     let l = c.loop-c in
     let x = l.invariant.0 in
-    let n = c.next_cell-c-in-loop-c.ensures.1 a.row (rest_of x.rest) (from_later x c.loop-c-test.true c.node_end-after.ensures) (from_rest x c.loop-c-test.true c.node_end-after.ensures) in
+    let n = c.next_cell-c-in-loop-c.ensures.cells a.row (rest_of x.rest) (from_later x c.loop-c-test.true c.node_end-after.ensures) (from_rest x c.loop-c-test.true c.node_end-after.ensures) in
     let e = from_turn x c.loop-c-test.true c.node_end-after.ensures c.next_cell-c-in-loop-c.result c.read_long-n.ensures n.1 in (
       n.0,
       column_on a.under e l.at l.invariant.1 (λ q. omega (arith, c.requires.3 q, l.invariant.2)) c.put_column-end.ensures,

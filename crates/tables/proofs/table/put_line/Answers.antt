@@ -48,7 +48,7 @@ bounds-text-b c =
 pub overflow_add-result : goal.overflow_add-result
 overflow_add-result c =
     let a = c.args in
-    omega (arith, slice-write-text-2 c, length-set a.text.now a.len 124, c.put_byte_cells-b.ensures.long, c.put_columns-a.ensures.long)
+    omega (arith, bounds-text-b c, length-set a.text.now a.len 124, c.put_byte_cells-b.ensures.long, c.put_columns-a.ensures.long)
 
 pub shape_of-text : goal.shape_of-text
 shape_of-text c =
@@ -63,4 +63,4 @@ returns c =
     puts_as
     (line_parts (columns a.under lens (drop a.src (set a.text.now a.len 124))) (replicate a.blanks (a.fill ∷ []))
     ∙ ap (λ (x : List Bytes). bar_line (x ++ replicate a.blanks (a.fill ∷ []))) same)
-    (puts_then (puts_byte a.text.now a.len 124 (omega (arith, pre.1))) (puts_then c.put_columns-a.ensures (puts_then c.put_byte_cells-b.ensures (puts_byte _ _ 10 (slice-write-text-2 c)))))
+    (puts_then (puts_byte a.text.now a.len 124 (omega (arith, pre.1))) (puts_then c.put_columns-a.ensures (puts_then c.put_byte_cells-b.ensures (puts_byte _ _ 10 (bounds-text-b c)))))

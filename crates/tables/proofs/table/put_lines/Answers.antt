@@ -18,8 +18,8 @@ next_filled_row-r-requires c =
 pub loop-r-init : goal.loop-r-init
 loop-r-init c =
     let a = c.args in
-    let q = c.next_filled_row-r.ensures.1 c.requires.0.0 c.requires.0.1 in
-    let e = line_next a.sheet.now a.nodes.now a.from c.next_filled_row-r.result a.to c.requires.0.0 c.requires.0.1 c.next_filled_row-r.ensures.0 q in (
+    let q = c.next_filled_row-r.ensures.rows c.requires.0.0 c.requires.0.1 in
+    let e = line_next a.sheet.now a.nodes.now a.from c.next_filled_row-r.result a.to c.requires.0.0 c.requires.0.1 c.next_filled_row-r.ensures.later q in (
       (c.requires.0.0, q),
       subst (λ (z : List (List ℕ)). Due a.text.now a.text.now a.len a.len (bar_lines (cut_rows z (drop a.src a.text.now))) (bar_lines (cut_rows (filled (table_lengths a.sheet.now a.nodes.now a.from a.to)) (drop a.src a.text.now)))) e
           (due_all a.text.now a.len (bar_lines (cut_rows (filled (table_lengths a.sheet.now a.nodes.now a.from a.to)) (drop a.src a.text.now)))),
@@ -66,15 +66,15 @@ next_filled_row-r-requires-in-loop-r c =
 
 pub loop-r-smaller : goal.loop-r-smaller
 loop-r-smaller c =
-    omega (arith, c.next_filled_row-r-in-loop-r.ensures.0, c.loop-r-test.true)
+    omega (arith, c.next_filled_row-r-in-loop-r.ensures.later, c.loop-r-test.true)
 
 pub loop-r-preserved : goal.loop-r-preserved
 loop-r-preserved c =
     let a = c.args in
     let l = c.loop-r in
     let x = line_row a.sheet.now a.nodes.now l.r a.to l.invariant.0 c.loop-r-test.true in
-    let m = c.next_filled_row-r-in-loop-r.ensures.1 x.behind.0 x.behind.1 in
-    let s = line_next a.sheet.now a.nodes.now (l.r + 1) c.next_filled_row-r-in-loop-r.result a.to x.behind.0 x.behind.1 c.next_filled_row-r-in-loop-r.ensures.0 m in
+    let m = c.next_filled_row-r-in-loop-r.ensures.rows x.behind.0 x.behind.1 in
+    let s = line_next a.sheet.now a.nodes.now (l.r + 1) c.next_filled_row-r-in-loop-r.result a.to x.behind.0 x.behind.1 c.next_filled_row-r-in-loop-r.ensures.later m in
     let lens : List ℕ = cell_lengths a.sheet.now a.nodes.now l.r (l.r + 1) c.node_end-last.result in
     let more : List (List ℕ) = filled (table_lengths a.sheet.now a.nodes.now c.next_filled_row-r-in-loop-r.result a.to) in
     let e = line_turn x c.node_end-last.ensures c.next_filled_row-r-in-loop-r.result s in

@@ -8,13 +8,6 @@ use Rattle.tables.proofs.Cutting.{row_put, rule_put, table_is}
 use native.Mathlib.Omega.{arith}
 use Rattle.tables.proofs.table.put_table.Goals as goal
 
-row_count : (c : tie.After-put-rule-arg) → c.before.before.before.put-row.result ≡ c.before.before.before.before.before.before.before.before.args.len + 1 + sum (cell_lengths c.before.before.before.before.before.before.before.before.args.sheet.now c.before.before.before.before.before.before.before.before.args.nodes.now c.before.before.before.before.before.before.before.before.args.row (c.before.before.before.before.before.before.before.before.args.row + 1) c.before.before.before.before.before.before.before.before.args.end) + 3 * length (cell_lengths c.before.before.before.before.before.before.before.before.args.sheet.now c.before.before.before.before.before.before.before.before.args.nodes.now c.before.before.before.before.before.before.before.before.args.row (c.before.before.before.before.before.before.before.before.args.row + 1) c.before.before.before.before.before.before.before.before.args.end) + 4 * c.before.before.before.before.before.before.before.before.args.blanks + 2
-row_count c =
-    let a = c.before.before.before.before.before.before.before.before.args in
-    let t = set a.text.now a.len 10 in
-    let lens = cell_lengths a.sheet.now a.nodes.now a.row (a.row + 1) a.end in
-    omega (arith, c.before.before.before.put-row.ensures.count, row_put lens (drop a.src t) 32 a.blanks (omega (arith, length-drop a.src t, length-set a.text.now a.len 10, c.before.before.before.before.before.before.before.before.requires.2, c.before.before.before.before.before.before.before.before.requires.5)))
-
 pub bounds-text-len : goal.bounds-text-len
 bounds-text-len c =
     omega (arith, c.requires.4, c.requires.5)
@@ -31,7 +24,7 @@ put_row-a-requires c =
 pub put_rule-b-requires : goal.put_rule-b-requires
 put_rule-b-requires c =
     let a = c.args in
-    (c.requires.0, omega (arith, row_count c, c.requires.2, c.requires.4, c.requires.5, c.put_row-a.ensures.long, length-set a.text.now a.len 10))
+    (c.requires.0, omega (arith, (let it : c.put_row-a.result ≡ c.args.len + 1 + sum (cell_lengths c.args.sheet.now c.args.nodes.now c.args.row (c.args.row + 1) c.args.end) + 3 * length (cell_lengths c.args.sheet.now c.args.nodes.now c.args.row (c.args.row + 1) c.args.end) + 4 * c.args.blanks + 2 = let a = c.args in let t = set a.text.now a.len 10 in let lens = cell_lengths a.sheet.now a.nodes.now a.row (a.row + 1) a.end in omega (arith, c.put_row-a.ensures.count, row_put lens (drop a.src t) 32 a.blanks (omega (arith, length-drop a.src t, length-set a.text.now a.len 10, c.requires.2, c.requires.5))) in it), c.requires.2, c.requires.4, c.requires.5, c.put_row-a.ensures.long, length-set a.text.now a.len 10))
 
 pub overflow_add-src : goal.overflow_add-src
 overflow_add-src c =
@@ -42,7 +35,7 @@ put_lines-requires c =
     let a = c.args in
     let lens = cell_lengths a.sheet.now a.nodes.now a.row (a.row + 1) a.end in (
       c.requires.1,
-      omega (arith, row_count c.before, c.put_rule-b.ensures.count, rule_put lens 45 a.blanks, c.requires.2, c.requires.4),
+      omega (arith, (let it : c.put_row-a.result ≡ c.args.len + 1 + sum (cell_lengths c.args.sheet.now c.args.nodes.now c.args.row (c.args.row + 1) c.args.end) + 3 * length (cell_lengths c.args.sheet.now c.args.nodes.now c.args.row (c.args.row + 1) c.args.end) + 4 * c.args.blanks + 2 = let a = c.args in let t = set a.text.now a.len 10 in let lens = cell_lengths a.sheet.now a.nodes.now a.row (a.row + 1) a.end in omega (arith, c.put_row-a.ensures.count, row_put lens (drop a.src t) 32 a.blanks (omega (arith, length-drop a.src t, length-set a.text.now a.len 10, c.requires.2, c.requires.5))) in it), c.put_rule-b.ensures.count, rule_put lens 45 a.blanks, c.requires.2, c.requires.4),
       omega (arith, c.requires.5, c.put_rule-b.ensures.long, c.put_row-a.ensures.long, length-set a.text.now a.len 10),
     )
 
@@ -58,7 +51,7 @@ returns c =
     let rows = filled (table_lengths a.sheet.now a.nodes.now a.from a.to) in
     let p = puts_then (puts_byte a.text.now a.len 10 (omega (arith, c.requires.4, c.requires.5))) c.put_row-a.ensures in
     let q = puts_then p c.put_rule-b.ensures in
-    let far = puts_behind (a.src + a.bytes) q (omega (arith, row_count c.before, c.put_rule-b.ensures.count, rule_put lens 45 a.blanks, c.requires.2, c.requires.4)) in
+    let far = puts_behind (a.src + a.bytes) q (omega (arith, (let it : c.put_row-a.result ≡ c.args.len + 1 + sum (cell_lengths c.args.sheet.now c.args.nodes.now c.args.row (c.args.row + 1) c.args.end) + 3 * length (cell_lengths c.args.sheet.now c.args.nodes.now c.args.row (c.args.row + 1) c.args.end) + 4 * c.args.blanks + 2 = let a = c.args in let t = set a.text.now a.len 10 in let lens = cell_lengths a.sheet.now a.nodes.now a.row (a.row + 1) a.end in omega (arith, c.put_row-a.ensures.count, row_put lens (drop a.src t) 32 a.blanks (omega (arith, length-drop a.src t, length-set a.text.now a.len 10, c.requires.2, c.requires.5))) in it), c.put_rule-b.ensures.count, rule_put lens 45 a.blanks, c.requires.2, c.requires.4)) in
     puts_as
     (table_is lens rows a.text.now t _ a.src a.bytes a.blanks (drop-set-lt a.src a.text.now a.len 10 (omega (arith, c.requires.4))) far c.requires.2 c.requires.3)
     (puts_then q c.put_lines.ensures)
