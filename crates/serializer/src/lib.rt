@@ -62,7 +62,7 @@ pub mod progress;
 pub mod texts;
 
 // serializer.rs: the nodes from number `from` up to `to`, siblings of one another, each with itself; `levels` falls.
-#[cycle(alone_block_blocks_body_cell_cells_child_children_flat_flow_indented_inline_inside_item_items_kids_led_link_node_row_siblings_write_write_element_write_emphasis_write_link_write_list_write_table)]
+#[cycle(writers)]
 pub fn write(
     sheet: &[u8],
     own: bool,
@@ -99,7 +99,7 @@ pub fn write(
 }
 
 // The same. One text that stands alone is written at once.
-#[cycle(alone_block_blocks_body_cell_cells_child_children_flat_flow_indented_inline_inside_item_items_kids_led_link_node_row_siblings_write_write_element_write_emphasis_write_link_write_list_write_table)]
+#[cycle(writers)]
 fn siblings(
     sheet: &[u8],
     own: bool,
@@ -124,7 +124,7 @@ fn siblings(
 }
 
 // One node, with itself.
-#[cycle(alone_block_blocks_body_cell_cells_child_children_flat_flow_indented_inline_inside_item_items_kids_led_link_node_row_siblings_write_write_element_write_emphasis_write_link_write_list_write_table)]
+#[cycle(writers)]
 fn node(
     sheet: &[u8],
     own: bool,
@@ -156,7 +156,7 @@ fn node(
 }
 
 // What stands in an element that is opened, and its close.
-#[cycle(alone_block_blocks_body_cell_cells_child_children_flat_flow_indented_inline_inside_item_items_kids_led_link_node_row_siblings_write_write_element_write_emphasis_write_link_write_list_write_table)]
+#[cycle(writers)]
 fn inside(
     sheet: &[u8],
     own: bool,
@@ -190,7 +190,7 @@ fn inside(
 }
 
 // An element that has a writer of its own.
-#[cycle(alone_block_blocks_body_cell_cells_child_children_flat_flow_indented_inline_inside_item_items_kids_led_link_node_row_siblings_write_write_element_write_emphasis_write_link_write_list_write_table)]
+#[cycle(writers)]
 fn write_element(
     sheet: &[u8],
     own: bool,
@@ -231,7 +231,7 @@ fn write_element(
 }
 
 // The children of an element, and then the trim of the whole text.
-#[cycle(alone_block_blocks_body_cell_cells_child_children_flat_flow_indented_inline_inside_item_items_kids_led_link_node_row_siblings_write_write_element_write_emphasis_write_link_write_list_write_table)]
+#[cycle(writers)]
 fn kids(
     sheet: &[u8],
     own: bool,
@@ -259,7 +259,7 @@ fn kids(
 }
 
 // elements/emphasis.rs.
-#[cycle(alone_block_blocks_body_cell_cells_child_children_flat_flow_indented_inline_inside_item_items_kids_led_link_node_row_siblings_write_write_element_write_emphasis_write_link_write_list_write_table)]
+#[cycle(writers)]
 fn write_emphasis(
     sheet: &[u8],
     own: bool,
@@ -296,7 +296,7 @@ fn write_emphasis(
 }
 
 // elements/link.rs.
-#[cycle(alone_block_blocks_body_cell_cells_child_children_flat_flow_indented_inline_inside_item_items_kids_led_link_node_row_siblings_write_write_element_write_emphasis_write_link_write_list_write_table)]
+#[cycle(writers)]
 fn write_link(
     sheet: &[u8],
     own: bool,
@@ -326,7 +326,7 @@ fn write_link(
 }
 
 // A link to what stands from `from` to `to` in the sheet.
-#[cycle(alone_block_blocks_body_cell_cells_child_children_flat_flow_indented_inline_inside_item_items_kids_led_link_node_row_siblings_write_write_element_write_emphasis_write_link_write_list_write_table)]
+#[cycle(writers)]
 fn link(
     sheet: &[u8],
     own: bool,
@@ -378,7 +378,7 @@ fn link(
 }
 
 // A link that shows what `write` gives for its content.
-#[cycle(alone_block_blocks_body_cell_cells_child_children_flat_flow_indented_inline_inside_item_items_kids_led_link_node_row_siblings_write_write_element_write_emphasis_write_link_write_list_write_table)]
+#[cycle(writers)]
 fn body(
     sheet: &[u8],
     own: bool,
@@ -415,7 +415,7 @@ fn body(
 }
 
 // elements/list.rs.
-#[cycle(alone_block_blocks_body_cell_cells_child_children_flat_flow_indented_inline_inside_item_items_kids_led_link_node_row_siblings_write_write_element_write_emphasis_write_link_write_list_write_table)]
+#[cycle(writers)]
 fn write_list(
     sheet: &[u8],
     own: bool,
@@ -443,7 +443,7 @@ fn write_list(
 }
 
 // The children of a list.
-#[cycle(alone_block_blocks_body_cell_cells_child_children_flat_flow_indented_inline_inside_item_items_kids_led_link_node_row_siblings_write_write_element_write_emphasis_write_link_write_list_write_table)]
+#[cycle(writers)]
 fn items(
     sheet: &[u8],
     own: bool,
@@ -484,7 +484,7 @@ fn items(
 }
 
 // A child of a list; `li` says that it is an item, which steps the context.
-#[cycle(alone_block_blocks_body_cell_cells_child_children_flat_flow_indented_inline_inside_item_items_kids_led_link_node_row_siblings_write_write_element_write_emphasis_write_link_write_list_write_table)]
+#[cycle(writers)]
 fn item(
     sheet: &[u8],
     own: bool,
@@ -527,7 +527,7 @@ fn item(
 }
 
 // An item without blocks: `write_list_item` of elements/list.rs.
-#[cycle(alone_block_blocks_body_cell_cells_child_children_flat_flow_indented_inline_inside_item_items_kids_led_link_node_row_siblings_write_write_element_write_emphasis_write_link_write_list_write_table)]
+#[cycle(writers)]
 fn flat(
     sheet: &[u8],
     own: bool,
@@ -574,7 +574,7 @@ fn flat(
 }
 
 // An item with blocks: `write_list_item_blocks` of elements/list.rs.
-#[cycle(alone_block_blocks_body_cell_cells_child_children_flat_flow_indented_inline_inside_item_items_kids_led_link_node_row_siblings_write_write_element_write_emphasis_write_link_write_list_write_table)]
+#[cycle(writers)]
 fn blocks(
     sheet: &[u8],
     own: bool,
@@ -633,7 +633,7 @@ fn blocks(
 }
 
 // The children of an item; those of a wrapper take its place.
-#[cycle(alone_block_blocks_body_cell_cells_child_children_flat_flow_indented_inline_inside_item_items_kids_led_link_node_row_siblings_write_write_element_write_emphasis_write_link_write_list_write_table)]
+#[cycle(writers)]
 fn children(
     sheet: &[u8],
     own: bool,
@@ -675,7 +675,7 @@ fn children(
 }
 
 // A child of an item; it and its siblings end at `to`.
-#[cycle(alone_block_blocks_body_cell_cells_child_children_flat_flow_indented_inline_inside_item_items_kids_led_link_node_row_siblings_write_write_element_write_emphasis_write_link_write_list_write_table)]
+#[cycle(writers)]
 fn child(
     sheet: &[u8],
     own: bool,
@@ -726,7 +726,7 @@ fn child(
 }
 
 // A child of an item that is no wrapper; `blank` says that it is a blank text.
-#[cycle(alone_block_blocks_body_cell_cells_child_children_flat_flow_indented_inline_inside_item_items_kids_led_link_node_row_siblings_write_write_element_write_emphasis_write_link_write_list_write_table)]
+#[cycle(writers)]
 fn alone(
     sheet: &[u8],
     own: bool,
@@ -779,7 +779,7 @@ fn alone(
 }
 
 // A child of an item that is no block.
-#[cycle(alone_block_blocks_body_cell_cells_child_children_flat_flow_indented_inline_inside_item_items_kids_led_link_node_row_siblings_write_write_element_write_emphasis_write_link_write_list_write_table)]
+#[cycle(writers)]
 fn inline(
     sheet: &[u8],
     own: bool,
@@ -818,7 +818,7 @@ fn inline(
 }
 
 // A block of an item.
-#[cycle(alone_block_blocks_body_cell_cells_child_children_flat_flow_indented_inline_inside_item_items_kids_led_link_node_row_siblings_write_write_element_write_emphasis_write_link_write_list_write_table)]
+#[cycle(writers)]
 fn block(
     sheet: &[u8],
     own: bool,
@@ -850,7 +850,7 @@ fn block(
 }
 
 // A block of an item that is no rule, with what stands before and behind it.
-#[cycle(alone_block_blocks_body_cell_cells_child_children_flat_flow_indented_inline_inside_item_items_kids_led_link_node_row_siblings_write_write_element_write_emphasis_write_link_write_list_write_table)]
+#[cycle(writers)]
 fn led(
     sheet: &[u8],
     own: bool,
@@ -878,7 +878,7 @@ fn led(
 }
 
 // A code block, or any other block without its own node.
-#[cycle(alone_block_blocks_body_cell_cells_child_children_flat_flow_indented_inline_inside_item_items_kids_led_link_node_row_siblings_write_write_element_write_emphasis_write_link_write_list_write_table)]
+#[cycle(writers)]
 fn flow(
     sheet: &[u8],
     own: bool,
@@ -913,7 +913,7 @@ fn flow(
 }
 
 // A code block of an item: `write_list_item_indented` of elements/list.rs.
-#[cycle(alone_block_blocks_body_cell_cells_child_children_flat_flow_indented_inline_inside_item_items_kids_led_link_node_row_siblings_write_write_element_write_emphasis_write_link_write_list_write_table)]
+#[cycle(writers)]
 fn indented(
     sheet: &[u8],
     own: bool,
@@ -950,7 +950,7 @@ fn indented(
 }
 
 // elements/table.rs.
-#[cycle(alone_block_blocks_body_cell_cells_child_children_flat_flow_indented_inline_inside_item_items_kids_led_link_node_row_siblings_write_write_element_write_emphasis_write_link_write_list_write_table)]
+#[cycle(writers)]
 fn write_table(
     sheet: &[u8],
     own: bool,
@@ -980,7 +980,7 @@ fn write_table(
 }
 
 // The cells of the rows from number `from` on, each a text of its own behind the others.
-#[cycle(alone_block_blocks_body_cell_cells_child_children_flat_flow_indented_inline_inside_item_items_kids_led_link_node_row_siblings_write_write_element_write_emphasis_write_link_write_list_write_table)]
+#[cycle(writers)]
 fn cells(
     sheet: &[u8],
     own: bool,
@@ -1014,7 +1014,7 @@ fn cells(
 }
 
 // The cells of one row.
-#[cycle(alone_block_blocks_body_cell_cells_child_children_flat_flow_indented_inline_inside_item_items_kids_led_link_node_row_siblings_write_write_element_write_emphasis_write_link_write_list_write_table)]
+#[cycle(writers)]
 fn row(
     sheet: &[u8],
     own: bool,
@@ -1050,7 +1050,7 @@ fn row(
 }
 
 // The text of a cell.
-#[cycle(alone_block_blocks_body_cell_cells_child_children_flat_flow_indented_inline_inside_item_items_kids_led_link_node_row_siblings_write_write_element_write_emphasis_write_link_write_list_write_table)]
+#[cycle(writers)]
 fn cell(
     sheet: &[u8],
     own: bool,

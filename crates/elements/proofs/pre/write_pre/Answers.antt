@@ -15,7 +15,7 @@ pre_in_link-requires c =
 pub returns-then-opts : goal.returns-then-opts
 unfolding write_pre
 returns-then-opts c =
-    λ name attrs kids anc x y. alike (yes _ _ c.if-opts.true) (c.pre.ensures c.args.i kids (element_kids x c.node_end-to.ensures))
+    λ name attrs kids anc x y. alike (yes _ _ c.if-opts.true) (c.pre_in_link.ensures c.args.i kids (element_kids x c.node_end-to.ensures))
 
 pub returns : goal.returns
 unfolding write_pre

@@ -25,7 +25,7 @@ use Rattle.serializer.proofs.NodeSteps.{some_one, kids_is, one_is}
 use Rattle.serializer.proofs.Placing.{placed_node, placed_kids, placeds_at}
 use borrow.Author.Rules.{rules}
 use native.Mathlib.Omega.{arith}
-use Rattle.serializer.proofs.+alone_block_blocks_body_cell_cells_child_children_flat_flow_indented_inline_inside_item_items_kids_led_link_node_row_siblings_write_write_element_write_emphasis_write_link_write_list_write_table.Lts-kids as lts
+use Rattle.serializer.proofs.+writers.Lts-kids as lts
 use Rattle.serializer.proofs.kids.Reads as kids
 use Rattle.tree.proofs.nodes.node_end.Reads as node-end-reads
 use Rattle.serializer.proofs.texts.is_one_text.Reads as is-one-text-reads
@@ -33,7 +33,7 @@ use Rattle.serializer.proofs.options.unpacked.Reads as unpacked-reads
 use Rattle.serializer.proofs.texts.trim_behind_text.Reads as trim-behind-text-reads
 use Rattle.serializer.proofs.write.Reads as write
 use Rattle.normalized.proofs.text_utils.trim_space.Reads as trim-space-reads
-use Rattle.serializer.proofs.+alone_block_blocks_body_cell_cells_child_children_flat_flow_indented_inline_inside_item_items_kids_led_link_node_row_siblings_write_write_element_write_emphasis_write_link_write_list_write_table.Proof.Measures.{kids-at, write-below}
+use Rattle.serializer.proofs.+writers.Proof.Measures.{kids-at, write-below}
 
 abbrev claims : ℕ → lts.Claims
 claims t = (node-end-reads.Asked, node-end-reads.Learnt, is-one-text-reads.Asked, is-one-text-reads.Learnt, unpacked-reads.Asked, unpacked-reads.Learnt, trim-behind-text-reads.Asked, trim-behind-text-reads.Learnt, write-below t, write.Post, trim-space-reads.Asked, trim-space-reads.Learnt)

@@ -14,11 +14,11 @@ use Rattle.serializer.proofs.ItemChild.{child_falls, goes_before}
 use Rattle.serializer.proofs.Placing.{placeds_first, placeds_on, placeds_at, placeds_later, placeds_within, node_kept}
 use borrow.Author.Rules.{rules}
 use native.Mathlib.Omega.{arith}
-use Rattle.serializer.proofs.+alone_block_blocks_body_cell_cells_child_children_flat_flow_indented_inline_inside_item_items_kids_led_link_node_row_siblings_write_write_element_write_emphasis_write_link_write_list_write_table.Lts-children as lts
+use Rattle.serializer.proofs.+writers.Lts-children as lts
 use Rattle.serializer.proofs.children.Reads as children
 use Rattle.serializer.proofs.child.Reads as child
 use Rattle.tree.proofs.nodes.node_end.Reads as node-end-reads
-use Rattle.serializer.proofs.+alone_block_blocks_body_cell_cells_child_children_flat_flow_indented_inline_inside_item_items_kids_led_link_node_row_siblings_write_write_element_write_emphasis_write_link_write_list_write_table.Proof.Measures.{children-at, child-below}
+use Rattle.serializer.proofs.+writers.Proof.Measures.{children-at, child-below}
 
 abbrev claims : ℕ → lts.Claims
 claims t = (child-below t, child.Post, node-end-reads.Asked, node-end-reads.Learnt)

@@ -28,7 +28,7 @@ use Rattle.elements.proofs.Nesting.{back_text}
 use Rattle.serializer.proofs.Placing.{placed_node, placed_kids}
 use borrow.Author.Rules.{rules}
 use native.Mathlib.Omega.{arith}
-use Rattle.serializer.proofs.+alone_block_blocks_body_cell_cells_child_children_flat_flow_indented_inline_inside_item_items_kids_led_link_node_row_siblings_write_write_element_write_emphasis_write_link_write_list_write_table.Lts-link as lts
+use Rattle.serializer.proofs.+writers.Lts-link as lts
 use Rattle.serializer.proofs.link.Reads as link
 use Rattle.tree.proofs.nodes.node_end.Reads as node-end-reads
 use Rattle.spec.proofs.ctx.FormatOpts.fresh.Reads as fresh-reads
@@ -40,7 +40,7 @@ use Rattle.spec.proofs.ctx.FormatOpts.skip_escape.Reads as skip-escape-reads
 use Rattle.nodes.proofs.nodes.write_text.Reads as write-text-reads
 use Rattle.tree.proofs.nodes.node_place.Reads as node-place-reads
 use Rattle.elements.proofs.link.push_text_link.Reads as push-text-link-reads
-use Rattle.serializer.proofs.+alone_block_blocks_body_cell_cells_child_children_flat_flow_indented_inline_inside_item_items_kids_led_link_node_row_siblings_write_write_element_write_emphasis_write_link_write_list_write_table.Proof.Measures.{link_at, body_below}
+use Rattle.serializer.proofs.+writers.Proof.Measures.{link_at, body_below}
 
 abbrev claims : ℕ → lts.Claims
 claims t = (node-end-reads.Asked, node-end-reads.Learnt, fresh-reads.Asked, fresh-reads.Learnt, has-element-reads.Asked, has-element-reads.Learnt, link-body-reads.Asked, link-body-reads.Learnt, body_below t, body.Post, include-node-reads.Asked, include-node-reads.Learnt, skip-escape-reads.Asked, skip-escape-reads.Learnt, write-text-reads.Asked, write-text-reads.Learnt, node-place-reads.Asked, node-place-reads.Learnt, push-text-link-reads.Asked, push-text-link-reads.Learnt)

@@ -17,13 +17,13 @@ use Rattle.serializer.proofs.NodeSteps.{some_one, one_is}
 use Rattle.serializer.proofs.Placing.{placeds_at}
 use borrow.Author.Rules.{rules}
 use native.Mathlib.Omega.{arith}
-use Rattle.serializer.proofs.+alone_block_blocks_body_cell_cells_child_children_flat_flow_indented_inline_inside_item_items_kids_led_link_node_row_siblings_write_write_element_write_emphasis_write_link_write_list_write_table.Lts-siblings as lts
+use Rattle.serializer.proofs.+writers.Lts-siblings as lts
 use Rattle.serializer.proofs.siblings.Reads as siblings
 use Rattle.serializer.proofs.texts.is_one_text.Reads as is-one-text-reads
 use Rattle.serializer.proofs.options.unpacked.Reads as unpacked-reads
 use Rattle.nodes.proofs.nodes.write_text_node.Reads as write-text-node-reads
 use Rattle.serializer.proofs.write.Reads as write
-use Rattle.serializer.proofs.+alone_block_blocks_body_cell_cells_child_children_flat_flow_indented_inline_inside_item_items_kids_led_link_node_row_siblings_write_write_element_write_emphasis_write_link_write_list_write_table.Proof.Measures.{siblings-at, write-below}
+use Rattle.serializer.proofs.+writers.Proof.Measures.{siblings-at, write-below}
 
 abbrev claims : ℕ → lts.Claims
 claims t = (is-one-text-reads.Asked, is-one-text-reads.Learnt, unpacked-reads.Asked, unpacked-reads.Learnt, write-text-node-reads.Asked, write-text-node-reads.Learnt, write-below t, write.Post)

@@ -25,7 +25,7 @@ use Rattle.serializer.proofs.NodeSteps.{inside_writer, inside_plain}
 use Rattle.serializer.proofs.Placing.{placed_node, placed_kids}
 use borrow.Author.Rules.{rules}
 use native.Mathlib.Omega.{arith}
-use Rattle.serializer.proofs.+alone_block_blocks_body_cell_cells_child_children_flat_flow_indented_inline_inside_item_items_kids_led_link_node_row_siblings_write_write_element_write_emphasis_write_link_write_list_write_table.Lts-inside as lts
+use Rattle.serializer.proofs.+writers.Lts-inside as lts
 use Rattle.serializer.proofs.inside.Reads as inside
 use Rattle.nodes.proofs.nodes.node_name.Reads as node-name-reads
 use Rattle.serializer.proofs.options.unpacked.Reads as unpacked-reads
@@ -34,7 +34,7 @@ use Rattle.serializer.proofs.write_element.Reads as write-element
 use Rattle.tree.proofs.nodes.node_end.Reads as node-end-reads
 use Rattle.serializer.proofs.siblings.Reads as siblings
 use Rattle.elements.proofs.steps.closed.Reads as closed-reads
-use Rattle.serializer.proofs.+alone_block_blocks_body_cell_cells_child_children_flat_flow_indented_inline_inside_item_items_kids_led_link_node_row_siblings_write_write_element_write_emphasis_write_link_write_list_write_table.Proof.Measures.{inside-at, write-element-below, siblings-below}
+use Rattle.serializer.proofs.+writers.Proof.Measures.{inside-at, write-element-below, siblings-below}
 
 abbrev claims : ℕ → lts.Claims
 claims t = (node-name-reads.Asked, node-name-reads.Learnt, unpacked-reads.Asked, unpacked-reads.Learnt, has-writer-reads.Asked, has-writer-reads.Learnt, write-element-below t, write-element.Post, node-end-reads.Asked, node-end-reads.Learnt, siblings-below t, siblings.Post, closed-reads.Asked, closed-reads.Learnt)

@@ -18,11 +18,11 @@ use Rattle.serializer.proofs.Placing.{placeds_first, placeds_on, placeds_at, pla
 use Rattle.serializer.proofs.Turns.{Turn, turn_first, turn_on, turn_stop, turn_last}
 use borrow.Author.Rules.{rules}
 use native.Mathlib.Omega.{arith}
-use Rattle.serializer.proofs.+alone_block_blocks_body_cell_cells_child_children_flat_flow_indented_inline_inside_item_items_kids_led_link_node_row_siblings_write_write_element_write_emphasis_write_link_write_list_write_table.Lts-write as lts
+use Rattle.serializer.proofs.+writers.Lts-write as lts
 use Rattle.serializer.proofs.write.Reads as write
 use Rattle.serializer.proofs.node.Reads as node
 use Rattle.tree.proofs.nodes.node_end.Reads as node-end-reads
-use Rattle.serializer.proofs.+alone_block_blocks_body_cell_cells_child_children_flat_flow_indented_inline_inside_item_items_kids_led_link_node_row_siblings_write_write_element_write_emphasis_write_link_write_list_write_table.Proof.Measures.{write-at, node-below}
+use Rattle.serializer.proofs.+writers.Proof.Measures.{write-at, node-below}
 
 abbrev claims : ℕ → lts.Claims
 claims t = (node-below t, node.Post, node-end-reads.Asked, node-end-reads.Learnt)

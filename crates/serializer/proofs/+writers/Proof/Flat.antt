@@ -18,14 +18,14 @@ use Rattle.serializer.specs.Options.{unpacked}
 use Rattle.serializer.proofs.Answers.{written-reaches, both-full}
 use borrow.Author.Rules.{rules}
 use native.Mathlib.Omega.{arith}
-use Rattle.serializer.proofs.+alone_block_blocks_body_cell_cells_child_children_flat_flow_indented_inline_inside_item_items_kids_led_link_node_row_siblings_write_write_element_write_emphasis_write_link_write_list_write_table.Lts-flat as lts
+use Rattle.serializer.proofs.+writers.Lts-flat as lts
 use Rattle.serializer.proofs.flat.Reads as flat
 use Rattle.list_items.proofs.start_item.Reads as start-item-reads
 use Rattle.spec.proofs.ctx.FormatOpts.list_item.Reads as list-item-reads
 use Rattle.serializer.proofs.options.packed.Reads as packed-reads
 use Rattle.serializer.proofs.kids.Reads as kids
 use Rattle.normalized.proofs.text_utils.push_linebreak.Reads as push-linebreak-reads
-use Rattle.serializer.proofs.+alone_block_blocks_body_cell_cells_child_children_flat_flow_indented_inline_inside_item_items_kids_led_link_node_row_siblings_write_write_element_write_emphasis_write_link_write_list_write_table.Proof.Measures.{flat-at, kids-below}
+use Rattle.serializer.proofs.+writers.Proof.Measures.{flat-at, kids-below}
 
 abbrev claims : ℕ → lts.Claims
 claims t = (start-item-reads.Asked, start-item-reads.Learnt, list-item-reads.Asked, list-item-reads.Learnt, packed-reads.Asked, packed-reads.Learnt, kids-below t, kids.Post, push-linebreak-reads.Asked, push-linebreak-reads.Learnt)

@@ -25,14 +25,14 @@ use Rattle.serializer.proofs.Placing.{placeds_first, placeds_on, placeds_at, pla
 use Rattle.serializer.proofs.Turns.{Turn, turn_first, turn_on, turn_stop, turn_last}
 use borrow.Author.Rules.{rules}
 use native.Mathlib.Omega.{arith}
-use Rattle.serializer.proofs.+alone_block_blocks_body_cell_cells_child_children_flat_flow_indented_inline_inside_item_items_kids_led_link_node_row_siblings_write_write_element_write_emphasis_write_link_write_list_write_table.Lts-items as lts
+use Rattle.serializer.proofs.+writers.Lts-items as lts
 use Rattle.serializer.proofs.items.Reads as items
 use Rattle.tree.proofs.nodes.node_place.Reads as node-place-reads
 use Rattle.nodes.proofs.nodes.node_name.Reads as node-name-reads
 use Rattle.elements.proofs.item_steps.renumbered.Reads as renumbered-reads
 use Rattle.serializer.proofs.item.Reads as item
 use Rattle.tree.proofs.nodes.node_end.Reads as node-end-reads
-use Rattle.serializer.proofs.+alone_block_blocks_body_cell_cells_child_children_flat_flow_indented_inline_inside_item_items_kids_led_link_node_row_siblings_write_write_element_write_emphasis_write_link_write_list_write_table.Proof.Measures.{items_at, item-below}
+use Rattle.serializer.proofs.+writers.Proof.Measures.{items_at, item-below}
 
 abbrev claims : ℕ → lts.Claims
 claims t = (node-place-reads.Asked, node-place-reads.Learnt, node-name-reads.Asked, node-name-reads.Learnt, renumbered-reads.Asked, renumbered-reads.Learnt, item-below t, item.Post, node-end-reads.Asked, node-end-reads.Learnt)

@@ -15,14 +15,14 @@ use Rattle.serializer.proofs.ItemBlocks.{fits_alike, child_offset, node_range, i
 use Rattle.serializer.proofs.Placing.{placeds_at}
 use borrow.Author.Rules.{rules}
 use native.Mathlib.Omega.{arith}
-use Rattle.serializer.proofs.+alone_block_blocks_body_cell_cells_child_children_flat_flow_indented_inline_inside_item_items_kids_led_link_node_row_siblings_write_write_element_write_emphasis_write_link_write_list_write_table.Lts-inline as lts
+use Rattle.serializer.proofs.+writers.Lts-inline as lts
 use Rattle.serializer.proofs.inline.Reads as inline
 use Rattle.tree.proofs.nodes.node_end.Reads as node-end-reads
 use Rattle.elements.proofs.item_steps.child_opts.Reads as child-opts-reads
 use Rattle.lists_links.proofs.list.push_inline_lead.Reads as push-inline-lead-reads
 use Rattle.serializer.proofs.options.packed.Reads as packed-reads
 use Rattle.serializer.proofs.write.Reads as write
-use Rattle.serializer.proofs.+alone_block_blocks_body_cell_cells_child_children_flat_flow_indented_inline_inside_item_items_kids_led_link_node_row_siblings_write_write_element_write_emphasis_write_link_write_list_write_table.Proof.Measures.{inline-at, write-below}
+use Rattle.serializer.proofs.+writers.Proof.Measures.{inline-at, write-below}
 
 abbrev claims : ℕ → lts.Claims
 claims t = (node-end-reads.Asked, node-end-reads.Learnt, child-opts-reads.Asked, child-opts-reads.Learnt, push-inline-lead-reads.Asked, push-inline-lead-reads.Learnt, packed-reads.Asked, packed-reads.Learnt, write-below t, write.Post)

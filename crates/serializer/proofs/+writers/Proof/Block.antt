@@ -8,12 +8,12 @@ use Rattle.serializer.specs.Writers.{self_at}
 use Rattle.serializer.proofs.Falls.{falls_in}
 use Rattle.serializer.proofs.ItemBlocks.{block_rule, block_led}
 use borrow.Author.Rules.{rules}
-use Rattle.serializer.proofs.+alone_block_blocks_body_cell_cells_child_children_flat_flow_indented_inline_inside_item_items_kids_led_link_node_row_siblings_write_write_element_write_emphasis_write_link_write_list_write_table.Lts-block as lts
+use Rattle.serializer.proofs.+writers.Lts-block as lts
 use Rattle.serializer.proofs.block.Reads as block
 use Rattle.serializer.proofs.progress.rule_block.Reads as rule-block-reads
 use Rattle.serializer.proofs.led.Reads as led
 use Rattle.serializer.proofs.progress.going_on.Reads as going-on-reads
-use Rattle.serializer.proofs.+alone_block_blocks_body_cell_cells_child_children_flat_flow_indented_inline_inside_item_items_kids_led_link_node_row_siblings_write_write_element_write_emphasis_write_link_write_list_write_table.Proof.Measures.{block_at, led-below}
+use Rattle.serializer.proofs.+writers.Proof.Measures.{block_at, led-below}
 
 abbrev claims : ℕ → lts.Claims
 claims t = (rule-block-reads.Asked, rule-block-reads.Learnt, led-below t, led.Post, going-on-reads.Asked, going-on-reads.Learnt)

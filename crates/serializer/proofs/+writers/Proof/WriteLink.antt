@@ -17,7 +17,7 @@ use Rattle.serializer.proofs.LinkTo.{link_some, link_none}
 use Rattle.serializer.proofs.Placing.{placed_node}
 use borrow.Author.Rules.{rules}
 use native.Mathlib.Omega.{arith}
-use Rattle.serializer.proofs.+alone_block_blocks_body_cell_cells_child_children_flat_flow_indented_inline_inside_item_items_kids_led_link_node_row_siblings_write_write_element_write_emphasis_write_link_write_list_write_table.Lts-write_link as lts
+use Rattle.serializer.proofs.+writers.Lts-write_link as lts
 use Rattle.serializer.proofs.write_link.Reads as write-link
 use Rattle.tree.proofs.nodes.node_place.Reads as node-place-reads
 use Rattle.spec.proofs.ctx.FormatOpts.fresh.Reads as fresh-reads
@@ -25,7 +25,7 @@ use Rattle.tree.proofs.attributes.attribute.Reads as attribute-reads
 use Rattle.serializer.proofs.link.Reads as link
 use Rattle.serializer.proofs.options.packed.Reads as packed-reads
 use Rattle.serializer.proofs.kids.Reads as kids
-use Rattle.serializer.proofs.+alone_block_blocks_body_cell_cells_child_children_flat_flow_indented_inline_inside_item_items_kids_led_link_node_row_siblings_write_write_element_write_emphasis_write_link_write_list_write_table.Proof.Measures.{write-link-at, link-below, kids-below}
+use Rattle.serializer.proofs.+writers.Proof.Measures.{write-link-at, link-below, kids-below}
 
 abbrev claims : ℕ → lts.Claims
 claims t = (node-place-reads.Asked, node-place-reads.Learnt, fresh-reads.Asked, fresh-reads.Learnt, attribute-reads.Asked, attribute-reads.Learnt, link-below t, link.Post, packed-reads.Asked, packed-reads.Learnt, kids-below t, kids.Post)

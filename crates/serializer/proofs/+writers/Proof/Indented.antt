@@ -13,14 +13,14 @@ use Rattle.serializer.proofs.ItemBlocks.{fits_alike, node_range, indented_fits, 
 use Rattle.serializer.proofs.Placing.{placed_alone, placed_node}
 use borrow.Author.Rules.{rules}
 use native.Mathlib.Omega.{arith}
-use Rattle.serializer.proofs.+alone_block_blocks_body_cell_cells_child_children_flat_flow_indented_inline_inside_item_items_kids_led_link_node_row_siblings_write_write_element_write_emphasis_write_link_write_list_write_table.Lts-indented as lts
+use Rattle.serializer.proofs.+writers.Lts-indented as lts
 use Rattle.serializer.proofs.indented.Reads as indented
 use Rattle.tree.proofs.nodes.node_end.Reads as node-end-reads
 use Rattle.spec.proofs.ctx.FormatOpts.include_node.Reads as include-node-reads
 use Rattle.serializer.proofs.options.packed.Reads as packed-reads
 use Rattle.serializer.proofs.write.Reads as write
 use Rattle.lists_links.proofs.list_indented.push_indented.Reads as push-indented-reads
-use Rattle.serializer.proofs.+alone_block_blocks_body_cell_cells_child_children_flat_flow_indented_inline_inside_item_items_kids_led_link_node_row_siblings_write_write_element_write_emphasis_write_link_write_list_write_table.Proof.Measures.{indented-at, write-below}
+use Rattle.serializer.proofs.+writers.Proof.Measures.{indented-at, write-below}
 
 abbrev claims : ℕ → lts.Claims
 claims t = (node-end-reads.Asked, node-end-reads.Learnt, include-node-reads.Asked, include-node-reads.Learnt, packed-reads.Asked, packed-reads.Learnt, write-below t, write.Post, push-indented-reads.Asked, push-indented-reads.Learnt)

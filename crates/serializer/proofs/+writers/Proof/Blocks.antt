@@ -21,14 +21,14 @@ use Rattle.elements.proofs.Languages.{around_it}
 use Rattle.serializer.proofs.Placing.{placed_node, placed_kids}
 use borrow.Author.Rules.{rules}
 use native.Mathlib.Omega.{arith}
-use Rattle.serializer.proofs.+alone_block_blocks_body_cell_cells_child_children_flat_flow_indented_inline_inside_item_items_kids_led_link_node_row_siblings_write_write_element_write_emphasis_write_link_write_list_write_table.Lts-blocks as lts
+use Rattle.serializer.proofs.+writers.Lts-blocks as lts
 use Rattle.serializer.proofs.blocks.Reads as blocks
 use Rattle.tree.proofs.nodes.node_end.Reads as node-end-reads
 use Rattle.list_items.proofs.start_item_blocks.Reads as start-item-blocks-reads
 use Rattle.lists_links.proofs.list.item_from.Reads as item-from-reads
 use Rattle.serializer.proofs.children.Reads as children
 use Rattle.lists_links.proofs.list.end_item.Reads as end-item-reads
-use Rattle.serializer.proofs.+alone_block_blocks_body_cell_cells_child_children_flat_flow_indented_inline_inside_item_items_kids_led_link_node_row_siblings_write_write_element_write_emphasis_write_link_write_list_write_table.Proof.Measures.{blocks_at, children-below}
+use Rattle.serializer.proofs.+writers.Proof.Measures.{blocks_at, children-below}
 
 abbrev claims : ℕ → lts.Claims
 claims t = (node-end-reads.Asked, node-end-reads.Learnt, start-item-blocks-reads.Asked, start-item-blocks-reads.Learnt, item-from-reads.Asked, item-from-reads.Learnt, children-below t, children.Post, end-item-reads.Asked, end-item-reads.Learnt)

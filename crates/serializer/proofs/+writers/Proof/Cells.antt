@@ -9,11 +9,11 @@ use Rattle.serializer.proofs.Falls.{falls_in}
 use Rattle.serializer.proofs.RowsWriting.{RowsProgress, rows_start, rows_reach, rows_long, rows_end, rows_row, rows_keep, rows_behind, rows_stop, rows_on}
 use borrow.Author.Rules.{rules}
 use native.Mathlib.Omega.{arith}
-use Rattle.serializer.proofs.+alone_block_blocks_body_cell_cells_child_children_flat_flow_indented_inline_inside_item_items_kids_led_link_node_row_siblings_write_write_element_write_emphasis_write_link_write_list_write_table.Lts-cells as lts
+use Rattle.serializer.proofs.+writers.Lts-cells as lts
 use Rattle.serializer.proofs.cells.Reads as cells
 use Rattle.tables.proofs.rows.next_row.Reads as next-row-reads
 use Rattle.serializer.proofs.row.Reads as row
-use Rattle.serializer.proofs.+alone_block_blocks_body_cell_cells_child_children_flat_flow_indented_inline_inside_item_items_kids_led_link_node_row_siblings_write_write_element_write_emphasis_write_link_write_list_write_table.Proof.Measures.{cells_at, row_below}
+use Rattle.serializer.proofs.+writers.Proof.Measures.{cells_at, row_below}
 
 abbrev claims : ℕ → lts.Claims
 claims t = (next-row-reads.Asked, next-row-reads.Learnt, row_below t, row.Post)

@@ -10,7 +10,7 @@ use Rattle.serializer.proofs.Falls.{falls_in}
 use Rattle.serializer.proofs.ItemChild.{block_tag_lem, alone_none, alone_inline, alone_block}
 use Rattle.serializer.proofs.Placing.{placeds_at, node_placed}
 use borrow.Author.Rules.{rules}
-use Rattle.serializer.proofs.+alone_block_blocks_body_cell_cells_child_children_flat_flow_indented_inline_inside_item_items_kids_led_link_node_row_siblings_write_write_element_write_emphasis_write_link_write_list_write_table.Lts-alone as lts
+use Rattle.serializer.proofs.+writers.Lts-alone as lts
 use Rattle.serializer.proofs.alone.Reads as alone
 use Rattle.nodes.proofs.nodes.node_name.Reads as node-name-reads
 use Rattle.elements.proofs.item_steps.due_line.Reads as due-line-reads
@@ -18,7 +18,7 @@ use Rattle.elements.proofs.list_nodes.node_is_list_item_block.Reads as node-is-l
 use Rattle.serializer.proofs.block.Reads as block
 use Rattle.serializer.proofs.inline.Reads as inline
 use Rattle.serializer.proofs.progress.going_on.Reads as going-on-reads
-use Rattle.serializer.proofs.+alone_block_blocks_body_cell_cells_child_children_flat_flow_indented_inline_inside_item_items_kids_led_link_node_row_siblings_write_write_element_write_emphasis_write_link_write_list_write_table.Proof.Measures.{alone_at, block-below, inline-below}
+use Rattle.serializer.proofs.+writers.Proof.Measures.{alone_at, block-below, inline-below}
 
 abbrev claims : ℕ → lts.Claims
 claims t = (node-name-reads.Asked, node-name-reads.Learnt, due-line-reads.Asked, due-line-reads.Learnt, node-is-list-item-block-reads.Asked, node-is-list-item-block-reads.Learnt, block-below t, block.Post, inline-below t, inline.Post, going-on-reads.Asked, going-on-reads.Learnt)

@@ -11,7 +11,7 @@ use Rattle.serializer.proofs.ItemChild.{child_comment, child_skipped, child_wrap
 use Rattle.serializer.proofs.Placing.{placeds_at}
 use borrow.Author.Rules.{rules}
 use native.Mathlib.Omega.{arith}
-use Rattle.serializer.proofs.+alone_block_blocks_body_cell_cells_child_children_flat_flow_indented_inline_inside_item_items_kids_led_link_node_row_siblings_write_write_element_write_emphasis_write_link_write_list_write_table.Lts-child as lts
+use Rattle.serializer.proofs.+writers.Lts-child as lts
 use Rattle.serializer.proofs.child.Reads as child
 use Rattle.tree.proofs.nodes.node_place.Reads as node-place-reads
 use Rattle.tree.proofs.nodes.tag_at.Reads as tag-at-reads
@@ -21,7 +21,7 @@ use Rattle.tree.proofs.nodes.node_end.Reads as node-end-reads
 use Rattle.serializer.proofs.children.Reads as children
 use Rattle.serializer.proofs.texts.is_blank_text.Reads as is-blank-text-reads
 use Rattle.serializer.proofs.alone.Reads as alone
-use Rattle.serializer.proofs.+alone_block_blocks_body_cell_cells_child_children_flat_flow_indented_inline_inside_item_items_kids_led_link_node_row_siblings_write_write_element_write_emphasis_write_link_write_list_write_table.Proof.Measures.{child-at, children-below, alone-below}
+use Rattle.serializer.proofs.+writers.Proof.Measures.{child-at, children-below, alone-below}
 
 abbrev claims : ℕ → lts.Claims
 claims t = (node-place-reads.Asked, node-place-reads.Learnt, tag-at-reads.Asked, tag-at-reads.Learnt, node-is-skipped-reads.Asked, node-is-skipped-reads.Learnt, node-is-block-wrapper-reads.Asked, node-is-block-wrapper-reads.Learnt, node-end-reads.Asked, node-end-reads.Learnt, children-below t, children.Post, is-blank-text-reads.Asked, is-blank-text-reads.Learnt, alone-below t, alone.Post)

@@ -23,7 +23,7 @@ use Rattle.serializer.proofs.Lists.{fits_plain, head_other, item_placed, head_it
 use Rattle.serializer.proofs.Placing.{placeds_at, placed_kids}
 use borrow.Author.Rules.{rules}
 use native.Mathlib.Omega.{arith}
-use Rattle.serializer.proofs.+alone_block_blocks_body_cell_cells_child_children_flat_flow_indented_inline_inside_item_items_kids_led_link_node_row_siblings_write_write_element_write_emphasis_write_link_write_list_write_table.Lts-item as lts
+use Rattle.serializer.proofs.+writers.Lts-item as lts
 use Rattle.serializer.proofs.item.Reads as item
 use Rattle.tree.proofs.nodes.node_end.Reads as node-end-reads
 use Rattle.spec.proofs.ctx.FormatOpts.fresh.Reads as fresh-reads
@@ -33,7 +33,7 @@ use Rattle.serializer.proofs.write.Reads as write
 use Rattle.elements.proofs.list_nodes.has_blocks.Reads as has-blocks-reads
 use Rattle.serializer.proofs.blocks.Reads as blocks
 use Rattle.serializer.proofs.flat.Reads as flat
-use Rattle.serializer.proofs.+alone_block_blocks_body_cell_cells_child_children_flat_flow_indented_inline_inside_item_items_kids_led_link_node_row_siblings_write_write_element_write_emphasis_write_link_write_list_write_table.Proof.Measures.{item-at, write-below, blocks-below, flat-below}
+use Rattle.serializer.proofs.+writers.Proof.Measures.{item-at, write-below, blocks-below, flat-below}
 
 abbrev claims : ℕ → lts.Claims
 claims t = (node-end-reads.Asked, node-end-reads.Learnt, fresh-reads.Asked, fresh-reads.Learnt, include-node-reads.Asked, include-node-reads.Learnt, packed-reads.Asked, packed-reads.Learnt, write-below t, write.Post, has-blocks-reads.Asked, has-blocks-reads.Learnt, blocks-below t, blocks.Post, flat-below t, flat.Post)

@@ -8,12 +8,12 @@ use Rattle.serializer.specs.Writers.{self_at}
 use Rattle.serializer.proofs.Falls.{falls_in}
 use Rattle.serializer.proofs.ItemBlocks.{element_reaches, led_none, led_full, led_done}
 use borrow.Author.Rules.{rules}
-use Rattle.serializer.proofs.+alone_block_blocks_body_cell_cells_child_children_flat_flow_indented_inline_inside_item_items_kids_led_link_node_row_siblings_write_write_element_write_emphasis_write_link_write_list_write_table.Lts-led as lts
+use Rattle.serializer.proofs.+writers.Lts-led as lts
 use Rattle.serializer.proofs.led.Reads as led
 use Rattle.lists_links.proofs.list.push_block_lead.Reads as push-block-lead-reads
 use Rattle.serializer.proofs.flow.Reads as flow
 use Rattle.normalized.proofs.text_utils.push_linebreak.Reads as push-linebreak-reads
-use Rattle.serializer.proofs.+alone_block_blocks_body_cell_cells_child_children_flat_flow_indented_inline_inside_item_items_kids_led_link_node_row_siblings_write_write_element_write_emphasis_write_link_write_list_write_table.Proof.Measures.{led-at, flow-below}
+use Rattle.serializer.proofs.+writers.Proof.Measures.{led-at, flow-below}
 
 abbrev claims : ℕ → lts.Claims
 claims t = (push-block-lead-reads.Asked, push-block-lead-reads.Learnt, flow-below t, flow.Post, push-linebreak-reads.Asked, push-linebreak-reads.Learnt)

@@ -21,7 +21,7 @@ use Rattle.nodes.proofs.Interrupts.{element_name}
 use Rattle.serializer.proofs.Placing.{placed_node}
 use borrow.Author.Rules.{rules}
 use native.Mathlib.Omega.{arith}
-use Rattle.serializer.proofs.+alone_block_blocks_body_cell_cells_child_children_flat_flow_indented_inline_inside_item_items_kids_led_link_node_row_siblings_write_write_element_write_emphasis_write_link_write_list_write_table.Lts-write_element as lts
+use Rattle.serializer.proofs.+writers.Lts-write_element as lts
 use Rattle.serializer.proofs.write_element.Reads as write-element
 use Rattle.serializer.proofs.options.unpacked.Reads as unpacked-reads
 use Rattle.elements.proofs.list_nodes.is_list.Reads as is-list-reads
@@ -33,7 +33,7 @@ use Rattle.elements.proofs.pre.write_pre.Reads as write-pre-reads
 use Rattle.serializer.proofs.write_table.Reads as write-table
 use Rattle.elements.proofs.code.write_code.Reads as write-code-reads
 use Rattle.serializer.proofs.write_emphasis.Reads as write-emphasis
-use Rattle.serializer.proofs.+alone_block_blocks_body_cell_cells_child_children_flat_flow_indented_inline_inside_item_items_kids_led_link_node_row_siblings_write_write_element_write_emphasis_write_link_write_list_write_table.Proof.Measures.{write-element-at, write-list-below, write-link-below, write-table-below, write-emphasis-below}
+use Rattle.serializer.proofs.+writers.Proof.Measures.{write-element-at, write-list-below, write-link-below, write-table-below, write-emphasis-below}
 
 abbrev claims : ℕ → lts.Claims
 claims t = (unpacked-reads.Asked, unpacked-reads.Learnt, is-list-reads.Asked, is-list-reads.Learnt, write-list-below t, write-list.Post, write-link-below t, write-link.Post, node-place-reads.Asked, node-place-reads.Learnt, write-img-reads.Asked, write-img-reads.Learnt, write-pre-reads.Asked, write-pre-reads.Learnt, write-table-below t, write-table.Post, write-code-reads.Asked, write-code-reads.Learnt, write-emphasis-below t, write-emphasis.Post)

@@ -29,14 +29,14 @@ use Rattle.elements.proofs.Links.{emphasis_is}
 use Rattle.serializer.proofs.Placing.{placed_node, placed_kids}
 use borrow.Author.Rules.{rules}
 use native.Mathlib.Omega.{arith}
-use Rattle.serializer.proofs.+alone_block_blocks_body_cell_cells_child_children_flat_flow_indented_inline_inside_item_items_kids_led_link_node_row_siblings_write_write_element_write_emphasis_write_link_write_list_write_table.Lts-write_emphasis as lts
+use Rattle.serializer.proofs.+writers.Lts-write_emphasis as lts
 use Rattle.serializer.proofs.write_emphasis.Reads as write-emphasis
 use Rattle.tree.proofs.nodes.node_end.Reads as node-end-reads
 use Rattle.elements.proofs.steps.emphasis_opts.Reads as emphasis-opts-reads
 use Rattle.serializer.proofs.options.packed.Reads as packed-reads
 use Rattle.serializer.proofs.write.Reads as write
 use Rattle.elements.proofs.steps.push_emphasis_by.Reads as push-emphasis-by-reads
-use Rattle.serializer.proofs.+alone_block_blocks_body_cell_cells_child_children_flat_flow_indented_inline_inside_item_items_kids_led_link_node_row_siblings_write_write_element_write_emphasis_write_link_write_list_write_table.Proof.Measures.{write-emphasis-at, write-below}
+use Rattle.serializer.proofs.+writers.Proof.Measures.{write-emphasis-at, write-below}
 
 abbrev claims : ℕ → lts.Claims
 claims t = (node-end-reads.Asked, node-end-reads.Learnt, emphasis-opts-reads.Asked, emphasis-opts-reads.Learnt, packed-reads.Asked, packed-reads.Learnt, write-below t, write.Post, push-emphasis-by-reads.Asked, push-emphasis-by-reads.Learnt)

@@ -20,13 +20,13 @@ use Rattle.elements.proofs.Links.{link_is}
 use Rattle.serializer.proofs.Placing.{placed_node}
 use borrow.Author.Rules.{rules}
 use native.Mathlib.Omega.{arith}
-use Rattle.serializer.proofs.+alone_block_blocks_body_cell_cells_child_children_flat_flow_indented_inline_inside_item_items_kids_led_link_node_row_siblings_write_write_element_write_emphasis_write_link_write_list_write_table.Lts-body as lts
+use Rattle.serializer.proofs.+writers.Lts-body as lts
 use Rattle.serializer.proofs.body.Reads as body
 use Rattle.tree.proofs.nodes.node_place.Reads as node-place-reads
 use Rattle.serializer.proofs.options.packed.Reads as packed-reads
 use Rattle.serializer.proofs.kids.Reads as kids
 use Rattle.elements.proofs.link.push_link.Reads as push-link-reads
-use Rattle.serializer.proofs.+alone_block_blocks_body_cell_cells_child_children_flat_flow_indented_inline_inside_item_items_kids_led_link_node_row_siblings_write_write_element_write_emphasis_write_link_write_list_write_table.Proof.Measures.{body_at, kids-below}
+use Rattle.serializer.proofs.+writers.Proof.Measures.{body_at, kids-below}
 
 abbrev claims : ℕ → lts.Claims
 claims t = (node-place-reads.Asked, node-place-reads.Learnt, packed-reads.Asked, packed-reads.Learnt, kids-below t, kids.Post, push-link-reads.Asked, push-link-reads.Learnt)

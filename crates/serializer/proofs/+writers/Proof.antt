@@ -27,8 +27,8 @@ mod WriteEmphasis
 mod WriteLink
 mod WriteList
 mod WriteTable
-use Rattle.serializer.proofs.+alone_block_blocks_body_cell_cells_child_children_flat_flow_indented_inline_inside_item_items_kids_led_link_node_row_siblings_write_write_element_write_emphasis_write_link_write_list_write_table.{statement}
-use Rattle.serializer.proofs.+alone_block_blocks_body_cell_cells_child_children_flat_flow_indented_inline_inside_item_items_kids_led_link_node_row_siblings_write_write_element_write_emphasis_write_link_write_list_write_table.Tie.{close}
+use Rattle.serializer.proofs.+writers.{statement}
+use Rattle.serializer.proofs.+writers.Tie.{close}
 
 pub +alone-block-blocks-body-cell-cells-child-children-flat-flow-indented-inline-inside-item-items-kids-led-link-node-row-siblings-write-write-element-write-emphasis-write-link-write-list-write-table-spec : {M : Type 1} → statement M
 +alone-block-blocks-body-cell-cells-child-children-flat-flow-indented-inline-inside-item-items-kids-led-link-node-row-siblings-write-write-element-write-emphasis-write-link-write-list-write-table-spec {M} =

@@ -12,7 +12,7 @@ use Rattle.serializer.proofs.Falls.{falls_in}
 use Rattle.serializer.proofs.ItemBlocks.{fits_alike, element_reaches, body_pre, flow_none, flow_full, flow_done}
 use borrow.Author.Rules.{rules}
 use native.Mathlib.Omega.{arith}
-use Rattle.serializer.proofs.+alone_block_blocks_body_cell_cells_child_children_flat_flow_indented_inline_inside_item_items_kids_led_link_node_row_siblings_write_write_element_write_emphasis_write_link_write_list_write_table.Lts-flow as lts
+use Rattle.serializer.proofs.+writers.Lts-flow as lts
 use Rattle.serializer.proofs.flow.Reads as flow
 use Rattle.serializer.proofs.indented.Reads as indented
 use Rattle.elements.proofs.item_steps.push_heading_prefix.Reads as push-heading-prefix-reads
@@ -20,7 +20,7 @@ use Rattle.spec.proofs.ctx.FormatOpts.list_item.Reads as list-item-reads
 use Rattle.serializer.proofs.options.packed.Reads as packed-reads
 use Rattle.serializer.proofs.kids.Reads as kids
 use Rattle.elements.proofs.item_steps.end_flow.Reads as end-flow-reads
-use Rattle.serializer.proofs.+alone_block_blocks_body_cell_cells_child_children_flat_flow_indented_inline_inside_item_items_kids_led_link_node_row_siblings_write_write_element_write_emphasis_write_link_write_list_write_table.Proof.Measures.{flow-at, indented-below, kids-below}
+use Rattle.serializer.proofs.+writers.Proof.Measures.{flow-at, indented-below, kids-below}
 
 abbrev claims : ℕ → lts.Claims
 claims t = (indented-below t, indented.Post, push-heading-prefix-reads.Asked, push-heading-prefix-reads.Learnt, list-item-reads.Asked, list-item-reads.Learnt, packed-reads.Asked, packed-reads.Learnt, kids-below t, kids.Post, end-flow-reads.Asked, end-flow-reads.Learnt)

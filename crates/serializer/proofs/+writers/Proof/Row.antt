@@ -16,13 +16,13 @@ use Rattle.serializer.proofs.Falls.{falls_in}
 use Rattle.serializer.proofs.RowWriting.{RowProgress, row_start, row_reach, row_long, row_end, row_placed, row_inside, row_kept, row_behind, row_later, row_writes, row_stop, row_on}
 use borrow.Author.Rules.{rules}
 use native.Mathlib.Omega.{arith}
-use Rattle.serializer.proofs.+alone_block_blocks_body_cell_cells_child_children_flat_flow_indented_inline_inside_item_items_kids_led_link_node_row_siblings_write_write_element_write_emphasis_write_link_write_list_write_table.Lts-row as lts
+use Rattle.serializer.proofs.+writers.Lts-row as lts
 use Rattle.serializer.proofs.row.Reads as row
 use Rattle.tree.proofs.nodes.node_end.Reads as node-end-reads
 use Rattle.tables.proofs.table.next_cell.Reads as next-cell-reads
 use Rattle.serializer.proofs.cell.Reads as cell
 use Rattle.tables.proofs.table.store_span.Reads as store-span-reads
-use Rattle.serializer.proofs.+alone_block_blocks_body_cell_cells_child_children_flat_flow_indented_inline_inside_item_items_kids_led_link_node_row_siblings_write_write_element_write_emphasis_write_link_write_list_write_table.Proof.Measures.{row_at, cell_below}
+use Rattle.serializer.proofs.+writers.Proof.Measures.{row_at, cell_below}
 
 abbrev claims : ℕ → lts.Claims
 claims t = (node-end-reads.Asked, node-end-reads.Learnt, next-cell-reads.Asked, next-cell-reads.Learnt, cell_below t, cell.Post, store-span-reads.Asked, store-span-reads.Learnt)

@@ -33,7 +33,7 @@ use Rattle.tables.proofs.TableRows.{rows_of_lem, rows_at, rows_at_kept}
 use Rattle.serializer.proofs.TableWriting.{table_at, table_full, table_done, table_sum, ends_in}
 use borrow.Author.Rules.{rules}
 use native.Mathlib.Omega.{arith}
-use Rattle.serializer.proofs.+alone_block_blocks_body_cell_cells_child_children_flat_flow_indented_inline_inside_item_items_kids_led_link_node_row_siblings_write_write_element_write_emphasis_write_link_write_list_write_table.Lts-write_table as lts
+use Rattle.serializer.proofs.+writers.Lts-write_table as lts
 use Rattle.serializer.proofs.write_table.Reads as write-table
 use Rattle.tree.proofs.nodes.node_end.Reads as node-end-reads
 use Rattle.tables.proofs.rows.next_filled_row.Reads as next-filled-row-reads
@@ -43,7 +43,7 @@ use Rattle.serializer.proofs.options.packed.Reads as packed-reads
 use Rattle.serializer.proofs.kids.Reads as kids
 use Rattle.serializer.proofs.cells.Reads as cells
 use Rattle.tables.proofs.table.push_table.Reads as push-table-reads
-use Rattle.serializer.proofs.+alone_block_blocks_body_cell_cells_child_children_flat_flow_indented_inline_inside_item_items_kids_led_link_node_row_siblings_write_write_element_write_emphasis_write_link_write_list_write_table.Proof.Measures.{write-table-at, kids-below, cells-below}
+use Rattle.serializer.proofs.+writers.Proof.Measures.{write-table-at, kids-below, cells-below}
 
 abbrev claims : ℕ → lts.Claims
 claims t = (node-end-reads.Asked, node-end-reads.Learnt, next-filled-row-reads.Asked, next-filled-row-reads.Learnt, fresh-reads.Asked, fresh-reads.Learnt, is-table-node-writable-reads.Asked, is-table-node-writable-reads.Learnt, packed-reads.Asked, packed-reads.Learnt, kids-below t, kids.Post, cells-below t, cells.Post, push-table-reads.Asked, push-table-reads.Learnt)

@@ -23,7 +23,7 @@ use Rattle.serializer.proofs.Answers.{written-reaches}
 use Rattle.serializer.proofs.Falls.{falls_in}
 use borrow.Author.Rules.{rules}
 use native.Mathlib.Omega.{arith}
-use Rattle.serializer.proofs.+alone_block_blocks_body_cell_cells_child_children_flat_flow_indented_inline_inside_item_items_kids_led_link_node_row_siblings_write_write_element_write_emphasis_write_link_write_list_write_table.Lts-cell as lts
+use Rattle.serializer.proofs.+writers.Lts-cell as lts
 use Rattle.serializer.proofs.cell.Reads as cell
 use Rattle.spec.proofs.ctx.FormatOpts.fresh.Reads as fresh-reads
 use Rattle.spec.proofs.ctx.FormatOpts.table_cell.Reads as table-cell-reads
@@ -31,7 +31,7 @@ use Rattle.serializer.proofs.options.packed.Reads as packed-reads
 use Rattle.serializer.proofs.kids.Reads as kids
 use Rattle.marks.proofs.table.trim_trailing_cell_break.Reads as trim-trailing-cell-break-reads
 use Rattle.marks.proofs.table.escape_table_cell_inplace.Reads as escape-table-cell-inplace-reads
-use Rattle.serializer.proofs.+alone_block_blocks_body_cell_cells_child_children_flat_flow_indented_inline_inside_item_items_kids_led_link_node_row_siblings_write_write_element_write_emphasis_write_link_write_list_write_table.Proof.Measures.{cell_at, kids-below}
+use Rattle.serializer.proofs.+writers.Proof.Measures.{cell_at, kids-below}
 
 abbrev claims : ℕ → lts.Claims
 claims t = (fresh-reads.Asked, fresh-reads.Learnt, table-cell-reads.Asked, table-cell-reads.Learnt, packed-reads.Asked, packed-reads.Learnt, kids-below t, kids.Post, trim-trailing-cell-break-reads.Asked, trim-trailing-cell-break-reads.Learnt, escape-table-cell-inplace-reads.Asked, escape-table-cell-inplace-reads.Learnt)

@@ -28,7 +28,7 @@ use Rattle.serializer.proofs.NodeSteps.{alone_element, node_text, element_skippe
 use Rattle.serializer.proofs.Placing.{placeds_at, node_placed, node_element, alone_writes}
 use borrow.Author.Rules.{rules}
 use native.Mathlib.Omega.{arith}
-use Rattle.serializer.proofs.+alone_block_blocks_body_cell_cells_child_children_flat_flow_indented_inline_inside_item_items_kids_led_link_node_row_siblings_write_write_element_write_emphasis_write_link_write_list_write_table.Lts-node as lts
+use Rattle.serializer.proofs.+writers.Lts-node as lts
 use Rattle.serializer.proofs.node.Reads as node
 use Rattle.tree.proofs.nodes.node_place.Reads as node-place-reads
 use Rattle.tree.proofs.nodes.tag_at.Reads as tag-at-reads
@@ -37,7 +37,7 @@ use Rattle.nodes.proofs.nodes.write_text_node.Reads as write-text-node-reads
 use Rattle.nodes.proofs.nodes.node_is_skipped.Reads as node-is-skipped-reads
 use Rattle.elements.proofs.steps.opened.Reads as opened-reads
 use Rattle.serializer.proofs.inside.Reads as inside
-use Rattle.serializer.proofs.+alone_block_blocks_body_cell_cells_child_children_flat_flow_indented_inline_inside_item_items_kids_led_link_node_row_siblings_write_write_element_write_emphasis_write_link_write_list_write_table.Proof.Measures.{node_at, inside-below}
+use Rattle.serializer.proofs.+writers.Proof.Measures.{node_at, inside-below}
 
 abbrev claims : ℕ → lts.Claims
 claims t = (node-place-reads.Asked, node-place-reads.Learnt, tag-at-reads.Asked, tag-at-reads.Learnt, unpacked-reads.Asked, unpacked-reads.Learnt, write-text-node-reads.Asked, write-text-node-reads.Learnt, node-is-skipped-reads.Asked, node-is-skipped-reads.Learnt, opened-reads.Asked, opened-reads.Learnt, inside-below t, inside.Post)

@@ -17,7 +17,7 @@ use Rattle.elements.proofs.Languages.{around_it}
 use Rattle.serializer.proofs.Placing.{placed_node, placed_kids}
 use borrow.Author.Rules.{rules}
 use native.Mathlib.Omega.{arith}
-use Rattle.serializer.proofs.+alone_block_blocks_body_cell_cells_child_children_flat_flow_indented_inline_inside_item_items_kids_led_link_node_row_siblings_write_write_element_write_emphasis_write_link_write_list_write_table.Lts-write_list as lts
+use Rattle.serializer.proofs.+writers.Lts-write_list as lts
 use Rattle.serializer.proofs.write_list.Reads as write-list
 use Rattle.tree.proofs.nodes.node_place.Reads as node-place-reads
 use Rattle.elements.proofs.list_nodes.kind_of.Reads as kind-of-reads
@@ -25,7 +25,7 @@ use Rattle.tree.proofs.nodes.node_end.Reads as node-end-reads
 use Rattle.spec.proofs.ctx.ListContext.new.Reads as new-reads
 use Rattle.serializer.proofs.items.Reads as items
 use Rattle.elements.proofs.item_steps.end_list.Reads as end-list-reads
-use Rattle.serializer.proofs.+alone_block_blocks_body_cell_cells_child_children_flat_flow_indented_inline_inside_item_items_kids_led_link_node_row_siblings_write_write_element_write_emphasis_write_link_write_list_write_table.Proof.Measures.{write-list-at, items-below}
+use Rattle.serializer.proofs.+writers.Proof.Measures.{write-list-at, items-below}
 
 abbrev claims : ℕ → lts.Claims
 claims t = (node-place-reads.Asked, node-place-reads.Learnt, kind-of-reads.Asked, kind-of-reads.Learnt, node-end-reads.Asked, node-end-reads.Learnt, new-reads.Asked, new-reads.Learnt, items-below t, items.Post, end-list-reads.Asked, end-list-reads.Learnt)
