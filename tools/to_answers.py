@@ -115,6 +115,8 @@ def as_record(body, labels):
             if depth == 0:
                 break
     parts = parted(body[k:])
+    if parts is not None and len(parts) == 2 and len(labels) == 3:
+        parts = parts[:1] + (parted(parts[1]) or [])
     before = body[:k].rstrip()
     if parts is None or len(parts) != len(labels) or not (before.endswith(" in") or before.endswith("=")):
         return body
@@ -132,6 +134,8 @@ class Function:
         self.loops = entry["loops"]
         self.changed = entry["changed"]
         self.said = []
+        self.in_cycle = False
+        self.stem = entry.get("stem", "")
         self.params = entry["params"]
         args = entry["args"] if isinstance(entry["args"], list) else []
         self.args = {a.split(".")[-1]: b.split(".")[-1] for a, b in args if a.startswith(".args ")}
@@ -163,6 +167,10 @@ class Function:
         chain = self.chain(place)
         if field in ("args", "ranges"):
             return field, self.arg(rest)
+        if field == "requires" and self.in_cycle:
+            if rest.startswith(".0"):
+                return "decreases", rest[2:]
+            return "requires", rest[2:] if rest.startswith(".1") else rest
         if field in ("requires", "utf8", "lifetimes", "ghost", "type_inv"):
             return field, rest
         if field == "well-formed":
@@ -186,12 +194,17 @@ class Function:
                 if norm(old) == norm(field) and (path or parts) and parts[: len(path)] == path and best >= chain.index(q):
                     more = parts[len(path):]
                     return f"{arm[0]}.{new}", "." + ".".join(more) if more else ""
+        if norm(field).startswith("loop") and not norm(field).endswith("test"):
+            rest = re.sub(r"^\.[\w-]+", lambda w: w[0].replace("-", "_"), rest)
         return self.places[p][2][1], self.lent(self.places[p][3], rest)
 
     def lent(self, callee, rest):
         """`.new.0` and `.auto.0` by the name of the parameter."""
         names = self.params.get(callee or "", [])
         labels = LABELS.get(callee or "", [])
+        m = re.match(r"^\.ensures\.1\.(\d)(?!\d)", rest)
+        if m and len(labels) == 3:
+            return f".ensures.{labels[1 + int(m[1])]}" + rest[m.end():]
         m = re.match(r"^\.ensures\.(\d)(?!\d)", rest)
         if m and int(m[1]) < len(labels):
             return f".ensures.{labels[int(m[1])]}" + rest[m.end():]
@@ -212,13 +225,15 @@ class Function:
             field, rest = self.step(place, ups, m[2], m[3])
             return "c." + field + rest
 
+        for m in list(re.finditer(r"let ([^\s:]+)(?: : [^=\n]*)? = c(?:\.before)*\.loop[\w-]* in", text)):
+            text = re.sub(rf"(?<![\w.'-]){re.escape(m[1])}(\.[\w'₀-]+)", lambda w: m[1] + w[1].replace("-", "_"), text)
         for m in list(re.finditer(r"let ([^\s:]+)(?: : [^=\n]*)? = c(?:\.before)*\.args in", text)):
             text = re.sub(rf"(?<![\w.'-]){re.escape(m[1])}(\.[\w'₀-]+)", lambda w: m[1] + self.arg(w[1]), text)
         for m in list(re.finditer(r"let ([^\s:]+)(?: : [^=\n]*)? = c((?:\.before)*)\.([A-Za-z_][\w'₀-]*) in", text)):
             chain = self.chain(place)
             norm = lambda s: re.sub(r"_lem$", "", s.replace("-", "_").lower())
             callee = next((self.places[p][3] for p in chain[max(0, m[2].count(".before") - 3):] + chain if norm(self.places[p][2][0]) == norm(m[3])), None)
-            text = re.sub(rf"(?<![\w.'-]){re.escape(m[1])}(\.(?:new|auto)(?:\.1)*\.0|\.ensures\.\d(?!\d))", lambda w: m[1] + self.lent(callee, w[1]), text)
+            text = re.sub(rf"(?<![\w.'-]){re.escape(m[1])}(\.(?:new|auto)(?:\.1)*\.0|\.ensures\.\d(?:\.\d)?(?!\d))", lambda w: m[1] + self.lent(callee, w[1]), text)
         text = re.sub(r"(?<![\w.'₀-])c((?:\.before)*)\.([A-Za-z_][\w'₀-]*)((?:\.[\w'₀-]+)*)", one, text)
         # a test of `!b` says what b is
         return re.sub(r"not-(?:true|false) (?:[^\s()]+|\([^()]*\)) (c\.[^\s(),]*(?:if|test)[^\s(),]*\.(?:true|false))", r"\1", text)
@@ -390,6 +405,154 @@ def convert(crate, path, entry, write=True):
             with open(p, "w", encoding="utf-8") as w:
                 w.write(t)
     return [f"{path}: {s}" for s in f.said], lost == 0
+
+
+def unaliased(text):
+    """The text with what `let s = c.before.. in` names written out."""
+    while True:
+        m = re.search(r"let ([^\s:]+)(?: : [^=\n]*)? = (c(?:\.before)+|c) in\s*", text)
+        if not m:
+            return text
+        rest = re.sub(rf"(?<![\w.'-]){re.escape(m[1])}(?=\.)", m[2], text[m.end():])
+        rest = re.sub(rf"(?<![\w.'-])t {re.escape(m[1])}(?![\w.'-])", "t " + m[2], rest)
+        text = text[: m.start()] + rest
+
+
+def balanced(text, at):
+    """The end of the bracket that opens at the place."""
+    depth = 0
+    for k in range(at, len(text)):
+        depth += {"(": 1, "{": 1, ")": -1, "}": -1}.get(text[k], 0)
+        if depth == 0:
+            return k + 1
+    raise ValueError(text[at:at + 80])
+
+
+class Helper:
+    """A lemma of the file over a step: `name : (t : ℕ) (c : lts.Step ..) {x : A} (y : B) → T`, `name t c {x} y h = body`."""
+
+    def __init__(self, name, text):
+        m = re.match(rf"(?s)(?:abbrev )?{re.escape(name)} : \(t : ℕ\) (?=\(c : lts)", text)
+        end = balanced(text, m.end())
+        rest = text[end:]
+        d = re.search(rf"(?m)^(?:unfolding [^\n]*\n)?{re.escape(name)} t c((?:\s+(?:\{{[^}}]*\}}|[^\s={{}}]+))*)\s*=", rest)
+        kind = re.sub(r"(?m)^unfolding .*$", "", rest[: d.start()]).strip()
+        self.unfolding = re.findall(r"(?m)^unfolding (.*)$", rest[: d.end()])
+        kind = unaliased(re.sub(r"^→\s*", "", kind))
+        self.implicit = []
+        while kind.startswith("{"):
+            e = balanced(kind, 0)
+            names, ty = kind[1:e - 1].split(" : ", 1)
+            self.implicit += [(n, ty) for n in names.split()]
+            kind = kind[e:].strip()
+        kind = re.sub(r"^→\s*", "", kind)
+        self.kind = "".join(f"({n} : {ty}) " for n, ty in self.implicit) + ("→ " if self.implicit and not kind.startswith("(") else "") + kind
+        if self.implicit and not re.match(r"\(\w[^()]*? : ", kind):
+            self.kind = "".join(f"({n} : {ty}) " for n, ty in self.implicit) + "→ " + kind
+        groups = re.findall(r"\{[^}]*\}|[^\s{}]+", d[1])
+        named = dict(re.split(r"\s*=\s*", g[1:-1]) for g in groups if g.startswith("{") and "=" in g)
+        bare = [g[1:-1] for g in groups if g.startswith("{") and "=" not in g]
+        first = [named.get(n, bare[k] if k < len(bare) else "_") for k, (n, _) in enumerate(self.implicit)]
+        self.words = first + [g for g in groups if not g.startswith("{")]
+        self.body = unaliased(rest[d.end():].strip())
+
+    def let(self, name, step):
+        put = lambda x: re.sub(r"(?<![\w.'₀-])c(?=\.)", step, re.sub(r"\n\s*", " ", x))
+        put2 = lambda x: re.sub(r"(?<![\w.'₀-])t c(?![\w])", f"t {step}", put(x))
+        lam = f"λ {' '.join(self.words)}. " if self.words else ""
+        return f"let {name} : {put2(self.kind)} = {lam}{put2(self.body)} in"
+
+
+def lifted(body, helpers, place):
+    """The body of an answer, with a let for each helper that it uses, innermost first."""
+    lets, names = [], {}
+
+    def use(text):
+        def one(m):
+            name, step = m[1], m[2]
+            h = helpers[name]
+            key = (name, step)
+            if key not in names:
+                count = sum(1 for n, _ in names if n == name)
+                local = name.replace("-", "_") + ("_here" if count == 0 else f"_here_{count + 1}")
+                names[key] = local
+                lets.append((local, use(h.let(local, step))))
+            return names[key] + "".join(" _" for _ in h.implicit)
+        if not helpers:
+            return text
+        alts = "|".join(re.escape(n) for n in sorted(helpers, key=len, reverse=True))
+        return re.sub(rf"(?<![\w.'₀-])({alts}) t (c(?:\.before)*)(?![\w.'₀-])", one, text)
+
+    new = use(body)
+    return new, [l for _, l in lets]
+
+
+def convert_cycle(crate, folder, table):
+    """All members of a cycle, to one Invariants.antt and one Answers.antt."""
+    said, uses, answers, invs, plain_helpers = [], [], [], [], []
+    module = "Rattle." + "".join([crate, ".proofs.", os.path.relpath(folder, f"crates/{crate}/proofs").replace("/", ".")])
+    members = {}
+    for key, entry in table.items():
+        m = re.fullmatch(rf"Rattle-{crate}-proofs\.(?:.*\.)?\{os.path.basename(folder)}\.Lts-(\w+)", key)
+        if m:
+            members[m[1]] = entry
+    for file in sorted(os.listdir(os.path.join(folder, "Proof"))):
+        if file == "Measures.antt":
+            continue
+        path = os.path.join(folder, "Proof", file)
+        text = open(path, encoding="utf-8").read()
+        m = re.search(r"\.Lts-(\w+) as lts", text)
+        member = m[1]
+        f = Function(members[member])
+        f.in_cycle = True
+        us, decls = declarations(text)
+        uses += [u for u in us if not re.search(r"as lts$|\.Reads as|\.Proof\.Measures|\.Kinds as", u)]
+        helpers = {}
+        for name, comment, lines in decls:
+            if re.match(rf"(?:abbrev )?{re.escape(name)} : \(t : ℕ\) \(c : lts\.", lines[0]):
+                helpers[name] = Helper(name, "\n".join(lines))
+        for name, comment, lines in decls:
+            head = lines[0]
+            if name in helpers or name in ("claims", "spec"):
+                continue
+            m = re.search(r": lts\.(invariant|decreases)-(\S+)", head)
+            if m:
+                inv = invariant(f, lines, name, (m[1], m[2]))
+                if inv:
+                    inv = [re.sub(r"(invariant|decreases)-(loop[\w-]*)(?= |$)", rf"\1-{f.stem}\2", l) for l in inv]
+                    invs.append((comment, inv))
+                else:
+                    f.said.append(f"invariant {name} lost")
+                continue
+            m = re.search(r": \(t : ℕ\) → lts\.Need-([^\s]+)", head)
+            if m:
+                if is_searched(lines, name):
+                    continue
+                need = f.need(m[1]) or f.need(name)
+                if need is None:
+                    f.said.append(f"no goal {m[1]} ({name}); the goals are {[o for o, _ in f.needs]}")
+                    continue
+                old, new, (at, _) = need
+                full = "\n".join(lines[1:]).rstrip()
+                b = re.match(rf"(?s)((?:unfolding [^\n]*\n)?)\s*{re.escape(name)} t c(?: κs)?([^=]*)=\s*(.*)", full)
+                body = unaliased(b[3])
+                body, lets = lifted(body, helpers, at)
+                opened = sorted({w for n, h in helpers.items() for w in h.unfolding if any(n.replace("-", "_") + "_here" in l for l in lets)})
+                unf = b[1].strip()
+                for w in opened:
+                    unf = (unf + " " + w) if unf else "unfolding " + w
+                labels = LABELS.get(f"{crate}::{member}", [])
+                if labels and new.startswith("returns"):
+                    body = as_record("= " + body, labels)[2:]
+                body = f.turn(body, at)
+                lets = [f.turn(l, at) for l in lets]
+                label = f.stem + new
+                out = [f"pub {label} : goal.{label}"] + ([unf] if unf else []) + [f"{label} t c{b[2].rstrip()} ="] + ["    " + l for l in lets] + ["    " + body]
+                answers.append((comment, out))
+                continue
+            plain_helpers.append((comment, lines))
+        said += [f"{file}: {x}" for x in f.said]
+    return said, uses, answers, invs, plain_helpers, module
 
 
 def main():
