@@ -173,6 +173,7 @@ class Function:
             return "requires", rest[2:] if rest.startswith(".1") else rest
         if field in ("requires", "utf8", "lifetimes", "ghost", "type_inv"):
             return field, rest
+        rest = rest.replace(".type-inv", ".type_inv")
         if field == "well-formed":
             return "well_formed", rest
         norm = lambda s: re.sub(r"_lem$", "", s.replace("-", "_").lower())

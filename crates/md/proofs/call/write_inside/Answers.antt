@@ -1,0 +1,36 @@
+use Prim.Native.Nat.{◌<◌, ◌^◌}
+use mathlib.Core.Path.{sym, subst, ◌∙◌}
+use lib.Dec.{lit<}
+use native.Mathlib.Omega.{arith}
+use Rattle.spec.specs.declared.ctx.FormatOpts.{FormatOpts}
+use Rattle.input.specs.Scans.{skip_list}
+use Rattle.serializer.specs.Writers.{Fits}
+use Rattle.md.proofs.Starting.{without, inside_reaches, inside_done, inside_full}
+use Rattle.md.proofs.call.write_inside.Goals as goal
+
+pub returns-in-Done : goal.returns-in-Done
+returns-in-Done c =
+    let a = c.args in
+    inside_done (skip_list a.own a.run.now) a.sheet.now a.nodes.now a.start _ c.requires c.node_end-end.ensures a.text.now (c.packed.ensures ∙ c.new-opts.ensures) c.write.ensures.writes_forest c.in-Done.is c.trim_space.ensures
+
+pub returns-in-Full : goal.returns-in-Full
+returns-in-Full c =
+    let a = c.args in
+    inside_full (skip_list a.own a.run.now) a.sheet.now a.nodes.now a.start _ c.requires c.node_end-end.ensures a.text.now (c.packed.ensures ∙ c.new-opts.ensures) c.write.ensures.writes_forest c.in-Full.is
+
+pub packed-requires : goal.packed-requires
+packed-requires c =
+    subst (λ (o : FormatOpts). o.offset < 2 ^ 48) (sym c.new-opts.ensures) (lit< tt)
+
+pub write-requires : goal.write-requires
+write-requires c =
+    let a = c.args in (
+      (without (skip_list a.own a.run.now) a.sheet.now a.nodes.now a.start _ c.requires c.node_end-end.ensures).at,
+      (omega arith, c.requires.short),
+      subst (λ (o : FormatOpts). Fits o 101) (sym (c.packed.ensures ∙ c.new-opts.ensures)) (lit< tt),
+    )
+
+pub trim_space-requires : goal.trim_space-requires
+trim_space-requires c =
+    let a = c.args in
+    inside_reaches (skip_list a.own a.run.now) a.sheet.now a.nodes.now a.start _ c.requires c.node_end-end.ensures a.text.now (c.packed.ensures ∙ c.new-opts.ensures) c.write.ensures.writes_forest c.in-Done.is
