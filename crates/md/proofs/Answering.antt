@@ -21,7 +21,7 @@ use Rattle.spec.specs.Call.{written, question10, zeros, refused, no_room, accept
 use Rattle.spec.specs.Promise.{Promise}
 use Rattle.tree.specs.Accepted.{storable}
 use Rattle.tree.specs.Represents.{Holds}
-use Rattle.recovery.specs.Recovered.{recovers_call}
+use Rattle.recovery.proofs.Recovered.{recovers_call}
 use Rattle.text.specs.Writes as writes
 use Rattle.text.proofs.Temporary.{back, lent}
 use Rattle.text.proofs.Writing.{yes, no}

@@ -1,0 +1,22 @@
+-- Demand 3 about the definitions alone: the reading of a plain sheet's text is the sheet's list.
+pub mod Digits
+pub mod Numbers
+pub mod Words
+pub mod Escapes
+pub mod Joined
+pub mod Starts
+pub mod Markers
+pub mod Headings
+pub mod Steps
+pub mod Fences
+pub mod Cells
+pub mod Tables
+pub mod Items
+pub mod Lists
+pub mod TableBlocks
+pub mod Silent
+pub mod Blocks
+pub mod Clean
+pub mod Recovered
+pub mod Written
+pub mod Pieces
