@@ -22,13 +22,9 @@ import command_line
 HERE = os.path.dirname(os.path.abspath(__file__))
 SPEC = os.path.join(HERE, "..", "crates", "spec")
 
-HEADER = """use Prim.Native.Nat.{ℕ, zero, suc, _+_, _*_}
-use mathlib.Core.Path.{_≡_, refl}
-use mathlib.Core.Bool.{Bool, true, false, cond, not, _&&_, _||_}
-use mathlib.Core.List.{List, [], _∷_, _++_}
-use mathlib.Core.Option.{Option, none, some}
-use lib.ListN.{length, take, replicate}
-use lib.Dec.{eqb, leb}
+HEADER = """use Rattle.std.specs.Prelude.{ℕ, zero, suc, ◌+◌, ◌*◌, ◌-◌, ◌≡◌, refl, Bool, true, false, cond, not, ◌&&◌, ◌||◌}
+use Rattle.std.specs.Prelude.{List, [], ◌∷◌, ◌++◌, length, take, drop, replicate, eqb, leb}
+use Rattle.std.proofs.Math.Option.{Option, none, some}
 """
 
 
@@ -101,7 +97,7 @@ def everything(spec=SPEC):
             continue
         alias = path[-1] if path[-1] not in taken | {"List"} else "".join(path)
         taken.add(alias)
-        whole = "Rattle·spec·specs.specs." + ".".join(path)
+        whole = "Rattle.spec.specs." + ".".join(path)
         uses.append("use %s" % whole if alias == path[-1] else "use %s as %s" % (whole, alias))
         names += ["%s.%s" % (alias, n) for n in found]
     return ("-- Every definition of the crate that computes, named once: under `unfolding everything` a closed term computes to its value.\n"
@@ -113,18 +109,18 @@ class Bench:
     def __init__(self, preamble, spec=SPEC):
         self.preamble = preamble
         self.dir = tempfile.mkdtemp(prefix="trial-")
-        shutil.copytree(spec, os.path.join(self.dir, "crates", "spec"))
+        shutil.copytree(spec, os.path.join(self.dir, "crates", "spec"), ignore=shutil.ignore_patterns("out", "must-fail"))
         trial = os.path.join(self.dir, "crates", "trial")
         os.makedirs(os.path.join(trial, "src"))
         os.makedirs(os.path.join(trial, "specs"))
         with open(os.path.join(self.dir, "crates.txt"), "w") as h:
             h.write("spec:\ntrial: spec\n")
         with open(os.path.join(trial, "src", "lib.rt"), "w") as h:
-            h.write("pub fn nothing() {}\n")
+            h.write("#![tactic(auto)]\n\npub fn nothing() {}\n")
         with open(os.path.join(trial, "specs", "Lib.antt"), "w") as h:
             h.write("pub mod Trial\n")
-        self.file = os.path.join(trial, "specs", "Trial.antt")
-        self.unfolding = " ".join(["Rattle·spec.specs.Everything.everything"] + re.findall(r"^(\S+) :", preamble, re.M))
+        self.trial, self.file = trial, os.path.join(trial, "specs", "Trial.antt")
+        self.unfolding = " ".join(["Rattle.spec.specs.Everything.everything"] + re.findall(r"^(\S+) :", preamble, re.M))
 
     def close(self):
         shutil.rmtree(self.dir, ignore_errors=True)
@@ -138,8 +134,7 @@ class Bench:
     def run(self, text):
         with open(self.file, "w", encoding="utf-8") as h:
             h.write(HEADER + self.preamble + text)
-        p = subprocess.run(["rt", "check", "trial"], cwd=self.dir, capture_output=True, text=True,
-                           env=dict(os.environ, RT_CUT="0"))
+        p = subprocess.run(["rt", "check"], cwd=self.trial, capture_output=True, text=True)
         return p.returncode, p.stdout + p.stderr
 
     def failures(self, cases):

@@ -17,52 +17,60 @@ import command_line
 
 CRATES = os.path.join(os.path.dirname(os.path.abspath(__file__)), "..", "crates")
 
-OFFSET = "proofs/ctx/ListKind/offset/Proof.antt"
-DIGITS = "max (length (decimal (c .before .before .before .self .given .0 .0)) + "
+OFFSET = "proofs/ctx/ListKind/offset/Answers.antt"
+# what answers the goals of `ListKind::offset` for a number; a goal has its name by the test in the code
+STEPS = ["""pub returns-then-d-lt2 : goal.returns-then-d-lt2
+unfolding offset_of
+returns-then-d-lt2 c =
+    let q : 4 ≡ max (length (decimal c.in-Ol.n) + 2) 4 = omega (arith, c.digits-d.ensures.0, c.if-d-lt2.true) in
+""", """pub returns-else-d-lt2 : goal.returns-else-d-lt2
+unfolding offset_of
+returns-else-d-lt2 c =
+    let q : c.digits-d.result + 2 ≡ max (length (decimal c.in-Ol.n) + 2) 4 = omega (arith, c.digits-d.ensures.0, c.if-d-lt2.false) in
+"""]
 
 # a name, and its edits: a file of `spec`, a text in it, and the text in its place
 CHANGES = [
     ("`_` dropped from the escape set", [
-        ("specs/Md/Constants.antt", '«ALWAYS_ESCAPED» = ascii "\\\\`*_[]<|~"', '«ALWAYS_ESCAPED» = ascii "\\\\`*[]<|~"')]),
+        ("specs/Md/Constants.antt", 'ALWAYS_ESCAPED = ascii "\\\\`*_[]<|~"', 'ALWAYS_ESCAPED = ascii "\\\\`*[]<|~"')]),
     # the code of `ListKind::offset` follows, so that it still meets its contract
     ("step of an ordered list max(digits + 1, 4)", [
-        ("specs/Md/Ctx.antt", "offsetOf (Ol n) = max (length (decimal n) + 2)", "offsetOf (Ol n) = max (length (decimal n) + 1)"),
-        ("src/ctx.rt", "if d < 2 { 4 } else { d + 2 }", "if d < 3 { 4 } else { d + 1 }"),
-        (OFFSET, "let q : 4 ≡ " + DIGITS + "2) 4", "let q : 4 ≡ " + DIGITS + "1) 4"),
-        (OFFSET, "let q : c .before .digits .result + 2 ≡ " + DIGITS + "2) 4", "let q : c .before .digits .result + 1 ≡ " + DIGITS + "1) 4")]),
+        ("specs/Md/Ctx.antt", "offset_of (Ol n) = max (length (decimal n) + 2)", "offset_of (Ol n) = max (length (decimal n) + 1)"),
+        ("src/ctx.rt", "if d < 2 { 4 } else { d + 2 }", "if d < 3 { 4 } else { d + 1 }")]
+        + [(OFFSET, step, step.replace("lt2", "lt3").replace("+ 2", "+ 1")) for step in STEPS]),
     ("fence one shorter", [
-        ("specs/Md/Elements/Code.antt", "backticks (max («max_backtick_run» content) 2 + 1)", "backticks (max («max_backtick_run» content) 2)")]),
+        ("specs/Md/Elements/Code.antt", "backticks (max (max_backtick_run content) 2 + 1)", "backticks (max (max_backtick_run content) 2)")]),
     ("closing mark of an emphasis left out", [
-        ("specs/Md/Elements/Emphasis.antt", 'cond (endsWith (ascii " ") begun) (dropEnd 1 begun ++ (marker ++ ascii " ")) (begun ++ marker)', 'cond (endsWith (ascii " ") begun) (dropEnd 1 begun ++ ascii " ") begun')]),
+        ("specs/Md/Elements/Emphasis.antt", 'cond (ends_with (ascii " ") begun) (drop_end 1 begun ++ (marker ++ ascii " ")) (begun ++ marker)', 'cond (ends_with (ascii " ") begun) (drop_end 1 begun ++ ascii " ") begun')]),
     ("blank at the end of an emphasis inside its marks", [
-        ("specs/Md/Elements/Emphasis.antt", 'cond (endsWith (ascii " ") begun) (dropEnd 1 begun ++ (marker ++ ascii " ")) (begun ++ marker)', "begun ++ marker")]),
+        ("specs/Md/Elements/Emphasis.antt", 'cond (ends_with (ascii " ") begun) (drop_end 1 begun ++ (marker ++ ascii " ")) (begun ++ marker)', "begun ++ marker")]),
     ("reading: two asterisks are emphasis", [
         ("specs/Pieces/EmphasisReading.antt", "taken m n = cond (leb 2 m && leb 2 n) 2 1", "taken m n = 1")]),
     ("first data row as heading", [
-        ("specs/Md/Elements/Table.antt", "allTh (c ∷ row) = c .isTh && allTh row", "allTh (c ∷ row) = allTh row")]),
+        ("specs/Md/Elements/Table.antt", "all_th (c ∷ row) = c.is_th && all_th row", "all_th (c ∷ row) = all_th row")]),
     # neither the close of the first nor the opening of the second leaves one
     ("no blank line between two paragraphs", [
-        ("specs/Md/Serializer.antt", "let end = cond (isTight opts name attrs kids) lb («double_linebreak» (opts .«table_cell»)) in", "let end = lb in"),
-        ("specs/Md/Serializer.antt", "(«add_linebreaks» lb («double_linebreak» (opts .«table_cell»)) t)", "(«add_linebreaks» lb lb t)")]),
+        ("specs/Md/Serializer.antt", "let end = cond (is_tight opts name attrs kids) lb (double_linebreak opts.table_cell) in", "let end = lb in"),
+        ("specs/Md/Serializer.antt", "(add_linebreaks lb (double_linebreak opts.table_cell) t)", "(add_linebreaks lb lb t)")]),
     ("no backslash before a `!` at the end", [
         ("specs/Md/TextUtils.antt", 'take (length t - 1) t ++ ascii "\\\\!"', 'take (length t - 1) t ++ ascii "!"')]),
     # no number is at least 1 and at most 0
     ("no digits of a marker before a dot of the next text", [
-        ("specs/Md/TextUtils.antt", "(leb 1 n && leb n 9) && atIndent (beforeMarker stem)", "(leb 1 n && leb n 0) && atIndent (beforeMarker stem)")]),
+        ("specs/Md/TextUtils.antt", "(leb 1 n && leb n 9) && at_indent (before_marker stem)", "(leb 1 n && leb n 0) && at_indent (before_marker stem)")]),
     ("indent of an item's blocks without its marker", [
-        ("specs/Md/Elements/List.antt", "indent = replicate (ctx .«list_indent» + length (prefix ctx)) 32;", "indent = replicate (ctx .«list_indent») 32;")]),
+        ("specs/Md/Elements/List.antt", "indent = replicate (ctx.list_indent + length (prefix ctx)) 32;", "indent = replicate ctx.list_indent 32;")]),
     ("marker of an item not seen before digits", [
-        ("specs/Md/TextUtils.antt", 'cond (endsWith (ascii " ") stem && marker) before stem', 'cond (endsWith (ascii "\\n") stem && marker) before stem')]),
+        ("specs/Md/TextUtils.antt", 'cond (ends_with (ascii " ") stem && marker) before stem', 'cond (ends_with (ascii "\\n") stem && marker) before stem')]),
     ("lines of a code block in an item without indent", [
-        ("specs/Md/Elements/List.antt", "(cond (null line) [] (item .indent) ++", "(cond (null line) (item .indent) [] ++")]),
+        ("specs/Md/Elements/List.antt", "(cond (null line) [] item.indent ++", "(cond (null line) item.indent [] ++")]),
     ("pictures without their writer", [
         ("specs/Md/Serializer.antt", "tag.a ∷ tag.img ∷ tag.pre", "tag.a ∷ tag.pre")]),
     ("reading: a shorter fence closes a fenced text", [
-        ("specs/Reading/Starts.antt", "closingFence c n r = leb n (run c r) && blankLine (dropRun c r)", "closingFence c n r = leb 3 (run c r) && blankLine (dropRun c r)")]),
+        ("specs/Reading/Starts.antt", "closing_fence c n r = leb n (run c r) && blank_line (drop_run c r)", "closing_fence c n r = leb 3 (run c r) && blank_line (drop_run c r)")]),
     ("reading: an ordered list of any number interrupts a paragraph", [
-        ("specs/Reading/Starts.antt", "startsAtOne (some n) = eqb n 1", "startsAtOne (some n) = true")]),
+        ("specs/Reading/Starts.antt", "starts_at_one (some n) = eqb n 1", "starts_at_one (some n) = true")]),
     ("content column of the reading one off", [
-        ("specs/Reading/Step.antt", "contentColumn m i = cond (leb i (m + 4)) i (suc m)", "contentColumn m i = cond (leb i (m + 4)) (suc i) (suc m)")]),
+        ("specs/Reading/Step.antt", "content_column m i = cond (leb i (m + 4)) i (suc m)", "content_column m i = cond (leb i (m + 4)) (suc i) (suc m)")]),
     ("an escaped asterisk taken for the mark of emphasis", [
         ("specs/Md/Elements/Emphasis.antt", "eqb (backslashes prefix % 2) 0", "eqb (backslashes prefix % 1) 0")]),
 ]
@@ -80,7 +88,7 @@ def edit(path, old, new):
 def copy(root):
     """the two crates; returns the folder of `spec`"""
     for name in ("spec", "recovery"):
-        shutil.copytree(os.path.join(CRATES, name), os.path.join(root, "crates", name), ignore=shutil.ignore_patterns("must-fail"))
+        shutil.copytree(os.path.join(CRATES, name), os.path.join(root, "crates", name), ignore=shutil.ignore_patterns("must-fail", "out"))
     with open(os.path.join(root, "crates.txt"), "w") as h:
         h.write("spec:\nrecovery: spec\n")
     spec = os.path.join(root, "crates", "spec")
@@ -89,20 +97,28 @@ def copy(root):
     return spec
 
 
+def check(folder):
+    """the status of a check of the crate, and what it prints"""
+    run = subprocess.run(["rt", "check"], cwd=folder, stdout=subprocess.PIPE, stderr=subprocess.STDOUT)
+    return run.returncode, run.stdout.decode("utf-8", "replace")
+
+
 def answer(edits):
-    """what comes of the edits: the law of `recovery` that refuses them, or none, and what to print"""
+    """what comes of the edits: whether a law of `recovery` refuses them, and what to print"""
     with tempfile.TemporaryDirectory() as root:
         spec = copy(root)
         for file, old, new in edits:
             edit(os.path.join(spec, *file.split("/")), old, new)
-        run = subprocess.run(["rt", "check", "recovery"], cwd=root, stdout=subprocess.PIPE, stderr=subprocess.STDOUT)
-    out = run.stdout.decode("utf-8", "replace")
-    if run.returncode == 0:
+        status, out = check(spec)
+        if status != 0:
+            return False, "NOT TAKEN BY spec:\n" + out[-2000:]
+        status, out = check(os.path.join(root, "crates", "recovery"))
+    if status == 0:
         return False, "ACCEPTED"
-    found = re.search(r"crates/(\w+)/specs/(\S+)\.antt:\d+:\d+: error: `([^`]+)`", out)
-    if found is None or found.group(1) != "recovery":
+    found = re.search(r"^\./(?:specs|proofs)/(\S+)\.antt:\d+:\d+: error: `([^`]+)`", out, re.M)
+    if found is None:
         return False, "NOT REFUSED BY A LAW OF recovery:\n" + out[-2000:]
-    return True, "refused by %s, `%s`" % (found.group(2), found.group(3))
+    return True, "refused by %s, `%s`" % (found.group(1), found.group(2))
 
 
 def main():

@@ -14,20 +14,20 @@ import antt
 import command_line
 import sheets
 
-PREAMBLE = """use Rattle·spec.specs.Bytes.{Bytes, ascii, same}
-use Rattle·spec.specs.Questions.{SkipList, standard, own, refusal}
-use Rattle·spec.specs.Out.{Out}
-use Rattle·spec.specs.Call.{written}
+PREAMBLE = """use Rattle.spec.specs.Bytes.{Bytes, ascii, same}
+use Rattle.spec.specs.Questions.{SkipList, standard, own, refusal}
+use Rattle.spec.specs.Out.{Out}
+use Rattle.spec.specs.Call.{written}
 
 gives : Out → Bytes → ℕ → Bool
-gives o text peak = same (o .text) text && eqb (o .peak) peak
+gives o text peak = same o.text text && eqb o.peak peak
 
 refuses : Bytes → SkipList → ℕ → ℕ → Bool
 refuses sheet skips start number = eqb (refusal sheet skips start 4194304) number
 
 writes : Bytes → SkipList → ℕ → Bool → Bytes → ℕ → Bool
-writes sheet skips start withNode text peak =
-    refuses sheet skips start 0 && gives (written sheet skips start withNode) text peak
+writes sheet skips start with_node text peak =
+    refuses sheet skips start 0 && gives (written sheet skips start with_node) text peak
 """
 
 
@@ -107,7 +107,7 @@ case%d = long %d _ refl
 
 def compare_long(reference):
     """whether question 1 is answered as by the Rust for sheets of 1,048,576 and 1,048,577 bytes"""
-    preamble = "use lib.ListN.{length-replicate}\nuse Rattle·spec.specs.Questions.{question1}\n"
+    preamble = "use Rattle.std.proofs.lemmas.List.{length-replicate}\nuse Rattle.spec.specs.Questions.{question1}\n"
     with antt.Bench(preamble) as bench:
         return all(bench.run(LONG % (n, n, "false" if reference.answer(bytes(n), 0, False, None)[1] == 1 else "true", n, n))[0] == 0
                    for n in (1048576, 1048577))

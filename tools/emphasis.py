@@ -28,28 +28,26 @@ import antt
 
 OUTSIDE = ["\u00e9", "\u00a0", "\u2014"]    # text, white space, punctuation
 
-PREAMBLE = """use Prim.Native.Nat.{_-_}
-use lib.ListN.{drop}
-use Rattle·spec.specs.Bytes.{Bytes, ascii, same, startsWith, endsWith}
-use Rattle·spec.specs.Reading.Inline.{Beside, besideWhite, besidePunctuation, besideText, beside}
-use Rattle·spec.specs.Pieces.EmphasisReading.{Inlines, nothing, byte, emphasis, strong, inlinesBy}
+PREAMBLE = """use Rattle.spec.specs.Bytes.{Bytes, ascii, same, starts_with, ends_with}
+use Rattle.spec.specs.Reading.Inline.{Beside, besideWhite, besidePunctuation, besideText, beside}
+use Rattle.spec.specs.Pieces.EmphasisReading.{Inlines, nothing, byte, emphasis, strong, inlines_by}
 
 known : ℕ → Beside
 known b = cond (leb 128 b) besideText (beside b)
 
-headOf : Bytes → Beside
-headOf [] = besideWhite
-headOf (b ∷ s) = known b
+head_of : Bytes → Beside
+head_of [] = besideWhite
+head_of (b ∷ s) = known b
 
-firstOf : Bytes → Beside
-firstOf s =
-    cond (startsWith (0xC2 ∷ 0xA0 ∷ []) s) besideWhite
-    (cond (startsWith (0xE2 ∷ 0x80 ∷ 0x94 ∷ []) s) besidePunctuation (headOf s))
+first_of : Bytes → Beside
+first_of s =
+    cond (starts_with (0xC2 ∷ 0xA0 ∷ []) s) besideWhite
+    (cond (starts_with (0xE2 ∷ 0x80 ∷ 0x94 ∷ []) s) besidePunctuation (head_of s))
 
-lastOf : Bytes → Beside
-lastOf s =
-    cond (endsWith (0xC2 ∷ 0xA0 ∷ []) s) besideWhite
-    (cond (endsWith (0xE2 ∷ 0x80 ∷ 0x94 ∷ []) s) besidePunctuation (headOf (drop (length s - 1) s)))
+last_of : Bytes → Beside
+last_of s =
+    cond (ends_with (0xC2 ∷ 0xA0 ∷ []) s) besideWhite
+    (cond (ends_with (0xE2 ∷ 0x80 ∷ 0x94 ∷ []) s) besidePunctuation (head_of (drop (length s - 1) s)))
 
 code : Inlines → List ℕ
 code nothing = []
@@ -62,7 +60,7 @@ judged none e = 2
 judged (some y) e = cond (same (code y) e) 0 1
 
 verdict : Bytes → List ℕ → ℕ
-verdict t e = judged (inlinesBy lastOf firstOf t) e
+verdict t e = judged (inlines_by last_of first_of t) e
 """
 
 SAME, DIFFERENT, UNREAD = 0, 1, 2

@@ -3,12 +3,12 @@ three comparisons with them. Each prints its seed and its counts, and ends with 
 
     python3 tools/plain.py antt --sheets 10000
         the definitions, evaluated in antt: `plain` holds for every random sheet and every sheet of the edges, for no sheet that
-        breaks a sentence of document 01, and for a sheet changed at random exactly if `is_plain` below says so; `sheetList`
+        breaks a sentence of document 01, and for a sheet changed at random exactly if `is_plain` below says so; `sheet_list`
         equals the list of this file
     python3 tools/plain.py cmark --sheets 50000 --model ../shared/model --tools ../shared/tools
         the text that the model writes, as cmark-gfm reads it, equals the list of this file
     python3 tools/plain.py reading --sheets 10000
-        `read` of the text that the definition writes equals `sheetList`, in antt
+        `read` of the text that the definition writes equals `sheet_list`, in antt
 
 Trees are those of trees.py.
 """
@@ -637,31 +637,31 @@ def changed(r, sheet):
 # ---------------------------------------------------------------- in antt
 
 USES = """
-use Rattle·spec.specs.Bytes.{Bytes, ascii}
-use Rattle·spec.specs.Fields.{fields}
-use Rattle·spec.specs.Tree.{treeOf}
-use Rattle·spec.specs.Entries.{word, Entry, rule, heading, paragraph, fixed, item, table, sameEntries}
-use Rattle·spec.specs.Plain.{plain}
-use Rattle·spec.specs.SheetList.{sheetList}
+use Rattle.spec.specs.Bytes.{Bytes, ascii}
+use Rattle.spec.specs.Fields.{fields}
+use Rattle.spec.specs.Tree.{tree_of}
+use Rattle.spec.specs.Entries.{word, Entry, rule, heading, paragraph, fixed, item, table, same_entries}
+use Rattle.spec.specs.Plain.{plain}
+use Rattle.spec.specs.SheetList.{sheet_list}
 """
 
 EQUALITY = """
-plainWith : Bytes → List Entry → Bool
-plainWith sheet entries = let tree = treeOf (fields sheet) in plain tree && sameEntries (sheetList tree) entries
+plain_with : Bytes → List Entry → Bool
+plain_with sheet entries = let tree = tree_of (fields sheet) in plain tree && same_entries (sheet_list tree) entries
 
-notPlain : Bytes → Bool
-notPlain sheet = not (plain (treeOf (fields sheet)))
+not_plain : Bytes → Bool
+not_plain sheet = not (plain (tree_of (fields sheet)))
 """
 
 READING_USES = """
-use Rattle·spec.specs.Questions.{standard}
-use Rattle·spec.specs.Call.{written}
-use Rattle·spec.specs.Reading.{read}
+use Rattle.spec.specs.Questions.{standard}
+use Rattle.spec.specs.Call.{written}
+use Rattle.spec.specs.Reading.{read}
 """
 
 READING = """
-readsBack : Bytes → Bool
-readsBack sheet = sameEntries (read (written sheet standard 0 false .text)) (sheetList (treeOf (fields sheet)))
+reads_back : Bytes → Bool
+reads_back sheet = same_entries (read (written sheet standard 0 false).text) (sheet_list (tree_of (fields sheet)))
 """
 
 
@@ -684,11 +684,11 @@ def random_sheets(seed, n):
 
 
 def plain_term(sheet):
-    return "plainWith %s %s" % (antt.literal(encode(sheet)), antt.entries(sheet_list(sheet)))
+    return "plain_with %s %s" % (antt.literal(encode(sheet)), antt.entries(sheet_list(sheet)))
 
 
 def other_term(sheet):
-    return "notPlain %s" % antt.literal(encode(sheet))
+    return "not_plain %s" % antt.literal(encode(sheet))
 
 
 def compare_antt(args):
@@ -718,7 +718,7 @@ def compare_antt(args):
 def compare_reading(args):
     print("seed %d" % args.seed)
     sheets = [encode(s) for s in itertools.chain(random_sheets(args.seed, args.sheets), (s for _, s in edges()))]
-    cases = [(s, "readsBack %s" % antt.literal(s)) for s in sheets if len(s) <= args.largest]
+    cases = [(s, "reads_back %s" % antt.literal(s)) for s in sheets if len(s) <= args.largest]
     with antt.Bench(USES + READING_USES + EQUALITY + READING) as bench:
         wrong = in_batches(bench, cases, "read back", args.batch)
     print("sheets read back: %d, %d differ; %d left out as longer than %d bytes" % (len(cases), wrong, len(sheets) - len(cases), args.largest))

@@ -32,73 +32,73 @@ ANY = 1000000000    # one more digit than a list marker can have
 
 # ---- evaluation: the verdict on a reading, given what is expected
 
-PREAMBLE = """use Rattle·spec.specs.Bytes.{Bytes, ascii, same}
-use Rattle·spec.specs.Entries.{Piece, Entry, word, other, rule, heading, paragraph, fixed, item, table, foreign}
-use Rattle·spec.specs.Reading.{read}
+PREAMBLE = """use Rattle.spec.specs.Bytes.{Bytes, ascii, same}
+use Rattle.spec.specs.Entries.{Piece, Entry, word, other, rule, heading, paragraph, fixed, item, table, foreign}
+use Rattle.spec.specs.Reading.{read}
 
-samePiece : Piece → Piece → Bool
-samePiece (word x) (word y) = same x y
-samePiece (word x) other = false
-samePiece other (word y) = false
-samePiece other other = false
+same_piece : Piece → Piece → Bool
+same_piece (word x) (word y) = same x y
+same_piece (word x) other = false
+same_piece other (word y) = false
+same_piece other other = false
 
-sameList : {A : Type 0} → (A → A → Bool) → List A → List A → Bool
-sameList f [] [] = true
-sameList f [] (y ∷ ys) = false
-sameList f (x ∷ xs) [] = false
-sameList f (x ∷ xs) (y ∷ ys) = f x y && sameList f xs ys
+same_list : {A : Type 0} → (A → A → Bool) → List A → List A → Bool
+same_list f [] [] = true
+same_list f [] (y ∷ ys) = false
+same_list f (x ∷ xs) [] = false
+same_list f (x ∷ xs) (y ∷ ys) = f x y && same_list f xs ys
 
-samePieces : List Piece → List Piece → Bool
-samePieces x y = sameList samePiece x y
+same_pieces : List Piece → List Piece → Bool
+same_pieces x y = same_list same_piece x y
 
-sameRow : List (List Piece) → List (List Piece) → Bool
-sameRow x y = sameList samePieces x y
+same_row : List (List Piece) → List (List Piece) → Bool
+same_row x y = same_list same_pieces x y
 
-sameHeadings : Option (List (List Piece)) → Option (List (List Piece)) → Bool
-sameHeadings none none = true
-sameHeadings none (some y) = false
-sameHeadings (some x) none = false
-sameHeadings (some x) (some y) = sameRow x y
+same_headings : Option (List (List Piece)) → Option (List (List Piece)) → Bool
+same_headings none none = true
+same_headings none (some y) = false
+same_headings (some x) none = false
+same_headings (some x) (some y) = same_row x y
 
-sameNumber : Option ℕ → Option ℕ → Bool
-sameNumber none none = true
-sameNumber none (some y) = false
-sameNumber (some x) none = false
-sameNumber (some x) (some y) = eqb x y || eqb y 1000000000
+same_number : Option ℕ → Option ℕ → Bool
+same_number none none = true
+same_number none (some y) = false
+same_number (some x) none = false
+same_number (some x) (some y) = eqb x y || eqb y 1000000000
 
-sameEntry : Entry → Entry → Bool
-sameEntry rule e = elim e [ rule ↦ true | heading n x ↦ false | paragraph x ↦ false | fixed t ↦ false | item d n x ↦ false | table h r ↦ false | foreign ↦ false ]
-sameEntry (heading m w) e = elim e [ rule ↦ false | heading n x ↦ eqb m n && samePieces w x | paragraph x ↦ false | fixed t ↦ false | item d n x ↦ false | table h r ↦ false | foreign ↦ false ]
-sameEntry (paragraph w) e = elim e [ rule ↦ false | heading n x ↦ false | paragraph x ↦ samePieces w x | fixed t ↦ false | item d n x ↦ false | table h r ↦ false | foreign ↦ false ]
-sameEntry (fixed w) e = elim e [ rule ↦ false | heading n x ↦ false | paragraph x ↦ false | fixed t ↦ same w t | item d n x ↦ false | table h r ↦ false | foreign ↦ false ]
-sameEntry (item c m w) e = elim e [ rule ↦ false | heading n x ↦ false | paragraph x ↦ false | fixed t ↦ false | item d n x ↦ eqb c d && (sameNumber m n && samePieces w x) | table h r ↦ false | foreign ↦ false ]
-sameEntry (table g q) e = elim e [ rule ↦ false | heading n x ↦ false | paragraph x ↦ false | fixed t ↦ false | item d n x ↦ false | table h r ↦ sameHeadings g h && sameList sameRow q r | foreign ↦ false ]
-sameEntry foreign e = false
+same_entry : Entry → Entry → Bool
+same_entry rule e = elim e [ rule ↦ true | heading n x ↦ false | paragraph x ↦ false | fixed t ↦ false | item d n x ↦ false | table h r ↦ false | foreign ↦ false ]
+same_entry (heading m w) e = elim e [ rule ↦ false | heading n x ↦ eqb m n && same_pieces w x | paragraph x ↦ false | fixed t ↦ false | item d n x ↦ false | table h r ↦ false | foreign ↦ false ]
+same_entry (paragraph w) e = elim e [ rule ↦ false | heading n x ↦ false | paragraph x ↦ same_pieces w x | fixed t ↦ false | item d n x ↦ false | table h r ↦ false | foreign ↦ false ]
+same_entry (fixed w) e = elim e [ rule ↦ false | heading n x ↦ false | paragraph x ↦ false | fixed t ↦ same w t | item d n x ↦ false | table h r ↦ false | foreign ↦ false ]
+same_entry (item c m w) e = elim e [ rule ↦ false | heading n x ↦ false | paragraph x ↦ false | fixed t ↦ false | item d n x ↦ eqb c d && (same_number m n && same_pieces w x) | table h r ↦ false | foreign ↦ false ]
+same_entry (table g q) e = elim e [ rule ↦ false | heading n x ↦ false | paragraph x ↦ false | fixed t ↦ false | item d n x ↦ false | table h r ↦ same_headings g h && same_list same_row q r | foreign ↦ false ]
+same_entry foreign e = false
 
-hasOther : List Piece → Bool
-hasOther [] = false
-hasOther (word x ∷ ps) = hasOther ps
-hasOther (other ∷ ps) = true
+has_other : List Piece → Bool
+has_other [] = false
+has_other (word x ∷ ps) = has_other ps
+has_other (other ∷ ps) = true
 
-anyOther : List (List Piece) → Bool
-anyOther [] = false
-anyOther (c ∷ cs) = hasOther c || anyOther cs
+any_other : List (List Piece) → Bool
+any_other [] = false
+any_other (c ∷ cs) = has_other c || any_other cs
 
-anyOthers : List (List (List Piece)) → Bool
-anyOthers [] = false
-anyOthers (r ∷ rs) = anyOther r || anyOthers rs
+any_others : List (List (List Piece)) → Bool
+any_others [] = false
+any_others (r ∷ rs) = any_other r || any_others rs
 
-headingOther : Option (List (List Piece)) → Bool
-headingOther none = false
-headingOther (some cs) = anyOther cs
+heading_other : Option (List (List Piece)) → Bool
+heading_other none = false
+heading_other (some cs) = any_other cs
 
 strange : Entry → ℕ
 strange rule = 0
-strange (heading n x) = cond (hasOther x) 3 0
-strange (paragraph x) = cond (hasOther x) 3 0
+strange (heading n x) = cond (has_other x) 3 0
+strange (paragraph x) = cond (has_other x) 3 0
 strange (fixed t) = 0
-strange (item d n x) = cond (hasOther x) 3 0
-strange (table h r) = cond (headingOther h || anyOthers r) 3 0
+strange (item d n x) = cond (has_other x) 3 0
+strange (table h r) = cond (heading_other h || any_others r) 3 0
 strange foreign = 2
 
 stranger : ℕ → ℕ → ℕ
@@ -114,7 +114,7 @@ judged zero b = cond b 0 1
 judged (suc k) b = 2
 
 verdict : List Entry → List Entry → ℕ
-verdict x y = judged (strangest x) (sameList sameEntry x y)
+verdict x y = judged (strangest x) (same_list same_entry x y)
 """
 
 SAME, DIFFERENT, STRANGE = 0, 1, 2    # STRANGE: something foreign or other is in the reading

@@ -131,6 +131,9 @@ def turned(path, table):
 
 
 def main():
+    if "--help" in sys.argv:
+        print(__doc__)
+        return
     check = "--check" in sys.argv
     found = declared()
     table = {n: snake(n) for n in found if snake(n) != n}

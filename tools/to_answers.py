@@ -557,6 +557,9 @@ def convert_cycle(crate, folder, table):
 
 
 def main():
+    if len(sys.argv) < 3:
+        print(__doc__)
+        return
     crate, names, only = sys.argv[1], sys.argv[2], sys.argv[3:]
     table = json.load(open(names))
     good = bad = 0

@@ -1,4 +1,4 @@
-/* The call of the library `md` (`rt staticlib md`). Its contract stands in crates/md/src/call.rt. */
+/* The call of the library `md` (`tools/archive.sh`). Its contract stands in crates/md_c/src/lib.rt. */
 #ifndef BUZHNAEL_H
 #define BUZHNAEL_H
 

@@ -30,7 +30,7 @@ if [ -z "$archive" ]; then
     archive=$root/target/fuzz/libmd.a
     [ -f "$archive" ] || archive=$root/target/staticlib/libmd.a
 fi
-[ -f "$archive" ] || { echo "no archive at $archive: run rt staticlib md" >&2; exit 2; }
+[ -f "$archive" ] || { echo "no archive at $archive: run tools/archive.sh" >&2; exit 2; }
 
 out=$root/target/fuzz
 mkdir -p "$out/findings" "$corpus"

@@ -1,4 +1,4 @@
-// Links the archive that `rt staticlib md` writes; BUZHNAEL_ARCHIVE names another place.
+// Links the archive that `tools/archive.sh` writes; BUZHNAEL_ARCHIVE names another place.
 use std::env;
 use std::path::PathBuf;
 
@@ -10,7 +10,7 @@ fn main() {
     };
     println!("cargo:rerun-if-changed={}", archive.display());
     if !archive.exists() {
-        println!("cargo:warning=no archive at {}: run `rt staticlib md`", archive.display());
+        println!("cargo:warning=no archive at {}: run `tools/archive.sh`", archive.display());
     }
     let folder = archive.parent().expect("the path of an archive");
     let name = archive.file_name().and_then(|n| n.to_str()).unwrap_or_default();

@@ -59,9 +59,9 @@ mod tests {
     }
 
     fn source() -> Vec<(String, String)> {
-        let path = concat!(env!("CARGO_MANIFEST_DIR"), "/../../crates/md/src/call.rt");
+        let path = concat!(env!("CARGO_MANIFEST_DIR"), "/../../crates/md_c/src/lib.rt");
         let source = fs::read_to_string(path).unwrap();
-        as_hosts_see(signature(&source, "#[no_mangle]\npub extern \"C\" fn buzhnael_serialize_md("))
+        as_hosts_see(signature(&source, "#[unsafe(no_mangle)]\npub extern \"C\" fn buzhnael_serialize_md("))
     }
 
     #[test]
