@@ -84,11 +84,19 @@ fn run_all(rt: &impl Print, input: &[u8], sheet: &mut [u8], nodes: &mut [u8]) ->
     Ok(())
 }
 
+// The memories: S bytes for a sheet, and N for nodes.
+fn run_in<const S: usize, const N: usize>(rt: &impl Print, input: &[u8]) -> io::Result<()>
+    requires sheet_size { S < 9223372036854775808 }
+    requires node_size { N < 9223372036854775808 }
+{
+    let mut sheet = [0u8; S];
+    let mut nodes = [0u8; N];
+    run_all(rt, input, &mut sheet, &mut nodes)
+}
+
 // Room for a sheet that is one byte too long, and for 65,536 nodes.
 fn main(rt: HostRuntime) -> io::Result<()> {
     let mut input = [0u8; 131072];
-    let mut sheet = [0u8; 1048577];
-    let mut nodes = [0u8; 4194304];
     let n = read_full(&mut rt.reader(), &mut input)?;
-    run_all(&rt, &input[..n], &mut sheet, &mut nodes)
+    run_in::<1048577, 4194304>(&rt, &input[..n])
 }
