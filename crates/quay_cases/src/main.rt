@@ -6,6 +6,8 @@
 
 mod build;
 
+ghost use Rattle.std.specs.Prelude.{◌<◌};
+
 use build::{field, fields, holding, two_cells};
 use md::call::{Answer, serialize_md};
 use sheet_main::answer_to;
@@ -257,10 +259,18 @@ fn show_all(
     )
 }
 
+// The memories: S bytes for a sheet, and N for nodes.
+fn show_in<const S: usize, const N: usize>(rt: &impl Print) -> io::Result<()>
+    requires sheet_size { S < 9223372036854775808 }
+    requires node_size { N < 9223372036854775808 }
+{
+    let mut sheet = [0u8; S];
+    let mut nodes = [0u8; N];
+    let mut text = [0u8; 4096];
+    show_all(rt, &mut sheet, &mut nodes, &mut text)
+}
+
 // Room for 65,536 nodes: 3 bytes in the sheet for each empty text, and 64 of node memory.
 fn main(rt: HostRuntime) -> io::Result<()> {
-    let mut sheet = [0u8; 196608];
-    let mut nodes = [0u8; 4194304];
-    let mut text = [0u8; 4096];
-    show_all(&rt, &mut sheet, &mut nodes, &mut text)
+    show_in::<196608, 4194304>(&rt)
 }
