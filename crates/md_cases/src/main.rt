@@ -9,9 +9,10 @@ mod list;
 ghost use Rattle.std.specs.Prelude.{◌+◌, ◌≤◌, ◌<◌, ◌≡◌, length};
 
 use input::fields::is_same;
-use libc::STDOUT_FILENO;
 use list::{Head, part, pointed, read_head};
 use md::call::{Answer, serialize_md};
+use reading::read_full;
+use std::io;
 use tree::memory::read_quad;
 
 fn fill(m: &mut [u8], b: u8) {
@@ -196,24 +197,26 @@ fn replay_at(list: &[u8], zeros: &[u8], at: usize, nodes: &mut [u8], text: &mut 
 }
 
 // Writes which stored call differs.
-fn tell(k: usize, differ: u64) {
+fn tell(rt: &impl Print, k: usize, differ: u64) -> io::Result<()> {
     if differ == 0 {
-        return;
+        return Ok(());
     }
-    io::write_all(STDOUT_FILENO, b"stored call ");
-    io::print_decimal(STDOUT_FILENO, k as u64);
-    io::write_all(STDOUT_FILENO, b" differs\n");
+    println!(rt; "stored call {k} differs")
 }
 
-fn report(calls: u64, differ: u64) {
-    io::print_decimal(STDOUT_FILENO, calls);
-    io::write_all(STDOUT_FILENO, b" calls, ");
-    io::print_decimal(STDOUT_FILENO, differ);
-    io::write_all(STDOUT_FILENO, b" differ\n");
+fn report(rt: &impl Print, calls: u64, differ: u64) -> io::Result<()> {
+    println!(rt; "{calls} calls, {differ} differ")
 }
 
 // The first `count` heads, or as many as there are.
-fn replay_all(list: &[u8], zeros: &[u8], count: usize, nodes: &mut [u8], text: &mut [u8])
+fn replay_all(
+    rt: &impl Print,
+    list: &[u8],
+    zeros: &[u8],
+    count: usize,
+    nodes: &mut [u8],
+    text: &mut [u8],
+) -> io::Result<()>
     requires { 4 ≤ length list.now }
 {
     let mut calls: u64 = 0;
@@ -222,23 +225,29 @@ fn replay_all(list: &[u8], zeros: &[u8], count: usize, nodes: &mut [u8], text: &
     let mut k = 0;
     while k < count {
         if list.len() - at < 38 {
-            return report(calls, differ);
+            return report(rt, calls, differ);
         }
         let tally = replay_at(list, zeros, at, nodes, text);
         calls += tally.calls;
         differ += tally.differ;
-        tell(k, tally.differ);
+        tell(rt, k, tally.differ)?;
         at += 38;
         k += 1;
     }
-    report(calls, differ);
+    report(rt, calls, differ)
 }
 
-fn replay_list(list: &[u8], zeros: &[u8], nodes: &mut [u8], text: &mut [u8]) {
+fn replay_list(
+    rt: &impl Print,
+    list: &[u8],
+    zeros: &[u8],
+    nodes: &mut [u8],
+    text: &mut [u8],
+) -> io::Result<()> {
     if list.len() < 4 {
-        return;
+        return Ok(());
     }
-    replay_all(list, zeros, read_quad(list, 0), nodes, text);
+    replay_all(rt, list, zeros, read_quad(list, 0), nodes, text)
 }
 
 fn space() -> [u8; 1048577]
@@ -247,11 +256,11 @@ fn space() -> [u8; 1048577]
     [0; 1048577]
 }
 
-fn main() {
+fn main(rt: HostRuntime) -> io::Result<()> {
     let mut list = space();
     let zeros = space();
-    let mut nodes = io::large_buffer();
-    let mut text = io::large_buffer();
-    let n = io::read_full(0, &mut list);
-    replay_list(part(&list, 0, n), &zeros, &mut nodes, &mut text);
+    let mut nodes = [0u8; 65536];
+    let mut text = [0u8; 65536];
+    let n = read_full(&mut rt.reader(), &mut list)?;
+    replay_list(&rt, part(&list, 0, n), &zeros, &mut nodes, &mut text)
 }

@@ -2,6 +2,8 @@
 
 #![tactic(auto)]
 
-fn main() {
-    sheet_main::run();
+use std::io;
+
+fn main(rt: HostRuntime) -> io::Result<()> {
+    sheet_main::run(&rt)
 }

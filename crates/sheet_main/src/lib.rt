@@ -4,14 +4,17 @@
 
 ghost use Rattle.sheet_main.specs.Reply.{reply, Is};
 
-use libc::{STDIN_FILENO, STDOUT_FILENO};
 use md::call::{Answer, serialize_md};
+use reading::read_full;
+use std::io;
+use std::io::{Input, Read};
 use text::buffer::front;
 
-// Whether standard input has a byte more.
-fn has_more() -> bool {
+// Whether the input has a byte more.
+fn has_more<R: Read>(input: &mut R) -> io::Result<bool> {
     let mut next = [0u8; 1];
-    io::read_full(STDIN_FILENO, &mut next) != 0
+    let n = read_full(input, &mut next)?;
+    Ok(n != 0)
 }
 
 // The answer to a sheet; number 1, and no call, where the input is longer than the sheet that was read.
@@ -25,26 +28,25 @@ pub fn answer_to(sheet: &[u8], longer: bool, nodes: &mut [u8], text: &mut [u8]) 
 }
 
 // The text with no line end added, or `no ` and the number in a line.
-fn print_answer(answer: Answer, text: &[u8]) {
+fn print_answer(rt: &impl Print, answer: Answer, text: &[u8]) -> io::Result<()> {
     match answer {
-        Answer::Written(n) => {
-            io::write_all(STDOUT_FILENO, front(text, n));
-        }
-        Answer::Refused(number) => {
-            io::write_all(STDOUT_FILENO, b"no ");
-            io::print_decimal(STDOUT_FILENO, number as u64);
-            io::write_all(STDOUT_FILENO, b"\n");
-        }
+        Answer::Written(n) => rt.write_all(front(text, n)),
+        Answer::Refused(number) => println!(rt; "no {number}"),
     }
 }
 
 // Reads at most 65,536 bytes, and asks for one more only where they are as many.
-pub fn run() {
-    let mut sheet = io::large_buffer();
-    let mut nodes = io::large_buffer();
-    let mut text = io::large_buffer();
-    let n = io::read_full(STDIN_FILENO, &mut sheet);
-    let longer = if n == 65536 { has_more() } else { false };
+pub fn run(rt: &(impl Input + Print)) -> io::Result<()> {
+    let mut sheet = [0u8; 65536];
+    let mut nodes = [0u8; 65536];
+    let mut text = [0u8; 65536];
+    let mut input = rt.reader();
+    let n = read_full(&mut input, &mut sheet)?;
+    let longer = if n == 65536 {
+        has_more(&mut input)?
+    } else {
+        false
+    };
     let answer = answer_to(front(&sheet, n), longer, &mut nodes, &mut text);
-    print_answer(answer, &text);
+    print_answer(rt, answer, &text)
 }

@@ -10,12 +10,14 @@ mod case;
 mod leaf;
 mod setup;
 
-ghost use Rattle.std.specs.Prelude.{◌≡◌, ◌≤◌, length};
+ghost use Rattle.std.specs.Prelude.{◌≡◌, ◌≤◌, length, IfOk};
 
 use case::{decode, field, line_end, next_line, number};
 use input::fields::is_same;
 use leaf::run;
+use reading::read_full;
 use setup::Case;
+use std::io;
 use text::buffer::{Wrote, front};
 
 // Whether the answer is the stored one.
@@ -79,14 +81,14 @@ fn writes(line: &[u8], memory: &mut [u8], a: &mut [u8], b: &mut [u8]) -> bool {
 }
 
 fn replay(line: &[u8]) -> bool {
-    let mut memory = io::buffer();
-    let mut a = io::buffer();
-    let mut b = io::buffer();
+    let mut memory = [0u8; 4096];
+    let mut a = [0u8; 4096];
+    let mut b = [0u8; 4096];
     writes(line, &mut memory, &mut a, &mut b)
 }
 
 // Replays all lines, and writes those that differ.
-fn replay_lines(lines: &[u8]) {
+fn replay_lines(rt: &impl Print, lines: &[u8]) -> io::Result<()> {
     let mut count: u64 = 0;
     let mut differ: u64 = 0;
     let mut at = 0;
@@ -94,29 +96,26 @@ fn replay_lines(lines: &[u8]) {
         let end = line_end(lines, at);
         let line = &lines[at..end];
         count += 1;
-        differ += reported(line);
+        differ += reported(rt, line)?;
         at = next_line(lines, end);
     }
-    report(count, differ);
+    report(rt, count, differ)
 }
 
 // 0 for a line that is right; any other is written, and counts.
-fn reported(line: &[u8]) -> u64
-    ensures { result ≤ 1 }
+fn reported(rt: &impl Print, line: &[u8]) -> io::Result<u64>
+    ensures { IfOk result (λ n. n ≤ 1) }
 {
     if replay(line) {
-        return 0;
+        return Ok(0);
     }
-    io::write_all(1, line);
-    io::write_all(1, b"\n");
-    1
+    rt.write_all(line)?;
+    rt.write_all(b"\n")?;
+    Ok(1)
 }
 
-fn report(count: u64, differ: u64) {
-    io::print_decimal(1, count);
-    io::write_all(1, b" cases, ");
-    io::print_decimal(1, differ);
-    io::write_all(1, b" differ\n");
+fn report(rt: &impl Print, count: u64, differ: u64) -> io::Result<()> {
+    println!(rt; "{count} cases, {differ} differ")
 }
 
 fn space() -> [u8; 524288]
@@ -125,8 +124,8 @@ fn space() -> [u8; 524288]
     [0; 524288]
 }
 
-fn main() {
+fn main(rt: HostRuntime) -> io::Result<()> {
     let mut lines = space();
-    let size = io::read_full(0, &mut lines);
-    replay_lines(front(&lines, size));
+    let size = read_full(&mut rt.reader(), &mut lines)?;
+    replay_lines(&rt, front(&lines, size))
 }

@@ -1,10 +1,10 @@
 // The nodes in node memory as lines of numbers, by the access functions alone.
-ghost use Rattle.std.specs.Prelude.{◌+◌, ◌*◌, ◌≤◌, ◌<◌, length};
+ghost use Rattle.std.specs.Prelude.{◌+◌, ◌*◌, ◌≤◌, ◌<◌, length, IfOk};
 ghost use Rattle.tree.specs.Memory.{parent_at};
 ghost use Rattle.tree.specs.Nodes.{Readable};
 ghost use Rattle.tree.specs.Represents.{Holds};
 
-use libc::STDOUT_FILENO;
+use std::io;
 use tree::attributes::{Value, attribute, language_attribute};
 use tree::names::is_skipped;
 use tree::nodes::{
@@ -13,9 +13,9 @@ use tree::nodes::{
 };
 
 // A blank and a number.
-pub fn put(n: usize) {
-    io::write_all(STDOUT_FILENO, b" ");
-    io::print_decimal(STDOUT_FILENO, n as u64);
+pub fn put(rt: &impl Print, n: usize) -> io::Result<()> {
+    rt.write_all(b" ")?;
+    rt.print(n)
 }
 
 // How far a lies behind b; 0 where it does not.
@@ -98,37 +98,43 @@ fn is_like(a: &[usize; 14], b: &[usize; 14]) -> bool {
     true
 }
 
-fn put_line(line: &[usize; 14], last: &mut [usize; 14]) {
+fn put_line(rt: &impl Print, line: &[usize; 14], last: &mut [usize; 14]) -> io::Result<()> {
     let mut k = 0;
     while k < 14 {
-        put(line[k]);
+        put(rt, line[k])?;
         last[k] = line[k];
         k += 1;
     }
+    Ok(())
 }
 
 // How often the last line comes again.
-fn put_again(again: usize) {
+fn put_again(rt: &impl Print, again: usize) -> io::Result<()> {
     if again == 0 {
-        return;
+        return Ok(());
     }
-    io::write_all(STDOUT_FILENO, b" *");
-    put(again);
-    io::write_all(STDOUT_FILENO, b"\n");
+    rt.write_all(b" *")?;
+    put(rt, again)?;
+    rt.write_all(b"\n")
 }
 
 // The line, where it is not like the last one, which came `again` times so far; and how often it came now.
-fn put_next(line: &[usize; 14], last: &mut [usize; 14], again: usize) -> usize
+fn put_next(
+    rt: &impl Print,
+    line: &[usize; 14],
+    last: &mut [usize; 14],
+    again: usize,
+) -> io::Result<usize>
     requires { again + 1 < 18446744073709551616 }
-    ensures { result ≤ again + 1 }
+    ensures { IfOk result (λ n. n ≤ again + 1) }
 {
     if is_like(line, last) {
-        return again + 1;
+        return Ok(again + 1);
     }
-    put_again(again);
-    put_line(line, last);
-    io::write_all(STDOUT_FILENO, b"\n");
-    0
+    put_again(rt, again)?;
+    put_line(rt, line, last)?;
+    rt.write_all(b"\n")?;
+    Ok(0)
 }
 
 // All of node i, and where its field stands; `before` is where that of the node before it does.
@@ -154,7 +160,15 @@ fn read_node(
 }
 
 // Every node but the fragment, in a line of its own.
-pub fn print_nodes(sheet: &[u8], own: bool, run: &[u8], name: &[u8], ns: &[u8], count: usize)
+pub fn print_nodes(
+    rt: &impl Print,
+    sheet: &[u8],
+    own: bool,
+    run: &[u8],
+    name: &[u8],
+    ns: &[u8],
+    count: usize,
+) -> io::Result<()>
     requires { Holds sheet.now ns.now count }
 {
     let mut last = [0usize; 14];
@@ -164,8 +178,8 @@ pub fn print_nodes(sheet: &[u8], own: bool, run: &[u8], name: &[u8], ns: &[u8], 
     let mut i = 1;
     while i < count {
         place = read_node(sheet, own, run, name, ns, i, place, &mut line);
-        again = put_next(&line, &mut last, again);
+        again = put_next(rt, &line, &mut last, again)?;
         i += 1;
     }
-    put_again(again);
+    put_again(rt, again)
 }

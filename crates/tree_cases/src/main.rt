@@ -5,73 +5,98 @@
 mod dump;
 mod list;
 
-ghost use Rattle.std.specs.Prelude.{◌≤◌, ◌<◌, length};
+ghost use Rattle.std.specs.Prelude.{◌≤◌, ◌<◌, length, IfOk};
 
 use crate::dump::{print_nodes, put};
 use crate::list::{build_sheet, read_head};
 use input::questions::first_refusal;
-use libc::STDOUT_FILENO;
+use reading::read_full;
+use std::io;
 use tree::memory::clear;
 use tree::store::store_nodes;
 
 // One call: a line with the number, and for number 0 a line for each node.
-fn run_call(sheet: &[u8], own: bool, run: &[u8], start: usize, name: &[u8], nodes: &mut [u8]) {
+fn run_call(
+    rt: &impl Print,
+    sheet: &[u8],
+    own: bool,
+    run: &[u8],
+    start: usize,
+    name: &[u8],
+    nodes: &mut [u8],
+) -> io::Result<()> {
     let number = first_refusal(sheet, own, run, start, nodes.len());
-    io::print_decimal(STDOUT_FILENO, number as u64);
+    rt.print(number)?;
     if number != 0 {
-        io::write_all(STDOUT_FILENO, b"\n");
-        return;
+        return rt.write_all(b"\n");
     }
     let count = store_nodes(sheet, nodes);
-    put(count);
-    io::write_all(STDOUT_FILENO, b"\n");
-    print_nodes(sheet, own, run, name, nodes, count);
+    put(rt, count)?;
+    rt.write_all(b"\n")?;
+    print_nodes(rt, sheet, own, run, name, nodes, count)?;
     clear(nodes);
+    Ok(())
 }
 
 // The call at `at` of the input, and where the next one stands there.
-fn run_next(input: &[u8], at: usize, sheet: &mut [u8], nodes: &mut [u8]) -> usize
+fn run_next(
+    rt: &impl Print,
+    input: &[u8],
+    at: usize,
+    sheet: &mut [u8],
+    nodes: &mut [u8],
+) -> io::Result<usize>
     requires { at < length input.now }
-    ensures { (at < result) × (result ≤ length input.now) }
+    ensures { IfOk result (λ n. (at < n) × (n ≤ length input.now)) }
 {
     if input.len() - at < 15 {
-        return input.len();
+        return Ok(input.len());
     }
     let h = read_head(input, at);
     let run = h.run;
     let name = h.name;
     let end = h.end;
     if input.len() < end {
-        return input.len();
+        return Ok(input.len());
     }
     let b = build_sheet(input, end, h.pieces, sheet);
     let len = b.len;
     let memory = h.memory;
     if memory <= nodes.len() {
         run_call(
+            rt,
             &sheet[..len],
             h.own,
             &input[run..name],
             h.start,
             &input[name..end],
             &mut nodes[..memory],
-        );
+        )?;
     }
-    b.at
+    Ok(b.at)
 }
 
-fn run_all(input: &[u8], sheet: &mut [u8], nodes: &mut [u8]) {
+fn run_all(rt: &impl Print, input: &[u8], sheet: &mut [u8], nodes: &mut [u8]) -> io::Result<()> {
     let mut at = 0;
     while at < input.len() {
-        at = run_next(input, at, sheet, nodes);
+        at = run_next(rt, input, at, sheet, nodes)?;
     }
+    Ok(())
+}
+
+// The memories: S bytes for a sheet, and N for nodes.
+fn run_in<const S: usize, const N: usize>(rt: &impl Print, input: &[u8]) -> io::Result<()>
+    requires sheet_size { S < 9223372036854775808 }
+    requires node_size { N < 9223372036854775808 }
+{
+    let mut sheet = [0u8; S];
+    let mut nodes = [0u8; N];
+    run_all(rt, input, &mut sheet, &mut nodes)
 }
 
 // Room for a sheet that is one byte too long, and for 65,536 nodes.
-fn main() {
+fn main(rt: HostRuntime) -> io::Result<()> {
     let mut input = [0u8; 131072];
-    let mut sheet = [0u8; 1048577];
-    let mut nodes = [0u8; 4194304];
-    let n = io::read_full(0, &mut input);
-    run_all(&input[..n], &mut sheet, &mut nodes);
+    let n = read_full(&mut rt.reader(), &mut input)?;
+    run_in::<1048577, 4194304>(&rt, &input[..n])
 }
