@@ -1,6 +1,6 @@
 -- An escaped line begins no block: at the beginning of a line or of an item, words are text. Assumes nothing.
-use Rattle.std.specs.Prelude.{ℕ, suc, ◌-◌, ◌≡◌, Bool, true, false, cond, not, ◌&&◌, ◌||◌, List, [], ◌∷◌, ◌++◌, eqb, leb, length, take, drop}
-use Rattle.std.proofs.Common.{arith, sym, ap, ◌∙◌, true≢false, eqb-true}
+use Rattle.std.specs.Prelude.{ℕ, suc, ◌≡◌, Bool, true, false, cond, not, ◌&&◌, ◌||◌, List, [], ◌∷◌, ◌++◌, eqb, leb, length, take, drop}
+use Rattle.std.proofs.Common.{sym, ap, ◌∙◌, true≢false, eqb-true}
 use Rattle.std.proofs.Math.Path.{refl}
 use Rattle.std.proofs.lemmas.Bool.{false≢true}
 use Rattle.std.proofs.Math.Bool.{and-false, and-true, or-false}

@@ -1,4 +1,3 @@
 // No code: this crate holds laws about the definitions of `spec`.
 
 #![tactic(auto)]
-

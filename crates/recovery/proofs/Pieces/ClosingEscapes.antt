@@ -4,7 +4,7 @@ use Rattle.std.proofs.Common.{arith, sym, ap, ◌∙◌, true≢false, append-ni
 use Rattle.std.proofs.Math.Path.{refl}
 use Rattle.std.proofs.Math.Bool.{false}
 use Rattle.std.proofs.Math.Seq.{take-append_seam, drop-append_seam}
-use Rattle.spec.specs.Bytes.{Bytes, ascii, null, same, isin, every, ends_with, blank, one, unless, among, white_space_of, is_white_space, trim_end_matches, trim_end}
+use Rattle.spec.specs.Bytes.{Bytes, ascii, null, same, isin, every, ends_with, one, unless, among, white_space_of, is_white_space, trim_end_matches, trim_end}
 use Rattle.spec.specs.Out.{keep, replace}
 use Rattle.spec.specs.Md.Heading.{escape_closing_hashes}
 use Rattle.spec.specs.Reading.Inline as reading

@@ -6,7 +6,7 @@ use Rattle.std.proofs.Math.Bool.{true, false, and-false}
 use mathlib.Core.List.{List, [], ◌∷◌, ◌++◌, append_assoc}
 use Rattle.std.proofs.Math.Option.{Option, none, some}
 use borrow.Author.Tests.{le-leb, leb-true}
-use Rattle.spec.specs.Bytes.{Bytes, ascii, null, same, isin, every, starts_with, ends_with, white, blank, digit, one, trim_end_matches, trim_start_matches, trim_ascii_end, take_while, value_from, decimal}
+use Rattle.spec.specs.Bytes.{Bytes, ascii, null, same, isin, every, starts_with, ends_with, white, blank, digit, one, trim_end_matches, trim_start_matches, trim_ascii_end, take_while, decimal}
 use Rattle.spec.specs.Decimal.{length_nine}
 use Rattle.spec.specs.ListNumber.{largest_number}
 use Rattle.spec.specs.Names as tag

@@ -17,7 +17,7 @@ use Rattle.spec.specs.Md.TextUtils.{ends_with_white, normalized, push_normalized
 use Rattle.spec.specs.Out.{cut, keep, push, replace, and_then}
 use Rattle.spec.specs.Plain.{plain_text, one_text}
 use Rattle.spec.specs.SheetList.{first_text}
-use Rattle.spec.specs.Tree.{Attr, Forest, nothing, text, element, attrs_of, kids_of}
+use Rattle.spec.specs.Tree.{Attr, Forest, nothing, element, attrs_of, kids_of}
 use Rattle.spec.specs.declared.ctx.FormatOpts.{FormatOpts}
 use Rattle.spec.proofs.Tests.{every_replicate, same_eq}
 use Rattle.recovery.proofs.Words.{plain_words, blanked, text_words, text_some}

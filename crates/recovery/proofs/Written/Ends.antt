@@ -1,9 +1,9 @@
 -- Trims and ends of a text, by its first and last bytes. Assumes nothing.
 use Rattle.std.specs.Prelude.{ℕ, zero, suc, ◌-◌, ◌≡◌, Bool, true, false, cond, not, [], ◌∷◌, ◌++◌, eqb, length, replicate, drop}
-use Rattle.std.proofs.Common.{arith, ap, ◌∙◌, true≢false, length-append, eqb-true}
+use Rattle.std.proofs.Common.{arith, ap, ◌∙◌, true≢false, length-append}
 use Rattle.std.proofs.Math.Path.{refl}
 use Rattle.std.proofs.Math.Bool.{and-false}
-use Rattle.std.proofs.lemmas.Bool.{false≢true, not-true}
+use Rattle.std.proofs.lemmas.Bool.{not-true}
 use Rattle.std.proofs.Math.Seq.{drop-append_seam}
 use Rattle.std.proofs.lemmas.List.{drop-append-le}
 use Rattle.spec.specs.Bytes.{Bytes, null, same, every, ends_with, one, unless, trim_end_matches, trim_start_matches}

@@ -15,7 +15,7 @@ use Rattle.spec.specs.Plain as plain
 use Rattle.spec.specs.Plain.{count_nodes, all_have, table_parts, plain_table}
 use Rattle.spec.specs.SheetList as list
 use Rattle.spec.specs.Md.Elements.Link.{has_element}
-use Rattle.spec.specs.Md.Elements.Table.{Cell, cells_of, rows_of, from_cells, all_th, table_header_row, data_rows, equal_rows, is_table_node_writable, row_texts, table_texts, texts, width_of, filled_up, line, dashes, lines, table_of, write_table}
+use Rattle.spec.specs.Md.Elements.Table.{Cell, cells_of, rows_of, from_cells, table_header_row, data_rows, equal_rows, is_table_node_writable, row_texts, table_texts, texts, width_of, filled_up, line, dashes, lines, table_of, write_table}
 use Rattle.spec.specs.Md.MDSerializer.{Ancestors, MDSerializer}
 use Rattle.spec.specs.Md.Serializer.{serializer}
 use Rattle.spec.specs.declared.ctx.FormatOpts.{FormatOpts}

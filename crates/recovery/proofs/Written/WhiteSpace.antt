@@ -3,7 +3,7 @@ use Rattle.std.specs.Prelude.{ℕ, ◌≡◌, Bool, true, not, ◌&&◌, ◌||�
 use Rattle.std.proofs.Math.Path.{refl}
 use Rattle.std.proofs.Common.{sym, ap, ◌∙◌, true≢false, append_assoc, eqb-true}
 use Rattle.std.proofs.Math.Bool.{false, or-true}
-use Rattle.std.proofs.lemmas.Bool.{false≢true, not-true}
+use Rattle.std.proofs.lemmas.Bool.{not-true}
 use Rattle.spec.specs.Bytes.{Bytes, null, same, isin, among, every, ends_with, white, blank, white_space_of, is_white_space, unless, trim_end_matches, trim_end}
 use Rattle.spec.specs.Plain.{wide_blanks, ends_with_any}
 use Rattle.spec.proofs.Tests.{and_l, and_r, or_l, or_r, apart, same_eq, all_of, among_yes}

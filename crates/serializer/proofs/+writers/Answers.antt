@@ -81,23 +81,21 @@ alone-due_line-requires t c =
     c.requires.1.0
 
 pub alone-block-requires : goal.alone-block-requires
-alone-block-requires t c =
-    (
-      falls_in c.args.levels c.decreases (lit< tt),
-      (
-        node_placed c.requires.0 (block_tag_lem c.args.sheet.now (place_at c.args.nodes.now c.args.c) c.node_name-name.ensures c.node_is_list_item_block.ensures c.if-node_is_list_item_block.true),
-        c.node_name-name.ensures,
-        (reaches (done c.in-Done.is c.due_line.ensures), c.requires.1.1),
-        c.requires.2,
-      ),
-    )
+alone-block-requires t c = (
+  falls_in c.args.levels c.decreases (lit< tt),
+  (
+    node_placed c.requires.0 (block_tag_lem c.args.sheet.now (place_at c.args.nodes.now c.args.c) c.node_name-name.ensures c.node_is_list_item_block.ensures c.if-node_is_list_item_block.true),
+    c.node_name-name.ensures,
+    (reaches (done c.in-Done.is c.due_line.ensures), c.requires.1.1),
+    c.requires.2,
+  ),
+)
 
 pub alone-inline-requires : goal.alone-inline-requires
-alone-inline-requires t c =
-    (
-      falls_in c.args.levels c.decreases (lit< tt),
-      (c.requires.0, c.node_name-name.ensures, (reaches (done c.in-Done.is c.due_line.ensures), c.requires.1.1), c.requires.2),
-    )
+alone-inline-requires t c = (
+  falls_in c.args.levels c.decreases (lit< tt),
+  (c.requires.0, c.node_name-name.ensures, (reaches (done c.in-Done.is c.due_line.ensures), c.requires.1.1), c.requires.2),
+)
 
 pub alone-returns-then-node_is_list_item_block : goal.alone-returns-then-node_is_list_item_block
 alone-returns-then-node_is_list_item_block t c =
@@ -144,11 +142,11 @@ blocks-returns-in-Full t c =
     let item = item_from c.args.ctx (begin_item true c.args.ctx (take c.args.len c.args.text.now)) in record {
       kept = kept_none c.args.nodes.now;
       writes_element = record {
-          for = λ name attrs kids anc x a.
-              both-full c.args.text.now c.args.len c.requires.1.0 (write_list_item_blocks self anc attrs kids c.args.ctx) (begin_item true c.args.ctx)
-              (λ u. and_then (item_children self (attrs ∷ anc) kids item (progress_at true false u)).out (ended_item item))
-              (blocks_parts self anc attrs kids c.args.ctx item (take c.args.len c.args.text.now) refl) c.start_item_blocks-begun.ensures.0 c.in-Full.is;
-        };
+        for = λ name attrs kids anc x a.
+            both-full c.args.text.now c.args.len c.requires.1.0 (write_list_item_blocks self anc attrs kids c.args.ctx) (begin_item true c.args.ctx)
+            (λ u. and_then (item_children self (attrs ∷ anc) kids item (progress_at true false u)).out (ended_item item))
+            (blocks_parts self anc attrs kids c.args.ctx item (take c.args.len c.args.text.now) refl) c.start_item_blocks-begun.ensures.0 c.in-Full.is;
+      };
       ctx_value = c.start_item_blocks-begun.ensures.1;
     }
 
@@ -171,8 +169,7 @@ blocks-overflow_add-c t c =
 pub blocks-children-requires : goal.blocks-children-requires
 blocks-children-requires t c =
     let kids_at_here : Placeds c.args.sheet.now c.args.nodes.now (c.args.c + 1) c.node_end-to.result = placed_kids c.args.sheet.now c.args.nodes.now c.args.c c.requires.0 c.node_end-to.ensures in
-    let item_is_here : item_of c.item_from-item.result ≡ item_from c.args.ctx (begin_item true c.args.ctx (take c.args.len c.args.text.now)) = c.item_from-item.ensures (begin_item true c.args.ctx (take c.args.len c.args.text.now)) (done c.in-Done.is c.start_item_blocks-begun.ensures.0).count in
-    (
+    let item_is_here : item_of c.item_from-item.result ≡ item_from c.args.ctx (begin_item true c.args.ctx (take c.args.len c.args.text.now)) = c.item_from-item.ensures (begin_item true c.args.ctx (take c.args.len c.args.text.now)) (done c.in-Done.is c.start_item_blocks-begun.ensures.0).count in (
       falls_children c.args.levels (c.args.c + 1) c.decreases c.node_end-to.type_inv,
       (
         kids_at_here,
@@ -195,10 +192,10 @@ blocks-returns-in-On t c =
     let item = item_of c.item_from-item.result in record {
       kept = kept_in (omega arith) (omega (arith, c.node_end-to.ensures)) c.children.ensures.kept;
       writes_element = record {
-          for = λ name attrs kids anc x a.
-              owes_last (owes_on (begun_here anc attrs kids) (λ u. (item_children self (attrs ∷ anc) kids item (progress_at true false u)).out) (ended_item item) refl
-              (went c.in-On.is (c.children.ensures.goes_forest.for c.args.c kids (attrs ∷ anc) (element_kids x c.node_end-to.ensures) (around_it anc x a))).0) c.end_item-w.ensures;
-        };
+        for = λ name attrs kids anc x a.
+            owes_last (owes_on (begun_here anc attrs kids) (λ u. (item_children self (attrs ∷ anc) kids item (progress_at true false u)).out) (ended_item item) refl
+            (went c.in-On.is (c.children.ensures.goes_forest.for c.args.c kids (attrs ∷ anc) (element_kids x c.node_end-to.ensures) (around_it anc x a))).0) c.end_item-w.ensures;
+      };
       ctx_value = c.start_item_blocks-begun.ensures.1;
     }
 
@@ -210,10 +207,10 @@ blocks-returns-in-Full-children t c =
     let item = item_of c.item_from-item.result in record {
       kept = kept_in (omega arith) (omega (arith, c.node_end-to.ensures)) c.children.ensures.kept;
       writes_element = record {
-          for = λ name attrs kids anc x a.
-              owes_over (begun_here anc attrs kids) (λ u. (item_children self (attrs ∷ anc) kids item (progress_at true false u)).out) (ended_item item) refl
-              (went_full c.in-Full-children.is (c.children.ensures.goes_forest.for c.args.c kids (attrs ∷ anc) (element_kids x c.node_end-to.ensures) (around_it anc x a)));
-        };
+        for = λ name attrs kids anc x a.
+            owes_over (begun_here anc attrs kids) (λ u. (item_children self (attrs ∷ anc) kids item (progress_at true false u)).out) (ended_item item) refl
+            (went_full c.in-Full-children.is (c.children.ensures.goes_forest.for c.args.c kids (attrs ∷ anc) (element_kids x c.node_end-to.ensures) (around_it anc x a)));
+      };
       ctx_value = c.start_item_blocks-begun.ensures.1;
     }
 
@@ -393,11 +390,10 @@ child-overflow_add-c t c =
     omega (arith, c.node_end-end.ensures, c.requires.0.later)
 
 pub child-children-requires : goal.child-children-requires
-child-children-requires t c =
-    (
-      kids_fall c.args.levels c.args.c c.args.to c.decreases c.node_end-end.ensures c.requires.1 c.requires.0.later,
-      (wrapper_kids c.requires.0 c.node_end-end.ensures c.node_is_block_wrapper.ensures c.if-node_is_block_wrapper.true, c.requires.2, c.requires.3),
-    )
+child-children-requires t c = (
+  kids_fall c.args.levels c.args.c c.args.to c.decreases c.node_end-end.ensures c.requires.1 c.requires.0.later,
+  (wrapper_kids c.requires.0 c.node_end-end.ensures c.node_is_block_wrapper.ensures c.if-node_is_block_wrapper.true, c.requires.2, c.requires.3),
+)
 
 pub child-is_blank_text-blank-requires : goal.child-is_blank_text-blank-requires
 child-is_blank_text-blank-requires t c =
@@ -438,15 +434,14 @@ child-returns t c =
     }
 
 pub children-loop-c-init : goal.children-loop-c-init
-children-loop-c-init t c =
-    (
-      c.requires.1.0,
-      refl,
-      kept_none c.args.nodes.now,
-      omega arith,
-      c.requires.0,
-      going_first c.args.sheet.now c.args.nodes.now c.args.from c.args.to (self_at c.args.own c.args.run.now c.args.levels) (item_of c.args.item) c.args.text.now c.args.len c.args.first c.args.due c.requires.1.0,
-    )
+children-loop-c-init t c = (
+  c.requires.1.0,
+  refl,
+  kept_none c.args.nodes.now,
+  omega arith,
+  c.requires.0,
+  going_first c.args.sheet.now c.args.nodes.now c.args.from c.args.to (self_at c.args.own c.args.run.now c.args.levels) (item_of c.args.item) c.args.text.now c.args.len c.args.first c.args.due c.requires.1.0,
+)
 
 pub children-child-requires : goal.children-child-requires
 children-child-requires t c =
@@ -539,11 +534,11 @@ flat-returns-in-Full t c =
     let self = self_at c.args.own c.args.run.now c.args.levels in record {
       kept = kept_none c.args.nodes.now;
       writes_element = record {
-          for = λ name attrs kids anc x a.
-              both-full c.args.text.now c.args.len c.requires.1.0 (write_list_item self anc (element name attrs kids nothing) c.args.ctx) (begin_item false c.args.ctx)
-              (λ u. and_then (write_kids self anc (list_item c.start_item-begun.result.ctx.opts) (element name attrs kids nothing) u) (push (break_of c.start_item-begun.result.ctx)))
-              (item_parts self anc (element name attrs kids nothing) c.args.ctx c.start_item-begun.result.ctx (list_item c.start_item-begun.result.ctx.opts) (take c.args.len c.args.text.now) c.start_item-begun.ensures.1 refl) c.start_item-begun.ensures.0 c.in-Full.is;
-        };
+        for = λ name attrs kids anc x a.
+            both-full c.args.text.now c.args.len c.requires.1.0 (write_list_item self anc (element name attrs kids nothing) c.args.ctx) (begin_item false c.args.ctx)
+            (λ u. and_then (write_kids self anc (list_item c.start_item-begun.result.ctx.opts) (element name attrs kids nothing) u) (push (break_of c.start_item-begun.result.ctx)))
+            (item_parts self anc (element name attrs kids nothing) c.args.ctx c.start_item-begun.result.ctx (list_item c.start_item-begun.result.ctx.opts) (take c.args.len c.args.text.now) c.start_item-begun.ensures.1 refl) c.start_item-begun.ensures.0 c.in-Full.is;
+      };
       ctx_value = c.start_item-begun.ensures.1;
     }
 
@@ -556,15 +551,14 @@ flow-packed-bits-requires t c =
     omega (arith, fits_alike c.list_item-inner.result c.args.item.ctx.opts c.args.levels (ap (λ (o : FormatOpts). o.offset) c.list_item-inner.ensures) c.requires.3.0)
 
 pub flow-kids-requires : goal.flow-kids-requires
-flow-kids-requires t c =
-    (
-      falls_in c.args.levels c.decreases (lit< tt),
-      (
-        c.requires.0,
-        (reaches (done c.in-Done.is c.push_heading_prefix.ensures), c.requires.2.1),
-        fits_alike (unpacked c.packed-bits.result) c.args.item.ctx.opts c.args.levels (ap (λ (o : FormatOpts). o.offset) (c.packed-bits.ensures ∙ c.list_item-inner.ensures)) c.requires.3.0,
-      ),
-    )
+flow-kids-requires t c = (
+  falls_in c.args.levels c.decreases (lit< tt),
+  (
+    c.requires.0,
+    (reaches (done c.in-Done.is c.push_heading_prefix.ensures), c.requires.2.1),
+    fits_alike (unpacked c.packed-bits.result) c.args.item.ctx.opts c.args.levels (ap (λ (o : FormatOpts). o.offset) (c.packed-bits.ensures ∙ c.list_item-inner.ensures)) c.requires.3.0,
+  ),
+)
 
 pub flow-end_flow-requires : goal.flow-end_flow-requires
 flow-end_flow-requires t c =
@@ -607,15 +601,14 @@ indented-packed-requires t c =
     omega (arith, fits_alike c.include_node-inner.result c.args.item.ctx.opts c.args.levels (ap (λ (o : FormatOpts). o.offset) c.include_node-inner.ensures) c.requires.2.0)
 
 pub indented-write-requires : goal.indented-write-requires
-indented-write-requires t c =
-    (
-      falls_in c.args.levels c.decreases (lit< tt),
-      (
-        node_range c.node_end-to.ensures (placed_alone c.args.sheet.now c.args.nodes.now c.args.c c.requires.0),
-        (omega arith, c.requires.1.1),
-        fits_alike (unpacked c.packed.result) c.args.item.ctx.opts c.args.levels (ap (λ (o : FormatOpts). o.offset) (c.packed.ensures ∙ c.include_node-inner.ensures)) c.requires.2.0,
-      ),
-    )
+indented-write-requires t c = (
+  falls_in c.args.levels c.decreases (lit< tt),
+  (
+    node_range c.node_end-to.ensures (placed_alone c.args.sheet.now c.args.nodes.now c.args.c c.requires.0),
+    (omega arith, c.requires.1.1),
+    fits_alike (unpacked c.packed.result) c.args.item.ctx.opts c.args.levels (ap (λ (o : FormatOpts). o.offset) (c.packed.ensures ∙ c.include_node-inner.ensures)) c.requires.2.0,
+  ),
+)
 
 pub indented-push_indented-requires : goal.indented-push_indented-requires
 indented-push_indented-requires t c =
@@ -644,15 +637,14 @@ inline-packed-requires t c =
     omega (arith, fits_alike c.child_opts-inner.result c.args.item.ctx.opts c.args.levels (ap (λ (o : FormatOpts). o.offset) c.child_opts-inner.ensures ∙ child_offset c.args.name c.args.item.ctx.opts) c.requires.3.0)
 
 pub inline-write-requires : goal.inline-write-requires
-inline-write-requires t c =
-    (
-      falls_in c.args.levels c.decreases (lit< tt),
-      (
-        node_range c.node_end-to.ensures c.requires.0,
-        (reaches (done c.in-Done.is c.push_inline_lead.ensures), c.requires.2.1),
-        fits_alike (unpacked c.packed.result) c.args.item.ctx.opts c.args.levels (ap (λ (o : FormatOpts). o.offset) (c.packed.ensures ∙ c.child_opts-inner.ensures) ∙ child_offset c.args.name c.args.item.ctx.opts) c.requires.3.0,
-      ),
-    )
+inline-write-requires t c = (
+  falls_in c.args.levels c.decreases (lit< tt),
+  (
+    node_range c.node_end-to.ensures c.requires.0,
+    (reaches (done c.in-Done.is c.push_inline_lead.ensures), c.requires.2.1),
+    fits_alike (unpacked c.packed.result) c.args.item.ctx.opts c.args.levels (ap (λ (o : FormatOpts). o.offset) (c.packed.ensures ∙ c.child_opts-inner.ensures) ∙ child_offset c.args.name c.args.item.ctx.opts) c.requires.3.0,
+  ),
+)
 
 pub inline-returns-in-Done : goal.inline-returns-in-Done
 inline-returns-in-Done t c =
@@ -754,11 +746,11 @@ item-returns-then-not-li t c =
     let skips = tags_to_skip (skip_list a.own a.run.now) in record {
       kept = kept_in (omega arith) (omega (arith, c.node_end-to.ensures)) c.write-w.ensures.kept;
       writes_forest = record {
-          for = λ parent f anc h x.
-              alike (head_other skips a.levels anc a.ctx (take a.len a.text.now) a.sheet.now a.nodes.now parent a.c f h c.requires.0.later (sym c.requires.1 ∙ c.if-not-li.true)
-              ∙ ap (λ (o : FormatOpts). write_at skips a.levels anc o f (take a.len a.text.now)) (sym (c.packed.ensures ∙ inner_here)))
-              (c.write-w.ensures.writes_forest.for parent f anc (subst (λ (e : ℕ). Rep a.sheet.now a.nodes.now parent a.c e f) (sym c.node_end-to.ensures) h) x);
-        };
+        for = λ parent f anc h x.
+            alike (head_other skips a.levels anc a.ctx (take a.len a.text.now) a.sheet.now a.nodes.now parent a.c f h c.requires.0.later (sym c.requires.1 ∙ c.if-not-li.true)
+            ∙ ap (λ (o : FormatOpts). write_at skips a.levels anc o f (take a.len a.text.now)) (sym (c.packed.ensures ∙ inner_here)))
+            (c.write-w.ensures.writes_forest.for parent f anc (subst (λ (e : ℕ). Rep a.sheet.now a.nodes.now parent a.c e f) (sym c.node_end-to.ensures) h) x);
+      };
       ctx_value = sym (ap (λ (b : Bool). cond b (advance_ol_number a.ctx) a.ctx) (c.if-not-li.true));
     }
 
@@ -806,16 +798,15 @@ item-returns t c =
     }
 
 pub items-loop-c-init : goal.items-loop-c-init
-items-loop-c-init t c =
-    (
-      c.requires.1.0,
-      refl,
-      kept_none c.args.nodes.now,
-      omega arith,
-      c.requires.0,
-      c.requires.2,
-      turn_first c.args.sheet.now c.args.nodes.now c.args.from c.args.to (λ anc f. list_children (self_at c.args.own c.args.run.now c.args.levels) anc f c.args.first) c.args.text.now c.args.len c.requires.1.0,
-    )
+items-loop-c-init t c = (
+  c.requires.1.0,
+  refl,
+  kept_none c.args.nodes.now,
+  omega arith,
+  c.requires.0,
+  c.requires.2,
+  turn_first c.args.sheet.now c.args.nodes.now c.args.from c.args.to (λ anc f. list_children (self_at c.args.own c.args.run.now c.args.levels) anc f c.args.first) c.args.text.now c.args.len c.requires.1.0,
+)
 
 pub items-node_place-place-requires : goal.items-node_place-place-requires
 items-node_place-place-requires t c =
@@ -971,11 +962,10 @@ kids-returns-in-Done t c =
     }
 
 pub led-flow-requires : goal.led-flow-requires
-led-flow-requires t c =
-    (
-      falls_in c.args.levels c.decreases (lit< tt),
-      (c.requires.0, c.requires.1, (reaches (done c.in-Done.is c.push_block_lead.ensures), c.requires.2.1), c.requires.3),
-    )
+led-flow-requires t c = (
+  falls_in c.args.levels c.decreases (lit< tt),
+  (c.requires.0, c.requires.1, (reaches (done c.in-Done.is c.push_block_lead.ensures), c.requires.2.1), c.requires.3),
+)
 
 pub led-push_linebreak-requires : goal.led-push_linebreak-requires
 led-push_linebreak-requires t c =
@@ -1342,15 +1332,14 @@ write-returns-then-levels-eq0 t c =
     }
 
 pub write-loop-at-init : goal.write-loop-at-init
-write-loop-at-init t c =
-    (
-      c.requires.1.0,
-      refl,
-      kept_none c.args.nodes.now,
-      omega arith,
-      c.requires.0,
-      turn_first c.args.sheet.now c.args.nodes.now c.args.from c.args.to (λ anc f. write_nodes (self_at c.args.own c.args.run.now (c.args.levels - 1)) anc (unpacked c.args.bits) f) c.args.text.now c.args.len c.requires.1.0,
-    )
+write-loop-at-init t c = (
+  c.requires.1.0,
+  refl,
+  kept_none c.args.nodes.now,
+  omega arith,
+  c.requires.0,
+  turn_first c.args.sheet.now c.args.nodes.now c.args.from c.args.to (λ anc f. write_nodes (self_at c.args.own c.args.run.now (c.args.levels - 1)) anc (unpacked c.args.bits) f) c.args.text.now c.args.len c.requires.1.0,
+)
 
 pub write-overflow_sub-levels : goal.write-overflow_sub-levels
 write-overflow_sub-levels t c =
@@ -1545,15 +1534,14 @@ write_emphasis-packed-requires t c =
     omega (arith, subst (λ (o : FormatOpts). Fits o c.args.levels) (sym c.emphasis_opts-inner.ensures) (omega (arith, c.requires.3)))
 
 pub write_emphasis-write-requires : goal.write_emphasis-write-requires
-write_emphasis-write-requires t c =
-    (
-      falls_in c.args.levels c.decreases (lit< tt),
-      (
-        placed_kids c.args.sheet.now c.args.nodes.now c.args.at c.requires.0 c.node_end-to.ensures,
-        (omega arith, c.requires.2.1),
-        subst (λ (o : FormatOpts). Fits o c.args.levels) (sym (c.packed.ensures ∙ c.emphasis_opts-inner.ensures)) (omega (arith, c.requires.3)),
-      ),
-    )
+write_emphasis-write-requires t c = (
+  falls_in c.args.levels c.decreases (lit< tt),
+  (
+    placed_kids c.args.sheet.now c.args.nodes.now c.args.at c.requires.0 c.node_end-to.ensures,
+    (omega arith, c.requires.2.1),
+    subst (λ (o : FormatOpts). Fits o c.args.levels) (sym (c.packed.ensures ∙ c.emphasis_opts-inner.ensures)) (omega (arith, c.requires.3)),
+  ),
+)
 
 pub write_emphasis-push_emphasis_by-requires : goal.write_emphasis-push_emphasis_by-requires
 write_emphasis-push_emphasis_by-requires t c =

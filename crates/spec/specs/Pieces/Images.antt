@@ -1,5 +1,5 @@
 -- Where an image begins (CommonMark 0.31, sections 2.4 and 6.4).
-use Rattle.std.specs.Prelude.{ℕ, Bool, false, cond, not, ◌&&◌, [], ◌∷◌, eqb}
+use Rattle.std.specs.Prelude.{Bool, false, cond, not, ◌&&◌, [], ◌∷◌, eqb}
 use Rattle.spec.specs.Bytes.{Bytes, null}
 use Rattle.spec.specs.Reading.Inline.{escaped, slashed}
 

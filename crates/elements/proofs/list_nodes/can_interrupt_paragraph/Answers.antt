@@ -47,25 +47,23 @@ overflow_add-li c =
     )
 
 pub has_text_before_list-requires : goal.has_text_before_list-requires
-has_text_before_list-requires c =
-    (
-      c.first_element-li.result,
-      kids_of (first_element c.requires.2),
-      its_kids c.args.sheet.now c.args.nodes.now c.args.i c.first_element-li.result c.node_end-to.result (first_element c.requires.2)
-          (c.first_element-li.ensures.elements c.args.i c.requires.2 (element_kids c.requires.3 c.node_end-to.ensures)) (omega arith) c.node_end-end.ensures,
-    )
+has_text_before_list-requires c = (
+  c.first_element-li.result,
+  kids_of (first_element c.requires.2),
+  its_kids c.args.sheet.now c.args.nodes.now c.args.i c.first_element-li.result c.node_end-to.result (first_element c.requires.2)
+      (c.first_element-li.ensures.elements c.args.i c.requires.2 (element_kids c.requires.3 c.node_end-to.ensures)) (omega arith) c.node_end-end.ensures,
+)
 
 pub node_name-requires-2 : goal.node_name-requires-2
 node_name-requires-2 c =
     element_node c.requires.3
 
 pub begins_with_one-requires : goal.begins_with_one-requires
-begins_with_one-requires c =
-    (
-      element_node c.requires.3,
-      its_node c.args.sheet.now c.args.nodes.now c.args.i c.first_element-li.result c.node_end-to.result (first_element c.requires.2)
-          (c.first_element-li.ensures.elements c.args.i c.requires.2 (element_kids c.requires.3 c.node_end-to.ensures)) (omega arith),
-    )
+begins_with_one-requires c = (
+  element_node c.requires.3,
+  its_node c.args.sheet.now c.args.nodes.now c.args.i c.first_element-li.result c.node_end-to.result (first_element c.requires.2)
+      (c.first_element-li.ensures.elements c.args.i c.requires.2 (element_kids c.requires.3 c.node_end-to.ensures)) (omega arith),
+)
 
 pub returns-then-to-li : goal.returns-then-to-li
 returns-then-to-li c =

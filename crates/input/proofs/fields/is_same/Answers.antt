@@ -1,7 +1,4 @@
-use Prim.Native.Nat.{◌-◌}
 use mathlib.Core.Path.{refl}
-use lib.ListN.{length}
-use Rattle.spec.specs.Bytes.{same}
 use Rattle.input.proofs.Walking.{other_length, other_byte, same_byte, same_end}
 use native.Mathlib.Omega.{arith}
 use Rattle.input.proofs.fields.is_same.Goals as goal

@@ -1,7 +1,5 @@
-use Prim.Native.Nat.{◌-◌}
 use mathlib.Core.Path.{refl}
-use lib.ListN.{length, get_or}
-use Rattle.spec.specs.Fields.{whole}
+use lib.ListN.{get_or}
 use Rattle.input.proofs.Walking.{too_low, too_high, too_long, fits, whole_end}
 use native.Mathlib.Omega.{arith}
 use Rattle.input.proofs.fields.is_whole.Goals as goal

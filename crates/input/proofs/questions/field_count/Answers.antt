@@ -1,4 +1,4 @@
-use Prim.Native.Nat.{◌≤◌, ◌-◌, ◌+◌}
+use Prim.Native.Nat.{◌≤◌, ◌+◌}
 use lib.ListN.{length}
 use Rattle.input.proofs.Every.{length_on, length_end}
 use native.Mathlib.Omega.{arith}

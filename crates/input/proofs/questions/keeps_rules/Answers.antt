@@ -1,6 +1,5 @@
 use mathlib.Core.Path.{sym, ◌∙◌}
 use Rattle.input.proofs.Rules.{answer_open, answer_broken}
-use borrow.Author.Rules.{rules}
 use Rattle.input.proofs.questions.keeps_rules.Goals as goal
 
 pub returns-in-Open : goal.returns-in-Open

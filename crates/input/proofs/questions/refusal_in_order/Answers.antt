@@ -1,6 +1,5 @@
 use mathlib.Core.Path.{sym, ◌∙◌}
 use Rattle.spec.specs.Questions.{first_no, refusal}
-use borrow.Author.Rules.{rules}
 use Rattle.input.proofs.questions.refusal_in_order.Goals as goal
 
 pub returns-then-not-is_short : goal.returns-then-not-is_short

@@ -1,10 +1,9 @@
-use Prim.Native.Nat.{ℕ, ◌≤◌, ◌-◌, ◌+◌}
+use Prim.Native.Nat.{ℕ, ◌≤◌, ◌+◌}
 use mathlib.Core.Path.{◌≡◌, refl, sym, ◌∙◌, ap}
 use lib.ListN.{length, drop}
 use Rattle.spec.specs.Fields.{fields}
 use Rattle.spec.specs.Questions.{keep_rules, still_open, open_after}
 use Rattle.input.proofs.Rules.{broken, rules_on, still_on, name_last, kept}
-use borrow.Author.Rules.{rules}
 use native.Mathlib.Omega.{arith}
 use Rattle.input.proofs.questions.scan_rules.Goals as goal
 

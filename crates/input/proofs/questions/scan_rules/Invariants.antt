@@ -3,7 +3,6 @@ use mathlib.Core.Path.{◌≡◌}
 use lib.ListN.{length, drop}
 use Rattle.spec.specs.Fields.{fields}
 use Rattle.spec.specs.Questions.{keep_rules, still_open}
-use borrow.Author.Rules.{rules}
 use Rattle.input.proofs.questions.scan_rules.Given as goal
 
 abbrev pub invariant-loop-p : goal.invariant-loop-p

@@ -1,7 +1,6 @@
-use Prim.Native.Nat.{◌-◌, ◌≤◌}
+use Prim.Native.Nat.{◌≤◌}
 use mathlib.Core.Path.{◌≡◌, sym, ◌∙◌}
-use mathlib.Core.Logic.{⊎_elim}
-use lib.ListN.{length, get_or}
+use lib.ListN.{get_or}
 use Rattle.spec.specs.Questions.{open_after}
 use Rattle.input.proofs.Sounding.{begun, opened, level, on, empty_close, on_close, sound}
 use native.Mathlib.Omega.{arith}
@@ -42,8 +41,8 @@ loop-p-preserved c =
     let n = c.length_at-n in let d = c.if-tag-eq1.depth in
     let o : (d ≡ open_after l.depth (get_or s l.p 0)) × (d ≤ 100) =
     elim c.if-tag-eq1.branch [
-      then-tag-eq1+else-depth-ge100 w ↦ opened l.depth _ d w.if-tag-eq1.true (omega arith) (omega arith)
-    | else-tag-eq1 w ↦ level l.depth _ d w.if-tag-eq1.false c.if-tag-eq6.false (omega arith) (omega arith)
+      | then-tag-eq1+else-depth-ge100 w ↦ opened l.depth _ d w.if-tag-eq1.true (omega arith) (omega arith)
+      | else-tag-eq1 w ↦ level l.depth _ d w.if-tag-eq1.false c.if-tag-eq6.false (omega arith) (omega arith)
     ] in
     on s l.p n.result l.before l.depth l.count (omega arith) n.ensures.0 (omega arith) l.invariant
     (rw (c.is_sound.ensures l.depth) at (c.if-not-is_sound.false))

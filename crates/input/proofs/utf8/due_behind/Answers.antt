@@ -1,6 +1,4 @@
-use Prim.Native.Nat.{◌-◌}
 use mathlib.Core.Path.{refl}
-use Rattle.input.specs.Lead.{due}
 use Rattle.input.proofs.Sequences.{unmoved, skipped, wrong, right}
 use native.Mathlib.Omega.{arith}
 use Rattle.input.proofs.utf8.due_behind.Goals as goal

@@ -1,8 +1,7 @@
 use Prim.Native.Nat.{◌-◌}
 use mathlib.Core.Path.{◌≡◌, refl, sym, ◌∙◌}
-use mathlib.Core.Bool.{true, false≢true}
+use mathlib.Core.Bool.{false≢true}
 use Rattle.spec.specs.Bytes.{every}
-use Rattle.input.specs.Lead.{is_ascii}
 use Rattle.input.proofs.Sequences.{ascii_block}
 use native.Mathlib.Omega.{arith}
 use Rattle.input.proofs.utf8.is_ascii_part.Goals as goal

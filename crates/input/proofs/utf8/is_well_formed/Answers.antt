@@ -1,8 +1,8 @@
-use Prim.Native.Nat.{◌+◌, ◌-◌}
+use Prim.Native.Nat.{◌+◌}
 use mathlib.Core.Path.{refl}
 use lib.ListN.{length}
 use Rattle.spec.specs.Utf8.{is_utf8}
-use Rattle.input.specs.Lead.{due, ranges_of}
+use Rattle.input.specs.Lead.{ranges_of}
 use Rattle.input.proofs.Sequences.{refused, passed, at_end}
 use native.Mathlib.Omega.{arith}
 use Rattle.input.proofs.utf8.is_well_formed.Goals as goal

@@ -1,4 +1,3 @@
-use lib.ListN.{length}
 use Rattle.spec.specs.Decimal.{length_one, length_more, length_ten, length_least}
 use borrow.Author.Rules.{rules}
 use native.Mathlib.Omega.{arith}

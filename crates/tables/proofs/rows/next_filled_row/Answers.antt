@@ -19,12 +19,12 @@ count_cells-requires c =
 
 pub returns-then-count_cells-ne0 : goal.returns-then-count_cells-ne0
 returns-then-count_cells-ne0 c = record {
-      later = c.loop-r.invariant.0;
-      rows = λ rows x.
+  later = c.loop-r.invariant.0;
+  rows = λ rows x.
       let q = c.loop-r.invariant.1 rows x in
       subst (RowsAt c.args.sheet.now c.args.nodes.now c.loop-r.r c.args.to) (sym q.2)
       (filled_here c.count_cells.result c.count_cells.ensures q.0 q.1 c.loop-r-test.true c.if-count_cells-ne0.true);
-    }
+}
 
 pub overflow_add-r : goal.overflow_add-r
 overflow_add-r c = omega (arith, c.loop-r-test.true)
@@ -49,8 +49,8 @@ loop-r-preserved c = (
 
 pub returns : goal.returns
 returns c = record {
-      later = rows_le c.args.sheet.now c.args.nodes.now c.args.i c.args.to c.requires.0 c.requires.1;
-      rows = λ rows x.
+  later = rows_le c.args.sheet.now c.args.nodes.now c.args.i c.args.to c.requires.0 c.requires.1;
+  rows = λ rows x.
       let q = c.loop-r.invariant.1 rows x in
       filled_none c.args.sheet.now c.args.nodes.now c.loop-r.r c.args.to q.0 q.1 c.loop-r-test.false rows q.2;
-    }
+}

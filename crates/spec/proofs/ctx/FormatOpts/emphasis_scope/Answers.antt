@@ -1,5 +1,4 @@
 use mathlib.Core.Path.{ap}
-use Rattle.spec.specs.Md.Ctx.{emphasis_scope}
 use Rattle.spec.specs.declared.ctx.EmphasisScope.{EmphasisScope}
 use Rattle.spec.specs.declared.ctx.FormatOpts.{FormatOpts}
 use Rattle.spec.proofs.ctx.FormatOpts.emphasis_scope.Goals as goal
