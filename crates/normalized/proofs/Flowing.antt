@@ -8,7 +8,7 @@ use native.Mathlib.Omega.{arith}
 use lib.ListN.{length, take, drop, get_or, drop_of_length-le}
 use lib.Seq.{drop-cons, take-suc, take_all, length-take-le, slice, length-slice}
 use lib.Dec.{eqb, leb}
-use borrow.Author.Tests.{eqb-true, eqb-false, eq-eqb, ne_eqb, not-true}
+use borrow.Author.Tests.{eqb-true, eqb-false, ne_eqb, not-true}
 use Rattle.spec.specs.Bytes.{Bytes, ascii, null, same, isin, every, starts_with, ends_with, white, digit, is_blank, words, split, parts, cut_at, filled, one, trim_end_matches, trim_ascii_end}
 use Rattle.spec.specs.Md.Constants.{ALWAYS_ESCAPED}
 use Rattle.spec.specs.Md.TextUtils as def
@@ -21,7 +21,7 @@ use Rattle.spec.proofs.Order.{le_or_lt}
 use Rattle.text.proofs.Reading.{same_self, not_long}
 use Rattle.text.proofs.Sourcing.{part_byte}
 use Rattle.text.proofs.Trimming.{trim_less, trim_whole, trim_long}
-use Rattle.text.proofs.Ordinary.{ordinary_parts, not_white, not_escaped, inner_chunk, bare_chunk}
+use Rattle.text.proofs.Ordinary.{ordinary_parts, not_escaped, inner_chunk, bare_chunk}
 
 -- ---- plain bytes
 

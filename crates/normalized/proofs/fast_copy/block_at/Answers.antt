@@ -1,7 +1,6 @@
-use Prim.Native.Nat.{◌-◌}
 use mathlib.Core.Path.{◌≡◌, refl, subst, ◌∙◌}
-use mathlib.Core.Bool.{true, false, ◌&&◌}
-use lib.ListN.{length, replicate, length-set}
+use mathlib.Core.Bool.{◌&&◌}
+use lib.ListN.{replicate, length-set}
 use mir.Val.{bool_byte}
 use Rattle.normalized.specs.Blocks.{Signs}
 use Rattle.normalized.proofs.Blocks.{signs_none, signs_next, byte_of}

@@ -1,7 +1,7 @@
-use Prim.Native.Nat.{ℕ, suc, ◌-◌, ◌+◌}
+use Prim.Native.Nat.{ℕ, suc, ◌+◌}
 use mathlib.Core.Path.{◌≡◌, refl, sym, ap, ◌∙◌}
 use mathlib.Core.List.{List, [], ◌∷◌, ◌++◌}
-use lib.ListN.{length, length-set, take, get_or, set}
+use lib.ListN.{length-set, take, get_or, set}
 use lib.Seq.{slice, slice_empty, take-suc-set, take_all}
 use Rattle.normalized.proofs.Blocks.{slice_snoc}
 use native.Mathlib.Omega.{arith}

@@ -1,4 +1,3 @@
-use Prim.Native.Nat.{◌-◌}
 use Rattle.normalized.proofs.Flowing.{block_next}
 use native.Mathlib.Omega.{arith}
 use Rattle.normalized.proofs.fast_copy.is_plain_block.Goals as goal

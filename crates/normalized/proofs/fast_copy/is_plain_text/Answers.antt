@@ -1,4 +1,3 @@
-use Prim.Native.Nat.{◌-◌}
 use mathlib.Core.Path.{subst}
 use mathlib.Core.Bool.{false≢true}
 use Rattle.text.specs.Flow.{Flows}

@@ -1,7 +1,7 @@
 use Prim.Native.Nat.{ℕ, ◌+◌, ◌-◌}
 use mathlib.Core.Path.{◌≡◌, sym, ap, ◌∙◌}
 use mathlib.Core.Bool.{Bool, true, ◌||◌, and-true, and-eq-true_iff}
-use lib.ListN.{length, get_or}
+use lib.ListN.{get_or}
 use lib.Seq.{slice, length-slice}
 use lib.Dec.{eqb}
 use Rattle.spec.specs.Bytes.{white, isin}

@@ -1,4 +1,3 @@
-use Prim.Native.Nat.{◌-◌}
 use Rattle.normalized.proofs.Flowing.{flows_none, flows_on}
 use native.Mathlib.Omega.{arith}
 use Rattle.normalized.proofs.fast_copy.plain_blocks.Goals as goal

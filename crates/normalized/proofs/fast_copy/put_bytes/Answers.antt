@@ -1,7 +1,7 @@
 use native.Mathlib.Numerals.{add-one}
-use Prim.Native.Nat.{◌-◌, zero-le}
+use Prim.Native.Nat.{zero-le}
 use mathlib.Core.Path.{◌≡◌, refl, ap, ◌∙◌}
-use lib.ListN.{length, length-set}
+use lib.ListN.{length-set}
 use lib.Seq.{paste, paste-zero, paste-suc}
 use native.Mathlib.Omega.{arith}
 use Rattle.normalized.proofs.fast_copy.put_bytes.Goals as goal

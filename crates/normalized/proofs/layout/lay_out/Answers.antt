@@ -3,7 +3,7 @@ use mathlib.Core.Path.{◌≡◌, sym, ap, subst, ◌∙◌}
 use mathlib.Core.Bool.{not, ◌&&◌}
 use mathlib.Core.List.{List}
 use lib.ListN.{length, take, drop}
-use lib.Seq.{slice, length-slice, take-length}
+use lib.Seq.{length-slice, take-length}
 use Rattle.spec.specs.Bytes.{white, trim_start_matches}
 use Rattle.text.specs.Marks.{dot_word}
 use Rattle.text.specs.Trimmed.{Skipped}

@@ -1,4 +1,3 @@
-use Prim.Native.Nat.{◌-◌}
 use mathlib.Core.Path.{sym, ◌∙◌}
 use native.Mathlib.Omega.{arith}
 use Rattle.normalized.proofs.Starting.{digit_some, marker_begun, tail_on, tail_here, tail_none}

@@ -1,6 +1,6 @@
 use Prim.Native.Nat.{◌-◌}
-use mathlib.Core.Path.{sym, ap, ap₂, subst, ◌∙◌}
-use mathlib.Core.Bool.{Bool, true, false, ◌||◌}
+use mathlib.Core.Path.{sym, ap₂, subst, ◌∙◌}
+use mathlib.Core.Bool.{Bool, ◌||◌}
 use lib.ListN.{length}
 use Rattle.normalized.specs.Layout.{LineSign}
 use Rattle.normalized.proofs.Starting.{line_inside, line_marker, line_first, line_plain}

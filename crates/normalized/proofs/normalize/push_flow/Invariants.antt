@@ -1,5 +1,4 @@
 use Prim.Native.Nat.{◌≤◌, ◌-◌}
-use mathlib.Core.Path.{ap}
 use lib.ListN.{length, take}
 use lib.Seq.{slice}
 use Rattle.spec.specs.Out.{push}

@@ -1,7 +1,7 @@
-use mathlib.Core.Path.{refl, sym, ap}
+use mathlib.Core.Path.{refl, sym}
 use mathlib.Core.Bool.{cond, not}
 use mathlib.Core.List.{[], ◌++◌}
-use lib.ListN.{length, take}
+use lib.ListN.{length}
 use lib.Seq.{slice, length-take-le}
 use Rattle.spec.specs.Bytes.{ascii}
 use Rattle.spec.specs.Out.{push}

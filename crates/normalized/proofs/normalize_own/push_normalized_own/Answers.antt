@@ -1,11 +1,9 @@
-use Prim.Native.Nat.{◌+◌}
-use mathlib.Core.Path.{ap, ◌∙◌}
+use mathlib.Core.Path.{◌∙◌}
 use mathlib.Core.Bool.{cond, not}
 use mathlib.Core.List.{[], ◌++◌}
 use lib.ListN.{length, drop, length-drop}
 use lib.Seq.{slice}
 use Rattle.spec.specs.Bytes.{ascii}
-use Rattle.spec.specs.Out.{push}
 use Rattle.text.specs.Flow.{flow}
 use Rattle.text.proofs.Sourcing.{pair_go, pair_stop, owed_last, owed_reach, alike_in}
 use Rattle.normalized.specs.Layout.{front}

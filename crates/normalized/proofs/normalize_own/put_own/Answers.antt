@@ -1,8 +1,8 @@
 use native.Mathlib.Numerals.{add-one}
-use Prim.Native.Nat.{ℕ, ◌+◌, ◌-◌, zero-le}
+use Prim.Native.Nat.{ℕ, ◌+◌, zero-le}
 use mathlib.Core.Path.{◌≡◌, refl, ap, ap₂, ◌∙◌}
 use mathlib.Core.List.{List}
-use lib.ListN.{length, drop, length-set, length-drop, get_or, set}
+use lib.ListN.{drop, length-set, length-drop, get_or, set}
 use lib.Seq.{paste, paste-zero, paste-suc}
 use Rattle.normalized.proofs.OwnCopy.{own_byte, own_done, own_full}
 use native.Mathlib.Omega.{arith}

@@ -1,4 +1,3 @@
-use Prim.Native.Nat.{◌-◌}
 use lib.ListN.{length, take}
 use Rattle.spec.specs.Md.TextUtils.{add_linebreaks, breaks_until}
 use Rattle.text.proofs.Writing.{Owes}

@@ -1,9 +1,8 @@
-use Prim.Native.Nat.{◌-◌, zero-le}
+use Prim.Native.Nat.{zero-le}
 use mathlib.Core.Path.{refl, sym, ap, ◌∙◌}
 use mathlib.Core.Bool.{Bool, ◌||◌, or_assoc, or-false}
 use lib.ListN.{get_or}
 use lib.Dec.{eqb}
-use Rattle.spec.specs.Bytes.{isin}
 use Rattle.text.proofs.Reading.{isin_step, isin_none}
 use native.Mathlib.Omega.{arith}
 use Rattle.text.proofs.buffer.contains_byte.Goals as goal

@@ -1,4 +1,4 @@
-use Prim.Native.Nat.{ℕ, ◌-◌, zero-le}
+use Prim.Native.Nat.{ℕ, zero-le}
 use mathlib.Core.Path.{refl, sym, ap}
 use lib.ListN.{take, drop}
 use Rattle.text.proofs.Moving.{dropping_none, dropping_on, dropping_all}

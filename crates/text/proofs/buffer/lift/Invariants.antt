@@ -1,4 +1,4 @@
-use Prim.Native.Nat.{◌≤◌, ◌-◌}
+use Prim.Native.Nat.{◌≤◌}
 use Rattle.text.proofs.Moving.{Lifting}
 use Rattle.text.proofs.buffer.lift.Given as goal
 

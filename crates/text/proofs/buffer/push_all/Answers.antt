@@ -1,8 +1,8 @@
 use native.Mathlib.Numerals.{add-one}
-use Prim.Native.Nat.{◌-◌, zero-le}
+use Prim.Native.Nat.{zero-le}
 use mathlib.Core.Path.{refl}
-use lib.ListN.{length, length-set}
-use lib.Seq.{paste, paste-zero, paste-suc}
+use lib.ListN.{length-set}
+use lib.Seq.{paste-zero, paste-suc}
 use Rattle.text.proofs.Pushing.{push_done, push_full}
 use borrow.Author.Rules.{rules}
 use native.Mathlib.Omega.{arith}

@@ -1,7 +1,7 @@
 use native.Mathlib.Numerals.{add-one}
-use Prim.Native.Nat.{◌-◌, ◌+◌, zero-le}
+use Prim.Native.Nat.{◌+◌, zero-le}
 use mathlib.Core.Path.{refl, sym, ◌∙◌, ap}
-use lib.ListN.{length, length-set, replicate, length-replicate, get_or-replicate, set}
+use lib.ListN.{length-set, replicate, length-replicate, get_or-replicate, set}
 use lib.Seq.{paste, paste-zero, paste-suc}
 use Rattle.text.proofs.Pushing.{push_done, push_full}
 use borrow.Author.Rules.{rules}

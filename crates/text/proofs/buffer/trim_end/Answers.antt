@@ -1,5 +1,4 @@
 use mathlib.Core.Path.{sym, ◌∙◌, ap}
-use lib.ListN.{length, take}
 use lib.Seq.{take-length}
 use Rattle.spec.specs.Bytes.{trim_end}
 use Rattle.text.proofs.WhiteSpace.{end_empty}

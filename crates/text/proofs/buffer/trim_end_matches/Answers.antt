@@ -1,5 +1,4 @@
 use mathlib.Core.Path.{sym, ◌∙◌, ap}
-use lib.ListN.{length, take}
 use lib.Seq.{take-length}
 use Rattle.spec.specs.Bytes.{one, trim_end_matches}
 use Rattle.text.specs.Class.{in_class}

@@ -1,4 +1,4 @@
-use Prim.Native.Nat.{◌-◌, zero-le}
+use Prim.Native.Nat.{zero-le}
 use mathlib.Core.Path.{refl, sym, ◌∙◌}
 use Rattle.text.specs.Class.{in_class}
 use Rattle.text.proofs.Trimming.{skip_on, skip_here, skip_none}

@@ -1,4 +1,3 @@
-use Prim.Native.Nat.{◌-◌}
 use mathlib.Core.Path.{sym, subst, ◌∙◌}
 use mathlib.Core.Option.{Option}
 use Rattle.spec.specs.Bytes.{Bytes}

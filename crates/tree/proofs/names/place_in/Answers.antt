@@ -1,6 +1,4 @@
-use Prim.Native.Nat.{◌-◌}
 use mathlib.Core.Path.{refl, sym, ◌∙◌}
-use Rattle.spec.specs.Names.{place}
 use Rattle.tree.proofs.Naming.{place_here, place_on, place_none}
 use native.Mathlib.Omega.{arith}
 use Rattle.tree.proofs.names.place_in.Goals as goal
