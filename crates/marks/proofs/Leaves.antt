@@ -7,8 +7,8 @@ use native.Mathlib.Omega.{arith}
 use native.Mathlib.Numerals.{add-one}
 use lib.ListN.{length, take, drop, get_or, length-drop, length-append, drop_of_length-le}
 use lib.Seq.{length-take-le, take-take, take-suc, take-add, take-length, drop-cons}
-use lib.Dec.{eqb, ltb}
-use borrow.Author.Tests.{eq-eqb, ne_eqb, eqb-true, eqb-false, ltb-false, ltb-true}
+use lib.Dec.{eqb}
+use borrow.Author.Tests.{eq-eqb, ne_eqb, eqb-true, eqb-false}
 use Rattle.spec.specs.Bytes.{ascii, isin, same, null, ends_with, one, white, trim_end_matches, trim_ascii_end}
 use Rattle.spec.specs.Out.{keep, push, cut, and_then}
 use Rattle.spec.specs.Md.TextUtils.{trim_blanks}

@@ -7,7 +7,6 @@ use Rattle.spec.specs.Out.{push}
 use Rattle.text.proofs.Writing.{alike, owes_all, owes_step, owes_stop, owes_last}
 use Rattle.lists_links.proofs.Prefixes.{last_only, last_behind}
 use native.Mathlib.Omega.{arith}
-use borrow.Fn.PlainCycle.{is}
 use Rattle.lists_links.proofs.ctx.+push_decimal.Goals as goal
 
 pub overflow_cast-last : goal.overflow_cast-last

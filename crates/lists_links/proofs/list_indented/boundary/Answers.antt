@@ -1,5 +1,4 @@
 use mathlib.Core.Path.{sym, ◌∙◌, refl}
-use Rattle.spec.specs.Md.Elements.List.{boundary}
 use Rattle.lists_links.proofs.Boundary.{boundary_here, boundary_on, boundary_none}
 use native.Mathlib.Omega.{arith}
 use Rattle.lists_links.proofs.list_indented.boundary.Goals as goal

@@ -1,6 +1,5 @@
-use Prim.Native.Nat.{◌-◌, zero-le}
+use Prim.Native.Nat.{zero-le}
 use mathlib.Core.Path.{refl, sym, ◌∙◌}
-use Rattle.spec.specs.Bytes.{every}
 use Rattle.lists_links.specs.Url.{kept}
 use Rattle.text.proofs.Reading.{every_on, every_off, every_none}
 use native.Mathlib.Omega.{arith}

@@ -1,4 +1,3 @@
-use Prim.Native.Nat.{◌-◌}
 use mathlib.Core.Path.{refl}
 use Rattle.input.proofs.Sequences.{all_turn, all_end}
 use Rattle.lists_links.specs.Url.{itself}

@@ -1,15 +1,13 @@
-use Prim.Native.Nat.{ℕ, ◌+◌, ◌-◌, ◌≤◌, zero-le}
-use lib.IntN.{ℤ, pos}
-use lib.Signed.{lt_z}
+use Prim.Native.Nat.{◌≤◌, zero-le}
+use lib.IntN.{ℤ}
 use mathlib.Core.Path.{◌≡◌, sym, ap, ◌∙◌, refl}
-use mathlib.Core.Bool.{Bool, false, ◌||◌, ◌&&◌}
-use lib.ListN.{drop, get_or}
+use mathlib.Core.Bool.{Bool, ◌||◌, ◌&&◌}
+use lib.ListN.{get_or}
 use lib.Dec.{eqb}
-use Rattle.spec.specs.Md.TextUtils.{needs_wrap}
 use Rattle.lists_links.specs.Url.{next_balance}
 use Rattle.lists_links.proofs.Balance.{next_fits, sign, bits, balanced_grown}
 use Rattle.lists_links.proofs.Linking.{wraps, wraps_on, wraps_end, balanced}
-use mir.Val.{SFits, of_z}
+use mir.Val.{of_z}
 use mir.Facts.{of_z-to_z}
 use mir.Syntax.{w32}
 use native.Mathlib.Omega.{arith}

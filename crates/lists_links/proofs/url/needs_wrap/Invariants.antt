@@ -1,6 +1,6 @@
 use Prim.Native.Nat.{ℕ, ◌-◌, ◌≤◌}
 use lib.IntN.{pos}
-use mathlib.Core.Path.{◌≡◌, ap}
+use mathlib.Core.Path.{◌≡◌}
 use lib.ListN.{length, drop}
 use Rattle.spec.specs.Md.TextUtils.{needs_wrap}
 use Rattle.lists_links.proofs.url.needs_wrap.Given as goal

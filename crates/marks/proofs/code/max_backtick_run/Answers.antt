@@ -1,6 +1,6 @@
 use Prim.Native.Nat.{◌+◌, ◌-◌}
 use mathlib.Core.Path.{sym, ◌∙◌}
-use lib.ListN.{length, take, drop, length-drop}
+use lib.ListN.{length, drop, length-drop}
 use lib.Seq.{length-take-le}
 use Rattle.spec.specs.Md.Elements.Code.{max_backtick_run}
 use Rattle.marks.proofs.Leaves.{runs_start, runs_to, run_fits, runs_all}

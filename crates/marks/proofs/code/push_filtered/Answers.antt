@@ -1,4 +1,4 @@
-use Prim.Native.Nat.{◌+◌, ◌-◌, zero-le}
+use Prim.Native.Nat.{◌+◌, zero-le}
 use mathlib.Core.Path.{◌∙◌, refl}
 use mathlib.Core.Bool.{cond}
 use mathlib.Core.List.{[], ◌∷◌}

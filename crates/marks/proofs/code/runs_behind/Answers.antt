@@ -1,7 +1,6 @@
-use Prim.Native.Nat.{ℕ, ◌-◌}
+use Prim.Native.Nat.{ℕ}
 use mathlib.Core.Path.{subst}
 use mathlib.Core.List.{List}
-use lib.ListN.{length, take}
 use lib.Seq.{length-take-le, take_all}
 use Rattle.marks.specs.Runs.{RunsBehind}
 use Rattle.marks.proofs.Leaves.{runs_start, runs_on}

@@ -1,7 +1,7 @@
-use Prim.Native.Nat.{◌+◌, ◌-◌}
+use Prim.Native.Nat.{◌+◌}
 use mathlib.Core.Path.{sym, ap, ◌∙◌}
 use mathlib.Core.Bool.{true, false}
-use lib.ListN.{length, take}
+use lib.ListN.{length}
 use lib.Seq.{length-take-le, take_all}
 use Rattle.spec.specs.Md.Elements.Table.{pipes_escaped}
 use Rattle.marks.proofs.Pipes.{pipes_more}

@@ -1,5 +1,4 @@
-use Prim.Native.Nat.{◌+◌, ◌-◌}
-use mathlib.Core.Path.{ap}
+use Prim.Native.Nat.{◌+◌}
 use Rattle.marks.proofs.Pipes.{Escaping}
 use Rattle.marks.proofs.table.escape_table_cell_inplace.Given as goal
 

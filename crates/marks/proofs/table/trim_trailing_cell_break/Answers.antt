@@ -1,6 +1,6 @@
 use Prim.Native.Nat.{◌-◌}
 use mathlib.Core.Path.{sym, ◌∙◌, ap}
-use lib.ListN.{length, take}
+use lib.ListN.{length}
 use lib.Seq.{length-take-le, take-length}
 use Rattle.spec.specs.Md.Elements.Table.{without_breaks}
 use Rattle.marks.proofs.Leaves.{cell_long, breaks_off, breaks_end, breaks_on}

@@ -1,4 +1,3 @@
-use Prim.Native.Nat.{◌-◌}
 use mathlib.Core.Path.{refl, sym, ◌∙◌}
 use Rattle.nodes.proofs.Numbers.{node_in, has_numbers, named_here, named_on, named_none}
 use native.Mathlib.Omega.{arith}

@@ -1,4 +1,3 @@
-use Prim.Native.Nat.{◌-◌}
 use mathlib.Core.Path.{sym, ap, ◌∙◌}
 use Rattle.spec.specs.Tree.{text_of}
 use Rattle.nodes.specs.Begun.{white_state, is_nothing}

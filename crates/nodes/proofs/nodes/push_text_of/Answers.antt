@@ -1,4 +1,3 @@
-use Prim.Native.Nat.{◌-◌}
 use mathlib.Core.Path.{refl}
 use Rattle.spec.specs.Bytes.{Bytes}
 use Rattle.nodes.proofs.Appending.{Spells, appends_all, appends_node, appends_on, appends_stop, appends_end}
