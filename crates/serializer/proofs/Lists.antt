@@ -5,8 +5,8 @@ use mathlib.Core.Path.{◌≡◌, refl, ap, ap₂, sym, subst, ◌∙◌}
 use mathlib.Core.Bool.{Bool, true, false, cond, ◌||◌}
 use mathlib.Core.List.{List, ◌∷◌}
 use mathlib.Core.Option.{Option, none, some}
-use lib.Dec.{eqb, ltb}
-use lib.ListN.{length, drop, get_or}
+use lib.Dec.{eqb}
+use lib.ListN.{drop, get_or}
 use borrow.Author.Tests.{eqb-true, eq-eqb}
 use Rattle.spec.specs.Bytes.{Bytes, ascii, null, starts_with, white, digit, take_while, trim_start_matches}
 use Rattle.spec.specs.Decimal.{length_nine}

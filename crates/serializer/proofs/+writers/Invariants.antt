@@ -1,19 +1,16 @@
 use Prim.Native.Nat.{◌+◌, ◌-◌, ◌≤◌, ◌*◌}
 use Rattle.input.specs.Scans.{skip_list}
 use Rattle.lists_links.specs.Items.{item_of}
-use Rattle.nodes.specs.Stands.{Placeds, Placed}
+use Rattle.nodes.specs.Stands.{Placeds}
 use Rattle.serializer.proofs.Goings.{GoingOn}
 use Rattle.serializer.proofs.RowWriting.{RowProgress}
 use Rattle.serializer.proofs.RowsWriting.{RowsProgress}
 use Rattle.serializer.proofs.Turns.{Turn}
 use Rattle.serializer.specs.Options.{unpacked}
-use Rattle.serializer.specs.Writers.{self_at, progress_at, Fits, FitsIn}
+use Rattle.serializer.specs.Writers.{self_at, progress_at, FitsIn}
 use Rattle.spec.specs.Call.{tags_to_skip}
-use Rattle.spec.specs.Md.Ctx.{inline}
-use Rattle.spec.specs.Md.Elements.List.{item_children, list_children, write_list}
-use Rattle.spec.specs.Md.Serializer.{serializer, write_element, write_nodes}
-use Rattle.spec.specs.Tree.{element}
-use Rattle.tables.specs.Rows.{Rows}
+use Rattle.spec.specs.Md.Elements.List.{item_children, list_children}
+use Rattle.spec.specs.Md.Serializer.{serializer, write_nodes}
 use Rattle.tree.specs.Memory.{Kept}
 use lib.ListN.{take, length}
 use mathlib.Core.Path.{◌≡◌}

@@ -1,4 +1,3 @@
-use Prim.Native.Nat.{◌-◌}
 use mathlib.Core.Path.{refl, sym, ◌∙◌}
 use Rattle.nodes.proofs.Numbers.{node_in}
 use Rattle.elements.proofs.Multilines.{line_numbers, line_here, line_on, line_none}

@@ -1,4 +1,3 @@
-use Prim.Native.Nat.{◌-◌}
 use mathlib.Core.Path.{refl, sym, ◌∙◌}
 use Rattle.elements.proofs.WhiteStarts.{start_stop, start_next, start_fits, start_ended}
 use native.Mathlib.Omega.{arith}

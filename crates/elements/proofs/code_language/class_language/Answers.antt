@@ -1,4 +1,3 @@
-use Prim.Native.Nat.{◌-◌}
 use Rattle.elements.proofs.Languages.{class_all, class_on, class_long, class_found, class_none}
 use native.Mathlib.Omega.{arith}
 use Rattle.elements.proofs.code_language.class_language.Goals as goal

@@ -1,4 +1,3 @@
-use Prim.Native.Nat.{◌-◌}
 use Rattle.elements.proofs.Languages.{Up}
 use Rattle.elements.proofs.code_language.nearest_language.Given as goal
 

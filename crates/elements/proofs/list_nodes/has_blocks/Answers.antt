@@ -1,4 +1,4 @@
-use Prim.Native.Nat.{ℕ, ◌-◌}
+use Prim.Native.Nat.{ℕ}
 use mathlib.Core.Bool.{true, false}
 use mathlib.Core.Path.{refl, sym, ap, subst, ◌∙◌}
 use Rattle.spec.specs.Md.Elements.List.{node_is_list_item_block, has_blocks}

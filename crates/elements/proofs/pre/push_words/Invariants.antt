@@ -1,5 +1,4 @@
 use Prim.Native.Nat.{◌-◌}
-use mathlib.Core.Path.{ap}
 use mathlib.Core.Bool.{false}
 use lib.ListN.{length, take}
 use Rattle.nodes.proofs.Appending.{Appends}

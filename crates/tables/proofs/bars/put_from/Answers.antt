@@ -1,6 +1,6 @@
-use Prim.Native.Nat.{ℕ, ◌-◌, zero-le}
+use Prim.Native.Nat.{ℕ, zero-le}
 use mathlib.Core.Path.{◌≡◌, refl, sym, subst}
-use lib.ListN.{length, take, drop, length-set}
+use lib.ListN.{take, drop, length-set}
 use lib.Seq.{paste, paste-zero}
 use Rattle.tables.proofs.Putting.{puts_paste, part_length, from_turn}
 use native.Mathlib.Omega.{arith}

@@ -1,6 +1,6 @@
-use Prim.Native.Nat.{ℕ, ◌-◌, zero-le}
+use Prim.Native.Nat.{ℕ, zero-le}
 use mathlib.Core.Path.{◌≡◌, refl, sym, subst}
-use lib.ListN.{length, length-set, replicate, length-replicate}
+use lib.ListN.{length-set, replicate, length-replicate}
 use lib.Seq.{paste, paste-zero}
 use Rattle.tables.proofs.Putting.{puts_paste, repeated_turn}
 use native.Mathlib.Omega.{arith}

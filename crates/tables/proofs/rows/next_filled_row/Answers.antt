@@ -1,7 +1,6 @@
-use Prim.Native.Nat.{◌-◌}
 use native.Mathlib.Omega.{arith}
 use mathlib.Core.Path.{refl, sym, subst, ◌∙◌}
-use Rattle.tables.specs.Rows.{Rows, RowsAt}
+use Rattle.tables.specs.Rows.{RowsAt}
 use Rattle.tables.proofs.TableRows.{rows_le}
 use Rattle.tables.proofs.RowTests.{some_row, filled_here, filled_on, filled_none}
 use Rattle.tables.proofs.rows.next_filled_row.Goals as goal

@@ -1,4 +1,3 @@
-use Prim.Native.Nat.{◌-◌}
 use native.Mathlib.Omega.{arith}
 use mathlib.Core.Path.{sym, ◌∙◌}
 use Rattle.tables.proofs.TableRows.{rows_node, rows_here, rows_on, rows_ended, rows_le}

@@ -1,6 +1,6 @@
-use Prim.Native.Nat.{◌+◌, ◌-◌}
+use Prim.Native.Nat.{◌+◌}
 use mathlib.Core.Path.{refl, ap}
-use Rattle.tables.specs.Spans.{table_lengths, filled, marks}
+use Rattle.tables.specs.Spans.{table_lengths, marks}
 use Rattle.tables.proofs.Cutting.{marks_first, marks_none, marks_few}
 use Rattle.tables.proofs.Lines.{line_next, line_row, line_none, line_turn, row_length}
 use native.Mathlib.Omega.{arith}

@@ -1,4 +1,4 @@
-use Prim.Native.Nat.{ℕ, ◌-◌}
+use Prim.Native.Nat.{ℕ}
 use mathlib.Core.Path.{sym, ap, subst, ◌∙◌}
 use Rattle.spec.specs.Md.Elements.Table.{is_table_cell}
 use Rattle.tables.proofs.Gathering.{Looking, looking_all, looking_first, looking_node, looking_on, looking_done}

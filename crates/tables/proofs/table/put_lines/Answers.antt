@@ -1,4 +1,4 @@
-use Prim.Native.Nat.{ℕ, ◌+◌, ◌-◌}
+use Prim.Native.Nat.{ℕ, ◌+◌}
 use mathlib.Core.List.{List, ◌++◌, append-nil}
 use mathlib.Core.Path.{refl, sym, ap, subst, ◌∙◌}
 use lib.ListN.{drop, length-drop}

@@ -2,7 +2,7 @@ use Prim.Native.Nat.{◌+◌, ◌-◌, ◌≤◌}
 use mathlib.Core.Path.{◌≡◌}
 use lib.ListN.{drop}
 use Rattle.spec.specs.Md.Elements.Table.{concat}
-use Rattle.tables.specs.Puts.{bar_line, bar_lines}
+use Rattle.tables.specs.Puts.{bar_lines}
 use Rattle.tables.specs.Spans.{table_lengths, filled, sum, cut_rows}
 use Rattle.tables.proofs.Putting.{Due}
 use Rattle.tables.proofs.Lines.{LineFrom}
