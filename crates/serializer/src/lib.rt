@@ -1,5 +1,4 @@
-// The writers of serializer.rs and elements: one call cycle, in which `levels` falls. They stand in the crate's own file, since
-// the proof of a cycle is named by its members, with their modules.
+// The writers of serializer.rs and elements: one call cycle, in which `levels` falls. Its proof is one too, in proofs/+writers.
 
 #![tactic(auto)]
 
