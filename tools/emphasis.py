@@ -29,25 +29,25 @@ import antt
 OUTSIDE = ["\u00e9", "\u00a0", "\u2014"]    # text, white space, punctuation
 
 PREAMBLE = """use Rattle.spec.specs.Bytes.{Bytes, ascii, same, starts_with, ends_with}
-use Rattle.spec.specs.Reading.Inline.{Beside, besideWhite, besidePunctuation, besideText, beside}
+use Rattle.spec.specs.Reading.Inline.{Beside, beside_white, beside_punctuation, beside_text, beside}
 use Rattle.spec.specs.Pieces.EmphasisReading.{Inlines, nothing, byte, emphasis, strong, inlines_by}
 
 known : ℕ → Beside
-known b = cond (leb 128 b) besideText (beside b)
+known b = cond (leb 128 b) beside_text (beside b)
 
 head_of : Bytes → Beside
-head_of [] = besideWhite
+head_of [] = beside_white
 head_of (b ∷ s) = known b
 
 first_of : Bytes → Beside
 first_of s =
-    cond (starts_with (0xC2 ∷ 0xA0 ∷ []) s) besideWhite
-    (cond (starts_with (0xE2 ∷ 0x80 ∷ 0x94 ∷ []) s) besidePunctuation (head_of s))
+    cond (starts_with (0xC2 ∷ 0xA0 ∷ []) s) beside_white
+    (cond (starts_with (0xE2 ∷ 0x80 ∷ 0x94 ∷ []) s) beside_punctuation (head_of s))
 
 last_of : Bytes → Beside
 last_of s =
-    cond (ends_with (0xC2 ∷ 0xA0 ∷ []) s) besideWhite
-    (cond (ends_with (0xE2 ∷ 0x80 ∷ 0x94 ∷ []) s) besidePunctuation (head_of (drop (length s - 1) s)))
+    cond (ends_with (0xC2 ∷ 0xA0 ∷ []) s) beside_white
+    (cond (ends_with (0xE2 ∷ 0x80 ∷ 0x94 ∷ []) s) beside_punctuation (head_of (drop (length s - 1) s)))
 
 code : Inlines → List ℕ
 code nothing = []

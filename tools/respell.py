@@ -62,6 +62,15 @@ def read(path):
         return f.read()
 
 
+def constructors(text):
+    """The names that stand several to a line in a `data`."""
+    for m in re.finditer(r"(?m)^(?:pub )?data .*? where\n((?:  .*\n)+)", text):
+        for line in m[1].split("\n"):
+            names = re.match(rf"  ((?:{NAME} )+){NAME} : ", line)
+            if names and not names[1].startswith("pub "):
+                yield from line.split(" : ")[0].split()
+
+
 def declared():
     """name -> files, of definitions, lemmas, fields and constructors."""
     found = {}
@@ -73,6 +82,8 @@ def declared():
             found.setdefault(m[1] or m[2], set()).add(path)
         for m in FIELD.finditer(text):
             found.setdefault(m[1], set()).add(path)
+        for n in constructors(text):
+            found.setdefault(n, set()).add(path)
     return found
 
 

@@ -7,7 +7,7 @@ use Rattle.spec.specs.Entries.{word}
 use Rattle.spec.specs.Md.TextUtils.{is_escaped, escaped_from, escaped_chunk, more_words}
 use Rattle.spec.specs.Reading.Lines.{punctuation, head_is}
 use Rattle.spec.specs.Reading.Inline as reading
-use Rattle.spec.specs.Reading.Inline.{escaped, slashed, unescape, anywhere, mark, spaceMark, noMark, begins_by, begins, pieces, inline}
+use Rattle.spec.specs.Reading.Inline.{escaped, slashed, unescape, anywhere, mark, space_mark, no_mark, begins_by, begins, pieces, inline}
 use Rattle.spec.proofs.Tests.{and_l, and_r, and_no, or_l, or_elim, apart, isin_no, isin_yes, eqb_yes}
 use Rattle.recovery.proofs.Words.{kept, plain_byte, plain_word, plain_words, plain_bytes, blanked, words_line, words_blanked}
 use Rattle.recovery.specs.Closed.{phrase, hash, heading_word, heading_words}
@@ -54,7 +54,7 @@ no_hard_break enil = refl
 no_hard_break (ebare {b} {e} c h) = and_no (eqb b 32) _ (no_break h)
 no_hard_break (eback p h) = refl
 
-mark_bare : (b : ℕ) → bare b ≡ true → mark b ≡ cond (eqb b 32) spaceMark noMark
+mark_bare : (b : ℕ) → bare b ≡ true → mark b ≡ cond (eqb b 32) space_mark no_mark
 unfolding mark bare isin
 mark_bare b c =
     rw (
@@ -71,7 +71,7 @@ pub begins_bare : (p b : ℕ) (e : Bytes) → bare b ≡ true → starts_with (3
 unfolding begins begins_by
 begins_bare p b e c n = rw (mark_bare b c) (go (eqb b 32))
   where
-    go : (t : Bool) → begins_by (cond t spaceMark noMark) p b e ≡ false
+    go : (t : Bool) → begins_by (cond t space_mark no_mark) p b e ≡ false
     go true = n
     go false = refl
 

@@ -9,7 +9,7 @@ use Rattle.spec.specs.ListNumber.{largest_number}
 use Rattle.spec.specs.Md.TextUtils.{is_escaped, escaped_from, escaped_chunk, more_words}
 use Rattle.spec.specs.Reading.Lines.{space_or_tab, blank_line, drop_while, drop_run, column, width, strip}
 use Rattle.spec.specs.Reading.Definitions.{definition}
-use Rattle.spec.specs.Reading.Starts.{item_start, thematic_break, ends, underline, bullet_by, bullet, rule_or, number_by, number, digitLead, lead, start_by, start, starts_at_one, start_if, interrupting, underline_or, start_in}
+use Rattle.spec.specs.Reading.Starts.{item_start, thematic_break, ends, underline, bullet_by, bullet, rule_or, number_by, number, digit_lead, lead, start_by, start, starts_at_one, start_if, interrupting, underline_or, start_in}
 use Rattle.spec.specs.Decimal.{length_nine, length_least}
 use Rattle.spec.proofs.Tests.{and_l, and_r, apart}
 use Rattle.recovery.proofs.Digits.{decimal_value, decimal_digits}
@@ -122,7 +122,7 @@ unfolding drop_while every digit
 drop_digits [] t h = refl
 drop_digits (b ∷ ds) t h = rw (and_l (digit b) _ h) (drop_digits ds t (and_r (digit b) _ h))
 
-pub lead_digit : (b : ℕ) → digit b ≡ true → lead b ≡ digitLead
+pub lead_digit : (b : ℕ) → digit b ≡ true → lead b ≡ digit_lead
 unfolding lead digit
 lead_digit b h =
     rw (

@@ -7,7 +7,7 @@ use Rattle.std.proofs.Math.Bool.{and-false, and-true, or-false}
 use Rattle.spec.specs.Bytes.{Bytes, ascii, null, same, isin, every, ends_with, white, digit}
 use Rattle.spec.specs.Md.TextUtils.{is_ordered_list_marker, is_escaped, escaped_from, escaped_chunk, more_words}
 use Rattle.spec.specs.Reading.Lines.{space_or_tab, drop_while}
-use Rattle.spec.specs.Reading.Starts.{textStart, ends, number_by, number, digitLead, otherLead, lead, start_by, start}
+use Rattle.spec.specs.Reading.Starts.{text_start, ends, number_by, number, digit_lead, other_lead, lead, start_by, start}
 use Rattle.spec.proofs.Order.{one_less}
 use Rattle.spec.proofs.Tests.{and_l, and_r, or_l, or_r, or_elim, apart, isin_no}
 use Rattle.recovery.proofs.Words.{kept, plain_byte, plain_word, plain_words, plain_bytes}
@@ -81,7 +81,7 @@ ends_from start m u b w t h = ends_by (is_escaped start m u b w) b (escaped_from
 
 -- what follows the digits ds of a line
 unfoldable pub Numberless : Bytes → Type 0
-Numberless r = (ds : Bytes) → number ds (drop_while digit r) ≡ textStart
+Numberless r = (ds : Bytes) → number ds (drop_while digit r) ≡ text_start
 
 numberless_more : (ws : List Bytes) → Numberless (more_words true ws)
 unfolding Numberless more_words number number_by drop_while digit
@@ -126,7 +126,7 @@ numberless_word m u (b ∷ w) t e h k =
 unfoldable pub mild : ℕ → Bool
 mild b = plain_byte b && (not (isin b (ascii "\\`*_[]<|~")) && not (isin b (ascii "#>-+")))
 
-pub lead_mild : (b : ℕ) → mild b ≡ true → lead b ≡ cond (digit b) digitLead otherLead
+pub lead_mild : (b : ℕ) → mild b ≡ true → lead b ≡ cond (digit b) digit_lead other_lead
 unfolding lead mild plain_byte kept white isin
 lead_mild b h =
     rw (
@@ -151,17 +151,17 @@ bare_mild m u b r k h =
     )
 
 start_by_lem : (s m u : Bool) (b : ℕ) (w t : Bytes) → is_escaped true m u b w ≡ s → (digit b ≡ true → dot_ends w ≡ m) → every plain_byte (b ∷ w) ≡ true
-    → Numberless t → start ((cond s (ascii "\\") [] ++ (b ∷ escaped_from false m u w)) ++ t) ≡ textStart
+    → Numberless t → start ((cond s (ascii "\\") [] ++ (b ∷ escaped_from false m u w)) ++ t) ≡ text_start
 unfolding start start_by every lead digit Numberless
 start_by_lem true m u b w t e k h n = refl
 start_by_lem false m u b w t e k h n = rw (lead_mild b (bare_mild m u b w (and_l (plain_byte b) _ h) e)) (go (digit b) refl)
   where
-    go : (d : Bool) → digit b ≡ d → start_by (cond d digitLead otherLead) b (escaped_from false m u w ++ t) ≡ textStart
+    go : (d : Bool) → digit b ≡ d → start_by (cond d digit_lead other_lead) b (escaped_from false m u w ++ t) ≡ text_start
     go true d = numberless_word m u w t (k d) (and_r (plain_byte b) _ h) n _
     go false d = refl
 
 -- a line of words begins no block
-pub start_phrase : (w : Bytes) (ws : List Bytes) → plain_words (w ∷ ws) ≡ true → start (phrase (w ∷ ws)) ≡ textStart
+pub start_phrase : (w : Bytes) (ws : List Bytes) → plain_words (w ∷ ws) ≡ true → start (phrase (w ∷ ws)) ≡ text_start
 unfolding phrase escaped_chunk escaped_from plain_words plain_word null
 start_phrase [] ws h = absurd (false≢true h)
 start_phrase (b ∷ w) ws h =

@@ -7,7 +7,7 @@ use Rattle.spec.specs.Entries.{word, Entry, rule, heading, paragraph}
 use Rattle.spec.specs.Reading.Lines.{space_or_tab, blank_line}
 use Rattle.spec.specs.Reading.Inline.{inline}
 use Rattle.spec.specs.Reading.Definitions.{definition}
-use Rattle.spec.specs.Reading.Starts.{ruleStart, thematic_break, rule_or, bullet, lead, start_by, start, start_in}
+use Rattle.spec.specs.Reading.Starts.{rule_start, thematic_break, rule_or, bullet, lead, start_by, start, start_in}
 use Rattle.spec.specs.Reading.Held.{State, state, no_leaf, text_leaf, free_role, closed, text_entries, is_raw, is_fresh, is_paragraph, is_table, is_quote}
 use Rattle.spec.specs.Reading.Step.{kept, all_kept, base, alone, role_in, text_by, goes_on, text_line, one_line, line_by, line_in, line, blank_step, leaf_step, step_by, step}
 use Rattle.spec.specs.Reading.{finish}
@@ -56,7 +56,7 @@ reached_one e o = reached_flat (o ++ (e ∷ []))
 
 -- ---- rules and headings
 
-start_rule : start (ascii "---") ≡ ruleStart
+start_rule : start (ascii "---") ≡ rule_start
 unfolding start start_by lead rule_or thematic_break bullet
 start_rule = refl
 

@@ -8,7 +8,7 @@ use borrow.Author.Tests.{eqb-false, ne_eqb, eq-eqb}
 use Rattle.spec.specs.Bytes.{Bytes, null, isin, every, digit, cut_at, parts, split}
 use Rattle.spec.specs.Entries.{Entry}
 use Rattle.spec.specs.Reading.Lines.{space_or_tab, punctuation, blank_line}
-use Rattle.spec.specs.Reading.Starts.{textStart, underline, interrupting, underline_or, lead, start_by, start, start_in}
+use Rattle.spec.specs.Reading.Starts.{text_start, underline, interrupting, underline_or, lead, start_by, start, start_in}
 use Rattle.spec.specs.Reading.Tables.{row}
 use Rattle.spec.specs.Reading.Held as held
 use Rattle.spec.specs.Reading.Held.{
@@ -118,7 +118,7 @@ row_solid : (es : List Bytes) → solid (row_line es) ≡ true
 unfolding row_line solid space_or_tab
 row_solid es = refl
 
-row_start : (es : List Bytes) → start (row_line es) ≡ textStart
+row_start : (es : List Bytes) → start (row_line es) ≡ text_start
 unfolding row_line start start_by lead digit
 row_start es = refl
 
@@ -126,7 +126,7 @@ row_underline : (es : List Bytes) → underline (row_line es) ≡ false
 unfolding row_line underline
 row_underline es = refl
 
-row_start_in : (t : Bool) (es : List Bytes) → start_in t (row_line es) ≡ textStart
+row_start_in : (t : Bool) (es : List Bytes) → start_in t (row_line es) ≡ text_start
 unfolding start_in underline_or interrupting
 row_start_in false es = row_start es
 row_start_in true es = rw (row_underline es, row_start es)

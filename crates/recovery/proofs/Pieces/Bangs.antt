@@ -217,7 +217,7 @@ settled_text opts u s h k = settled_app u _ k (go (not (ends_with (ascii "\n") u
 
 -- ---- the exception
 
--- a text that ends with an escaped `!`: the backslash is escaped, and the bracket opens an image. No text of nodes ends so (`settled-text`)
+-- a text that ends with an escaped `!`: the backslash is escaped, and the bracket opens an image. No text of nodes ends so (`settled_text`)
 pub bang_lost : opens_image false (escape_trailing_bang (ascii "\\!")).text ≡ true
 unfolding everything
 bang_lost = refl

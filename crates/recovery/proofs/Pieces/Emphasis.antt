@@ -14,7 +14,7 @@ use Rattle.spec.specs.Names as tag
 use Rattle.spec.specs.Pieces.Emphasis.{Classes, ends_bare, run_begins, can_open, can_close}
 use Rattle.spec.specs.Reading.Lines.{punctuation, drop_run}
 use Rattle.spec.specs.Reading.Inline as reading
-use Rattle.spec.specs.Reading.Inline.{escaped, slashed, Beside, besideWhite, besidePunctuation, besideText, besideUnknown, is_unknown, left_flanking, may_open}
+use Rattle.spec.specs.Reading.Inline.{escaped, slashed, Beside, beside_white, beside_punctuation, beside_text, beside_unknown, is_unknown, left_flanking, may_open}
 use Rattle.recovery.proofs.Written.Ends.{last_is, first_is, last_keep, last_replicate, last_not}
 
 -- ---- the flanking rules
@@ -168,14 +168,14 @@ none_written = refl
 -- ---- there is such a way of telling characters: every character outside ASCII is taken for text
 
 unfoldable pub known : ℕ → Beside
-known b = cond (leb 128 b) besideText (reading.beside b)
+known b = cond (leb 128 b) beside_text (reading.beside b)
 
 unfoldable pub first_of : Bytes → Beside
-first_of [] = besideWhite
+first_of [] = beside_white
 first_of (b ∷ s) = known b
 
 unfoldable pub last_of : Bytes → Beside
-last_of [] = besideWhite
+last_of [] = beside_white
 last_of (b ∷ s) = cond (null s) (known b) (last_of s)
 
 pub known_ascii : (b : ℕ) → leb b 127 ≡ true → known b ≡ reading.beside b
@@ -186,7 +186,7 @@ known_known : (b : ℕ) → is_unknown (known b) ≡ false
 unfolding known reading.beside
 known_known b = go (leb 128 b) (white b) (punctuation b)
   where
-    go : (t u v : Bool) → is_unknown (cond t besideText (cond u besideWhite (cond v besidePunctuation (cond t besideUnknown besideText)))) ≡ false
+    go : (t u v : Bool) → is_unknown (cond t beside_text (cond u beside_white (cond v beside_punctuation (cond t beside_unknown beside_text)))) ≡ false
     go true u v = unfold is_unknown in refl
     go false true v = unfold is_unknown in refl
     go false false true = unfold is_unknown in refl

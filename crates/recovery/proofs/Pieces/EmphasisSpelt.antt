@@ -8,7 +8,7 @@ use Rattle.std.proofs.Math.Option.{some}
 use Rattle.spec.specs.Bytes.{Bytes, null, same, isin, every, starts_with, white, digit}
 use Rattle.spec.specs.Reading.Lines.{punctuation, letter, letter_or_digit, head_is}
 use Rattle.spec.specs.Reading.Inline as reading
-use Rattle.spec.specs.Reading.Inline.{escaped, slashed, anywhere, Beside, besideWhite, left_flanking, may_open}
+use Rattle.spec.specs.Reading.Inline.{escaped, slashed, anywhere, Beside, beside_white, left_flanking, may_open}
 use Rattle.spec.specs.Pieces.Emphasis.{Classes}
 use Rattle.spec.specs.Pieces.EmphasisReading.{Inlines, nothing, joined, bytes, Run, Token, plain, delimiters, Beside_of, tokens, Stack, stack, delimited, processed, ended, whole, foreign, inlines_by, inlines}
 use Rattle.spec.proofs.Tests.{and_l, and_r, or_elim, every_app, every_replicate, apart, isin_no, isin_yes}
@@ -87,12 +87,12 @@ flanking_text q b e =
     let a : leb 128 b ≡ false = lt-leb 128 b (omega (arith, leb-true b 127 (lettered b e).1)) in
     rw (isin_no letter_or_digit b (9 ∷ 10 ∷ 12 ∷ 13 ∷ 32 ∷ []) e (unfold every letter_or_digit letter digit in refl), (lettered b e).0, a)
 
-flanking_sign : (b : ℕ) → punctuation b ≡ true → left_flanking besideWhite (reading.beside b) ≡ true
+flanking_sign : (b : ℕ) → punctuation b ≡ true → left_flanking beside_white (reading.beside b) ≡ true
 unfolding reading.beside left_flanking white reading.is_text
 flanking_sign b e = rw (isin_no punctuation b (9 ∷ 10 ∷ 12 ∷ 13 ∷ 32 ∷ []) e (unfold every punctuation in refl), e)
 
 -- with q on the other side
-flanking : (p : Bool) (q : Beside) (b : ℕ) → edge p b ≡ true → (p ≡ true → q ≡ besideWhite) → may_open 42 q (reading.beside b) ≡ true
+flanking : (p : Bool) (q : Beside) (b : ℕ) → edge p b ≡ true → (p ≡ true → q ≡ beside_white) → may_open 42 q (reading.beside b) ≡ true
 unfolding edge
 flanking p q b h w =
     may_open_lem q (reading.beside b)
@@ -110,7 +110,7 @@ white_behind p e = cond (null e) p (last_is white e)
 
 -- c is read as y; p: white space, or nothing, stands before it
 pub record Spelt (k : Classes) (p : Bool) (c : Bytes) (y : Inlines) : Type 0 where
-  pub reads : (x : Bytes) (acc : Inlines) → (p ≡ true → k.last x ≡ besideWhite)
+  pub reads : (x : Bytes) (acc : Inlines) → (p ≡ true → k.last x ≡ beside_white)
       → processed (stack acc []) (tokens k.last k.first x 0 false c) ≡ stack (joined acc y) []
   pub line : every in_line c ≡ true
   pub clear : (b : ℕ) → anywhere foreign b false c ≡ false
@@ -158,21 +158,21 @@ white_ascii : (b : ℕ) → white b ≡ true → leb b 127 ≡ true
 unfolding white every
 white_ascii b h = isin_yes (λ b. leb b 127) b (9 ∷ 10 ∷ 12 ∷ 13 ∷ 32 ∷ []) h refl
 
-beside_white : (b : ℕ) → white b ≡ true → reading.beside b ≡ besideWhite
+beside_white_lem : (b : ℕ) → white b ≡ true → reading.beside b ≡ beside_white
 unfolding reading.beside
-beside_white b h = rw h
+beside_white_lem b h = rw h
 
-white_last : (k : Classes) (p : Bool) (x e : Bytes) → (p ≡ true → k.last x ≡ besideWhite) → white_behind p e ≡ true → k.last (x ++ e) ≡ besideWhite
+white_last : (k : Classes) (p : Bool) (x e : Bytes) → (p ≡ true → k.last x ≡ beside_white) → white_behind p e ≡ true → k.last (x ++ e) ≡ beside_white
 unfolding white_behind null
 white_last k p x [] w h = ap k.last (append-nil x) ∙ w h
 white_last k p x (b ∷ e) w h =
     let r : LastByte k white (x ++ (b ∷ e)) = last_byte k white white_ascii x (b ∷ e) refl h in
-    r.class ∙ beside_white r.last r.is
+    r.class ∙ beside_white_lem r.last r.is
 
-white_first : (k : Classes) (u : Bytes) → first_is white u ≡ true → k.first u ≡ besideWhite
+white_first : (k : Classes) (u : Bytes) → first_is white u ≡ true → k.first u ≡ beside_white
 unfolding first_is
 white_first k [] h = k.first_none
-white_first k (b ∷ u) h = k.first_ascii b u (white_ascii b h) ∙ beside_white b h
+white_first k (b ∷ u) h = k.first_ascii b u (white_ascii b h) ∙ beside_white_lem b h
 
 pub spelt_words : (k : Classes) (p : Bool) {e w u : Bytes} {y : Inlines} → Esc e w → Spelt k (white_behind p e) u y → Spelt k p (e ++ u) (joined (bytes w) y)
 spelt_words k p {e} {w} {u} {y} h s =
@@ -198,7 +198,7 @@ head_Esc r enil n = absurd (true≢false n)
 head_Esc r (ebare {b} c h) n = bare_not b 42 c (unfold bare isin in refl)
 head_Esc r (eback p h) n = refl
 
-opens_first : (k : Classes) (p : Bool) (q : Beside) (e r : Bytes) → null e ≡ false → first_is (edge p) e ≡ true → (p ≡ true → q ≡ besideWhite) → may_open 42 q (k.first (e ++ r)) ≡ true
+opens_first : (k : Classes) (p : Bool) (q : Beside) (e r : Bytes) → null e ≡ false → first_is (edge p) e ≡ true → (p ≡ true → q ≡ beside_white) → may_open 42 q (k.first (e ++ r)) ≡ true
 unfolding null first_is
 opens_first k p q [] r n h w = absurd (true≢false n)
 opens_first k p q (b ∷ e) r n h w = ap (may_open 42 q) (k.first_ascii b (e ++ r) (edge_ascii p b h)) ∙ flanking p q b h w
@@ -231,7 +231,7 @@ spelt_marks k m p {e} {w} {u} {y} h n f l d s =
     behind : every in_line (marks m ++ u) ≡ true
     behind = every_app in_line (marks m) u stars_line s.line
 
-    read : (x : Bytes) (acc : Inlines) → (p ≡ true → k.last x ≡ besideWhite)
+    read : (x : Bytes) (acc : Inlines) → (p ≡ true → k.last x ≡ beside_white)
         → processed (stack acc []) (tokens L F x 0 false (marks m ++ (e ++ (marks m ++ u)))) ≡ stack (joined acc (joined (wrap m (bytes w)) y)) []
     read x acc v =
         let r : Bytes = e ++ (marks m ++ u) in

@@ -76,7 +76,7 @@ pub item_begun : (ctx : ListContext) (t : Bytes)
 unfolding begin_item and_then cut push
 item_begun ctx t = refl
 
--- and a first block that is no heading, code block or rule stands straight behind the marker: its line is the one of `item-opens`
+-- and a first block that is no heading, code block or rule stands straight behind the marker: its line is the one of `item_opens`
 pub first_written : (self : MDSerializer) (anc : Ancestors) (node : Forest) (item : Item) (p : Progress) (c : Bytes)
     → item.ctx.opts.table_cell ≡ false → eqb (name_of node) tag.pre ≡ false → eqb (name_of node) tag.hr ≡ false → is_heading (name_of node) ≡ false
     → p.is_first_block ≡ true → ltb item.start (length p.out.text) ≡ false

@@ -276,7 +276,7 @@ module _ (self : MDSerializer) (anc : Ancestors) (node : Forest) (ctx : ListCont
   fence_behind_text first a =
       fence_at p.out.text _ (unfold block_lead in rw first (append-nil p.out.text)) (own_moved (item_from ctx begun) p.out.text no_cell a)
 
-  -- straight behind the marker, where the item has nothing yet; `item-opens` reads that line at the content column
+  -- straight behind the marker, where the item has nothing yet; `item_opens` reads that line at the content column
   pub fence_first : p.is_first_block ≡ true → eqb (length p.out.text) (item_from ctx begun).start ≡ true
       → FenceFirst ctx begun (block_child self anc node (item_from ctx begun) p).out.text p.out.text lang s
   unfolding block_lines

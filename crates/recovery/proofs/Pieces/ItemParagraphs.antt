@@ -76,7 +76,7 @@ texts_in_item skips n anc name attrs kids ctx begun p f h e i only plain c first
       read = texts_read opts u (texts_of kids) e plain;
     }
 
--- Texts behind the marker of an item, whether it has blocks or not: the line that `item-opens` reads in the item begins no block there
+-- Texts behind the marker of an item, whether it has blocks or not: the line that `item_opens` reads in the item begins no block there
 pub marker_texts : (opts : FormatOpts) (ctx : ListContext) (x : Bytes) (ss : List Bytes) (par : Bool) → opts.list_item ≡ true → opts.skip_escape ≡ false
     → opts.inline ≡ false → at_line x ≡ true → all_of kept ss ≡ true → clear opts ((x ++ replicate ctx.list_indent 32) ++ prefix ctx) [] ss ≡ true
     → is_text_start (start_in par (appended opts ((x ++ replicate ctx.list_indent 32) ++ prefix ctx) ss)) ≡ true

@@ -19,7 +19,7 @@ use Rattle.spec.specs.Md.Serializer.{is_tight, open_break, opened, close_line}
 use Rattle.spec.specs.Md.TextUtils.{trim_blanks, trim_trailing_space, breaks_until, add_linebreaks}
 use Rattle.spec.specs.Pieces.Lines.{continues, hard_break}
 use Rattle.spec.specs.Reading.Lines.{space_or_tab, blank_line, drop_run}
-use Rattle.spec.specs.Reading.Starts.{ruleStart, underlineStart, item_start, thematic_break, ends, underline, bullet_by, bullet, rule_or, lead, start_by, start, underline_or, start_in}
+use Rattle.spec.specs.Reading.Starts.{rule_start, underline_start, item_start, thematic_break, ends, underline, bullet_by, bullet, rule_or, lead, start_by, start, underline_or, start_in}
 use Rattle.spec.specs.Tree.{Attr, Forest, attr}
 use Rattle.spec.specs.declared.ctx.FormatOpts.{FormatOpts}
 use Rattle.spec.specs.declared.ctx.ListContext.{ListContext}
@@ -35,7 +35,7 @@ use Rattle.recovery.proofs.Written.Ends.{ends_by}
 -- ---- rules
 
 -- where no paragraph is open, as behind a blank line, it is a thematic break; straight behind a paragraph's line it would underline that
-pub rule_read : (start_in false (md_prefix tag.hr) ≡ ruleStart) × (start_in true (md_prefix tag.hr) ≡ underlineStart)
+pub rule_read : (start_in false (md_prefix tag.hr) ≡ rule_start) × (start_in true (md_prefix tag.hr) ≡ underline_start)
 unfolding md_prefix start_in start start_by lead rule_or thematic_break underline_or underline drop_run blank_line every space_or_tab
 rule_read = (refl, refl)
 

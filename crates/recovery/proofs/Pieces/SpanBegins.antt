@@ -9,8 +9,8 @@ use Rattle.spec.specs.Reading.Inline.{escaped, slashed}
 use Rattle.recovery.proofs.Pieces.Bangs.{waits_app}
 use Rattle.recovery.proofs.Pieces.CodeSpans.{apart_behind}
 
--- 2.4: a reader comes to the first backtick of the span that stands behind t (`code-text`) with no backslash before it that escapes it, if none
--- waits at the end of t: none does behind texts (`settled-text`), links, spans, emphasis and line ends (`settled-last`)
+-- 2.4: a reader comes to the first backtick of the span that stands behind t (`code_text`) with no backslash before it that escapes it, if none
+-- waits at the end of t: none does behind texts (`settled_text`), links, spans, emphasis and line ends (`settled_last`)
 pub span_unescaped : (t : Bytes) → waits false t ≡ false → escaped (waits false (apart_behind t)) 96 ≡ false
 unfolding apart_behind
 span_unescaped t h = go (ends_with (ascii "`") t)

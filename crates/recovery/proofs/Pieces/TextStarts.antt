@@ -9,7 +9,7 @@ use Rattle.spec.specs.Bytes.{Bytes, ascii, null, isin, every, starts_with, white
 use Rattle.spec.specs.Md.TextUtils.{is_ordered_list_marker, is_escaped, escaped_from, escaped_chunk}
 use Rattle.spec.specs.Pieces.Lines.{is_text_start}
 use Rattle.spec.specs.Reading.Lines.{space_or_tab, blank_line, drop_while, drop_run}
-use Rattle.spec.specs.Reading.Starts.{textStart, ends, underline, number_by, number, lead, start_by, start, interrupting, underline_or, start_in}
+use Rattle.spec.specs.Reading.Starts.{text_start, ends, underline, number_by, number, lead, start_by, start, interrupting, underline_or, start_in}
 use Rattle.spec.proofs.Tests.{and_l, and_r, or_r, apart, isin_no, every_app}
 use Rattle.recovery.proofs.Words.{plain_byte, kept}
 use Rattle.recovery.proofs.Starts.{dot, dot_ends, marker_dot_ends, plain_blank, ends_from, mild, lead_mild, bare_mild}
@@ -28,10 +28,10 @@ pub data Line : Bytes → Type 0 where
   digits : {l : Bytes} → every digit l ≡ true → null l ≡ false → Line l
   free : {l : Bytes} → Free l → Line l
 
-text_start : (par : Bool) (r : Bytes) → start r ≡ textStart → underline r ≡ false → is_text_start (start_in par r) ≡ true
+text_start_lem : (par : Bool) (r : Bytes) → start r ≡ text_start → underline r ≡ false → is_text_start (start_in par r) ≡ true
 unfolding start_in underline_or interrupting is_text_start
-text_start true r h u = rw (u, h)
-text_start false r h u = rw h
+text_start_lem true r h u = rw (u, h)
+text_start_lem false r h u = rw h
 
 pub free_app : (l r : Bytes) → Free l → Free (l ++ r)
 free_app l r f = record { first = more l f.first; begins = λ par z. rw (append_assoc l r z) (f.begins par (r ++ z)) }
@@ -66,7 +66,7 @@ start_behind [] c r h n k = unfold null in absurd (true≢false n)
 start_behind (b ∷ ds) c r h n k =
     rw (lead_digit b (and_l (digit b) _ h), take_front ds c r (and_r (digit b) _ h) k, drop_front ds c r (and_r (digit b) _ h) k)
 
-start_digits : (ds : Bytes) → every digit ds ≡ true → null ds ≡ false → start ds ≡ textStart
+start_digits : (ds : Bytes) → every digit ds ≡ true → null ds ≡ false → start ds ≡ text_start
 unfolding start start_by every number
 start_digits [] h n = refl
 start_digits (b ∷ ds) h n =
@@ -85,7 +85,7 @@ free_behind ds c r h n k f =
       first = digits_solid ds (c ∷ r) h (some_length ds n);
       begins = λ par z.
           rw (append_assoc ds (c ∷ r) z)
-          (text_start par (ds ++ (c ∷ (r ++ z))) (start_behind ds c (r ++ z) h n k ∙ rw (f z) (unfold number_by in refl))
+          (text_start_lem par (ds ++ (c ∷ (r ++ z))) (start_behind ds c (r ++ z) h n k ∙ rw (f z) (unfold number_by in refl))
           (digits_underline ds (c ∷ (r ++ z)) h (some_length ds n)));
     }
 
@@ -95,9 +95,9 @@ free_other ds c r h n k d = free_behind ds c r h n k (λ z. rw d)
 -- ---- what a line begins
 
 pub line_start_lem : {l : Bytes} → Line l → (par : Bool) → is_text_start (start_in par l) ≡ true
-line_start_lem bare par = text_start par [] (unfold start in refl) (unfold underline in refl)
+line_start_lem bare par = text_start_lem par [] (unfold start in refl) (unfold underline in refl)
 line_start_lem (digits {l} h n) par =
-    text_start par l (start_digits l h n) (rw append-nil at (digits_underline l [] h (some_length l n)))
+    text_start_lem par l (start_digits l h n) (rw append-nil at (digits_underline l [] h (some_length l n)))
 line_start_lem (free {l} f) par = rw append-nil at (f.begins par [])
 
 -- its first byte is no blank
@@ -197,7 +197,7 @@ free_slash : (r : Bytes) → Free (92 ∷ r)
 free_slash r =
     record {
       first = unfold solid space_or_tab in refl;
-      begins = λ par z. text_start par (92 ∷ (r ++ z)) (unfold start start_by lead digit in refl) (unfold underline in refl);
+      begins = λ par z. text_start_lem par (92 ∷ (r ++ z)) (unfold start start_by lead digit in refl) (unfold underline in refl);
     }
 
 unescaped_equals : (m u : Bool) (b : ℕ) (w : Bytes) → is_escaped true m u b w ≡ false → eqb b 61 ≡ true → u ≡ false
@@ -226,7 +226,7 @@ free_mild m u b w h d k e q =
     record {
       first = unfold solid in ap not (plain_blank b (unfold mild in and_l (plain_byte b) _ h));
       begins = λ par z.
-          text_start par (b ∷ (escaped_from false m u w ++ z)) (unfold start start_by in rw (lead_mild b h, d)) (mild_underline m u b w z h k e q);
+          text_start_lem par (b ∷ (escaped_from false m u w ++ z)) (unfold start start_by in rw (lead_mild b h, d)) (mild_underline m u b w z h k e q);
     }
 
 line_first : (m u : Bool) (b : ℕ) (w : Bytes) → every plain_byte (b ∷ w) ≡ true → (digit b ≡ true → dot_ends w ≡ m) → every (λ c. eqb c 61) (b ∷ w) ≡ u

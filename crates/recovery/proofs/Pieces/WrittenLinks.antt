@@ -42,7 +42,7 @@ link_written attrs href link x append t n a =
     rw (n, a, end_written attrs href (((escape_trailing_bang t).text ++ ascii "[") ++ x)) (simp append_assoc)
 
 -- the text `was` with a link behind it that has the text x, the destination of href and the title t; `before` stands before the link.
--- No image begins with its bracket, but where `was` ends with a `!` that is escaped already, as no text of nodes does (`settled-text`)
+-- No image begins with its bracket, but where `was` ends with a `!` that is escaped already, as no text of nodes does (`settled_text`)
 pub record ReadLink (text was before x href : Bytes) (t : Option Bytes) : Type 0 where
   pub written : text ≡ before ++ link_bytes x href t
   pub no_image : open_bang was ≡ true → opens_image false before ≡ false

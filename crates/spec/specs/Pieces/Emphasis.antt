@@ -3,7 +3,7 @@
 use Rattle.std.specs.Prelude.{ℕ, ◌≡◌, Bool, true, false, cond, not, ◌&&◌, [], ◌∷◌, ◌++◌, eqb, leb}
 use Rattle.spec.specs.Bytes.{Bytes, null}
 use Rattle.spec.specs.Reading.Lines.{drop_run}
-use Rattle.spec.specs.Reading.Inline.{escaped, slashed, Beside, besideWhite, is_unknown, beside, may_open}
+use Rattle.spec.specs.Reading.Inline.{escaped, slashed, Beside, beside_white, is_unknown, beside, may_open}
 
 -- The class of the character that a text begins with, and of the one that it ends with. 2.1: "A Unicode whitespace character is
 -- any code point in the Unicode Zs general category, or a tab (U+0009), line feed (U+000A), form feed (U+000C), or carriage return
@@ -12,8 +12,8 @@ use Rattle.spec.specs.Reading.Inline.{escaped, slashed, Beside, besideWhite, is_
 pub record Classes : Type 0 where
   pub first : Bytes → Beside
   pub last : Bytes → Beside
-  pub first_none : first [] ≡ besideWhite
-  pub last_none : last [] ≡ besideWhite
+  pub first_none : first [] ≡ beside_white
+  pub last_none : last [] ≡ beside_white
   pub first_ascii : (b : ℕ) (s : Bytes) → leb b 127 ≡ true → first (b ∷ s) ≡ beside b
   pub last_ascii : (s : Bytes) (b : ℕ) → leb b 127 ≡ true → last (s ++ (b ∷ [])) ≡ beside b
   pub first_known : (s : Bytes) → is_unknown (first s) ≡ false

@@ -3,7 +3,7 @@ use Rattle.std.specs.Prelude.{ℕ, Bool, cond, ◌&&◌, List, [], ◌∷◌, �
 use Rattle.std.proofs.Math.Option.{Option, none, some}
 use Rattle.spec.specs.Bytes.{Bytes, one, trim_end_matches}
 use Rattle.spec.specs.Reading.Lines.{space_or_tab, ends_line, column, strip, unindent}
-use Rattle.spec.specs.Reading.Starts.{Start, textStart, ruleStart, quoteStart, underlineStart, heading_start, html_start, fence_start, item_start, closing_fence, start}
+use Rattle.spec.specs.Reading.Starts.{Start, text_start, rule_start, quote_start, underline_start, heading_start, html_start, fence_start, item_start, closing_fence, start}
 
 -- a fenced code block at the beginning of some lines
 pub record Fenced : Type 0 where
@@ -31,10 +31,10 @@ content_of c n i (l ∷ ls) =
     cond (closes c n l) ([], ls) (unindent i 0 l ++ (10 ∷ p.0), p.1)
 
 unfoldable pub fenced_by : Start → ℕ → List Bytes → Option Fenced
-fenced_by textStart i ls = none
-fenced_by ruleStart i ls = none
-fenced_by quoteStart i ls = none
-fenced_by underlineStart i ls = none
+fenced_by text_start i ls = none
+fenced_by rule_start i ls = none
+fenced_by quote_start i ls = none
+fenced_by underline_start i ls = none
 fenced_by (heading_start n r) i ls = none
 fenced_by (html_start k) i ls = none
 fenced_by (fence_start c n r) i ls =

@@ -5,10 +5,10 @@ use Rattle.spec.specs.Bytes.{Bytes, ends_with, one, trim_end_matches}
 use Rattle.spec.specs.Reading.Lines.{space_or_tab, blank_line, column, strip}
 use Rattle.spec.specs.Reading.Starts.{
   Start,
-  textStart,
-  ruleStart,
-  quoteStart,
-  underlineStart,
+  text_start,
+  rule_start,
+  quote_start,
+  underline_start,
   heading_start,
   html_start,
   fence_start,
@@ -19,10 +19,10 @@ use Rattle.spec.specs.Reading.Starts.{
 
 -- a line that begins no block but, perhaps, a paragraph
 unfoldable pub is_text_start : Start → Bool
-is_text_start textStart = true
-is_text_start ruleStart = false
-is_text_start quoteStart = false
-is_text_start underlineStart = false
+is_text_start text_start = true
+is_text_start rule_start = false
+is_text_start quote_start = false
+is_text_start underline_start = false
 is_text_start (heading_start n r) = false
 is_text_start (html_start k) = false
 is_text_start (fence_start c n r) = false

@@ -56,43 +56,43 @@ code_span p r = not (eqb p 96) && backticks (suc (run 96 r)) 0 (drop_run 96 r)
 
 -- what stands beside a delimiter run. Wider: a byte outside ASCII may belong to white space, to punctuation or to anything else
 pub data Beside : Type 0 where
-  besideWhite besidePunctuation besideText besideUnknown : Beside
+  beside_white beside_punctuation beside_text beside_unknown : Beside
 
 unfoldable pub beside : ℕ → Beside
-beside b = cond (white b) besideWhite (cond (punctuation b) besidePunctuation (cond (leb 128 b) besideUnknown besideText))
+beside b = cond (white b) beside_white (cond (punctuation b) beside_punctuation (cond (leb 128 b) beside_unknown beside_text))
 
 -- 6.2: "For purposes of this definition, the beginning and the end of the line count as Unicode whitespace."
 unfoldable pub ahead : Bytes → Beside
-ahead [] = besideWhite
+ahead [] = beside_white
 ahead (b ∷ r) = beside b
 
 unfoldable pub is_text : Beside → Bool
-is_text besideWhite = false
-is_text besidePunctuation = false
-is_text besideText = true
-is_text besideUnknown = false
+is_text beside_white = false
+is_text beside_punctuation = false
+is_text beside_text = true
+is_text beside_unknown = false
 
 unfoldable pub is_punctuation : Beside → Bool
-is_punctuation besideWhite = false
-is_punctuation besidePunctuation = true
-is_punctuation besideText = false
-is_punctuation besideUnknown = false
+is_punctuation beside_white = false
+is_punctuation beside_punctuation = true
+is_punctuation beside_text = false
+is_punctuation beside_unknown = false
 
 unfoldable pub is_unknown : Beside → Bool
-is_unknown besideWhite = false
-is_unknown besidePunctuation = false
-is_unknown besideText = false
-is_unknown besideUnknown = true
+is_unknown beside_white = false
+is_unknown beside_punctuation = false
+is_unknown beside_text = false
+is_unknown beside_unknown = true
 
 -- 6.2: "A left-flanking delimiter run is a delimiter run that is (1) not followed by Unicode whitespace, and either (2a) not
 -- followed by a Unicode punctuation character, or (2b) followed by a Unicode punctuation character and preceded by Unicode
 -- whitespace or a Unicode punctuation character." With p before and n behind, the run may be so; a right-flanking run is the
 -- same with p and n exchanged
 unfoldable pub left_flanking : Beside → Beside → Bool
-left_flanking p besideWhite = false
-left_flanking p besidePunctuation = not (is_text p)
-left_flanking p besideText = true
-left_flanking p besideUnknown = true
+left_flanking p beside_white = false
+left_flanking p beside_punctuation = not (is_text p)
+left_flanking p beside_text = true
+left_flanking p beside_unknown = true
 
 -- 6.2: "A single * character can open emphasis iff (if and only if) it is part of a left-flanking delimiter run." "A single _ character can open
 -- emphasis iff it is part of a left-flanking delimiter run and either (a) not part of a right-flanking delimiter run or (b) part
@@ -168,25 +168,25 @@ reference (b ∷ r) = cond (eqb b 35) (numeric r) (letter b && then_semicolon le
 -- ---- what a byte may begin
 
 pub data Mark : Type 0 where
-  backtickMark delimiterMark bracketMark angleMark ampersandMark backslashMark spaceMark noMark : Mark
+  backtick_mark delimiter_mark bracket_mark angle_mark ampersand_mark backslash_mark space_mark no_mark : Mark
 
 unfoldable pub mark : ℕ → Mark
 mark b =
-    cond (eqb b 96) backtickMark (cond (isin b (ascii "*_")) delimiterMark (cond (eqb b 91) bracketMark
-    (cond (eqb b 60) angleMark (cond (eqb b 38) ampersandMark (cond (eqb b 92) backslashMark
-    (cond (eqb b 32) spaceMark noMark))))))
+    cond (eqb b 96) backtick_mark (cond (isin b (ascii "*_")) delimiter_mark (cond (eqb b 91) bracket_mark
+    (cond (eqb b 60) angle_mark (cond (eqb b 38) ampersand_mark (cond (eqb b 92) backslash_mark
+    (cond (eqb b 32) space_mark no_mark))))))
 
 -- 6.7: "A line ending (not in a code span or HTML tag) that is preceded by two or more spaces and does not occur at the end of a
 -- block is parsed as a hard line break". "a backslash before the line ending may be used instead of two or more spaces"
 unfoldable pub begins_by : Mark → ℕ → ℕ → Bytes → Bool
-begins_by backtickMark p b r = code_span p r
-begins_by delimiterMark p b r = emphasis b p r
-begins_by bracketMark p b r = link r
-begins_by angleMark p b r = angle r
-begins_by ampersandMark p b r = reference r
-begins_by backslashMark p b r = head_is 10 r
-begins_by spaceMark p b r = starts_with (32 ∷ 10 ∷ []) r
-begins_by noMark p b r = false
+begins_by backtick_mark p b r = code_span p r
+begins_by delimiter_mark p b r = emphasis b p r
+begins_by bracket_mark p b r = link r
+begins_by angle_mark p b r = angle r
+begins_by ampersand_mark p b r = reference r
+begins_by backslash_mark p b r = head_is 10 r
+begins_by space_mark p b r = starts_with (32 ∷ 10 ∷ []) r
+begins_by no_mark p b r = false
 
 -- behind the byte p, b and the bytes r may begin something other than text
 unfoldable pub begins : ℕ → ℕ → Bytes → Bool

@@ -8,7 +8,7 @@ use Rattle.spec.specs.Reading.Html.{html_kind}
 -- a heading has its level and raw content; an HTML block its kind; a fence its byte, its length and its info string; an item its
 -- number, or none, its marker's width and what stands behind the marker
 pub data Start : Type 0 where
-  textStart ruleStart quoteStart underlineStart : Start
+  text_start rule_start quote_start underline_start : Start
   heading_start : ℕ → Bytes → Start
   html_start : ℕ → Start
   fence_start : ℕ → ℕ → Bytes → Start
@@ -42,7 +42,7 @@ ends (b ∷ r) = space_or_tab b
 -- must be followed by spaces or tabs, or by the end of line."
 unfoldable pub atx_heading_by : Bool → ℕ → Bytes → Start
 atx_heading_by true n r = heading_start n (without_closing r)
-atx_heading_by false n r = textStart
+atx_heading_by false n r = text_start
 
 unfoldable pub atx_heading : ℕ → Bytes → Start
 atx_heading n r = atx_heading_by (leb n 6 && ends r) n r
@@ -59,7 +59,7 @@ underline (b ∷ r) = (eqb b 61 && blank_line (drop_run 61 r)) || (eqb b 45 && b
 -- after a backtick fence, it may not contain any backtick characters."
 unfoldable pub fence_by : Bool → ℕ → ℕ → Bytes → Start
 fence_by true c n r = fence_start c n r
-fence_by false c n r = textStart
+fence_by false c n r = text_start
 
 unfoldable pub fence : ℕ → ℕ → Bytes → Start
 fence c n r = fence_by (leb 3 n && not (eqb c 96 && isin 96 r)) c n r
@@ -75,56 +75,56 @@ closing_fence c n r = leb n (run c r) && blank_line (drop_run c r)
 -- starts with a blank line
 unfoldable pub bullet_by : Bool → Bytes → Start
 bullet_by true r = item_start none 1 r
-bullet_by false r = textStart
+bullet_by false r = text_start
 
 unfoldable pub bullet : Bytes → Start
 bullet r = bullet_by (ends r) r
 
 -- 4.1: "When both a thematic break and a list item are possible interpretations of a line, the thematic break takes precedence"
 unfoldable pub rule_or : Bool → Start → Start
-rule_or true s = ruleStart
+rule_or true s = rule_start
 rule_or false s = s
 
 -- 5.2: "An ordered list marker is a sequence of 1–9 arabic digits (0-9), followed by either a . character or a ) character."
 unfoldable pub number_by : Bool → Bytes → Bytes → Start
 number_by true ds r = item_start (some (value_from 0 ds)) (suc (length ds)) r
-number_by false ds r = textStart
+number_by false ds r = text_start
 
 unfoldable pub number : Bytes → Bytes → Start
-number ds [] = textStart
+number ds [] = text_start
 number ds (b ∷ r) = number_by ((eqb b 46 || eqb b 41) && (leb (length ds) 9 && ends r)) ds r
 
 -- ---- the line
 
 unfoldable pub html : ℕ → Start
-html zero = textStart
+html zero = text_start
 html (suc k) = html_start (suc k)
 
 -- the first byte of a line
 pub data Lead : Type 0 where
-  hashLead quoteLead angleLead fenceLead ruleLead starLead plusLead digitLead otherLead : Lead
+  hash_lead quote_lead angle_lead fence_lead rule_lead star_lead plus_lead digit_lead other_lead : Lead
 
 unfoldable pub lead : ℕ → Lead
 lead b =
-    cond (eqb b 35) hashLead (cond (eqb b 62) quoteLead (cond (eqb b 60) angleLead (cond (eqb b 96 || eqb b 126) fenceLead
-    (cond (eqb b 95) ruleLead (cond (eqb b 45 || eqb b 42) starLead (cond (eqb b 43) plusLead
-    (cond (digit b) digitLead otherLead)))))))
+    cond (eqb b 35) hash_lead (cond (eqb b 62) quote_lead (cond (eqb b 60) angle_lead (cond (eqb b 96 || eqb b 126) fence_lead
+    (cond (eqb b 95) rule_lead (cond (eqb b 45 || eqb b 42) star_lead (cond (eqb b 43) plus_lead
+    (cond (digit b) digit_lead other_lead)))))))
 
 -- 5.1: "A block quote marker, optionally preceded by up to three spaces of indentation, consists of (a) the character > together
 -- with a following space of indentation, or (b) a single character > not followed by a space of indentation."
 unfoldable pub start_by : Lead → ℕ → Bytes → Start
-start_by hashLead b r = atx_heading (suc (run 35 r)) (drop_run 35 r)
-start_by quoteLead b r = quoteStart
-start_by angleLead b r = html (html_kind r)
-start_by fenceLead b r = fence b (suc (run b r)) (drop_run b r)
-start_by ruleLead b r = rule_or (thematic_break b 1 r) textStart
-start_by starLead b r = rule_or (thematic_break b 1 r) (bullet r)
-start_by plusLead b r = bullet r
-start_by digitLead b r = number (b ∷ take_while digit r) (drop_while digit r)
-start_by otherLead b r = textStart
+start_by hash_lead b r = atx_heading (suc (run 35 r)) (drop_run 35 r)
+start_by quote_lead b r = quote_start
+start_by angle_lead b r = html (html_kind r)
+start_by fence_lead b r = fence b (suc (run b r)) (drop_run b r)
+start_by rule_lead b r = rule_or (thematic_break b 1 r) text_start
+start_by star_lead b r = rule_or (thematic_break b 1 r) (bullet r)
+start_by plus_lead b r = bullet r
+start_by digit_lead b r = number (b ∷ take_while digit r) (drop_while digit r)
+start_by other_lead b r = text_start
 
 unfoldable pub start : Bytes → Start
-start [] = textStart
+start [] = text_start
 start (b ∷ r) = start_by (lead b) b r
 
 -- ---- what may stand where a paragraph is open
@@ -138,21 +138,21 @@ starts_at_one (some n) = eqb n 1
 
 unfoldable pub start_if : Bool → Start → Start
 start_if true s = s
-start_if false s = textStart
+start_if false s = text_start
 
 -- 4.6: "All types of HTML blocks except type 7 may interrupt a paragraph."
 unfoldable pub interrupting : Start → Start
-interrupting textStart = textStart
-interrupting ruleStart = ruleStart
-interrupting quoteStart = quoteStart
-interrupting underlineStart = underlineStart
+interrupting text_start = text_start
+interrupting rule_start = rule_start
+interrupting quote_start = quote_start
+interrupting underline_start = underline_start
 interrupting (heading_start n r) = heading_start n r
 interrupting (html_start k) = start_if (not (eqb k 7)) (html_start k)
 interrupting (fence_start c n r) = fence_start c n r
 interrupting (item_start n w r) = start_if (not (blank_line r) && starts_at_one n) (item_start n w r)
 
 unfoldable pub underline_or : Bool → Start → Start
-underline_or true s = underlineStart
+underline_or true s = underline_start
 underline_or false s = interrupting s
 
 -- 4.3: "The setext heading underline cannot be a lazy continuation line in a list item or block quote". 4.1: "If a line of dashes

@@ -8,10 +8,10 @@ use Rattle.spec.specs.Reading.Inline.{inline}
 use Rattle.spec.specs.Reading.Html.{ends_html}
 use Rattle.spec.specs.Reading.Starts.{
   Start,
-  textStart,
-  ruleStart,
-  quoteStart,
-  underlineStart,
+  text_start,
+  rule_start,
+  quote_start,
+  underline_start,
   heading_start,
   html_start,
   fence_start,
@@ -155,10 +155,10 @@ item_line false go n m r ks o lf =
     (text_leaf (item_role (suc (length ks)) n) [])
 
 unfoldable pub line_by : Line → Start → Line
-line_by go textStart w ks i r o op lf = text_line w ks i r o op lf
-line_by go ruleStart w ks i r o op lf = one_line rule ks o lf
-line_by go quoteStart w ks i r o op lf = quoted (w && is_quote lf) ks o op lf
-line_by go underlineStart w ks i r o op lf = underlined ks o lf
+line_by go text_start w ks i r o op lf = text_line w ks i r o op lf
+line_by go rule_start w ks i r o op lf = one_line rule ks o lf
+line_by go quote_start w ks i r o op lf = quoted (w && is_quote lf) ks o op lf
+line_by go underline_start w ks i r o op lf = underlined ks o lf
 line_by go (heading_start n t) w ks i r o op lf = one_line (heading n (inline t)) ks o lf
 line_by go (html_start k) w ks i r o op lf = html_line (ends_html k r) k ks o lf
 line_by go (fence_start c n t) w ks i r o op lf =

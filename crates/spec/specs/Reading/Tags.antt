@@ -14,8 +14,8 @@ tag_white b = isin b (9 ∷ 10 ∷ 11 ∷ 12 ∷ 32 ∷ [])
 -- where in a tag a byte stands: in the name; behind white; in an attribute's name; behind white that follows it; behind the =; in
 -- a value without quotes, in one with ' or with "; behind such a one; behind the /; in a closing tag's name; behind white there
 pub data Part : Type 0 where
-  namePart gapPart attributePart attributeGapPart equalsPart barePart singlePart doublePart quotedPart slashPart : Part
-  closingPart closingGapPart : Part
+  name_part gap_part attribute_part attribute_gap_part equals_part bare_part single_part double_part quoted_part slash_part : Part
+  closing_part closing_gap_part : Part
 
 pub data Next : Type 0 where
   go_on : Part → Next
@@ -25,11 +25,11 @@ pub data Next : Type 0 where
 -- 6.6: "An open tag consists of a < character, a tag name, zero or more attributes, optional spaces, tabs, and up to one line
 -- ending, an optional / character, and a > character."
 unfoldable pub tag_end : ℕ → Next
-tag_end b = cond (tag_white b) (go_on gapPart) (cond (eqb b 47) (go_on slashPart) (cond (eqb b 62) done stuck))
+tag_end b = cond (tag_white b) (go_on gap_part) (cond (eqb b 47) (go_on slash_part) (cond (eqb b 62) done stuck))
 
 -- 6.6: "A closing tag consists of the string </, a tag name, optional spaces, tabs, and up to one line ending, and the character >."
 unfoldable pub closing_end : ℕ → Next
-closing_end b = cond (tag_white b) (go_on closingGapPart) (cond (eqb b 62) done stuck)
+closing_end b = cond (tag_white b) (go_on closing_gap_part) (cond (eqb b 62) done stuck)
 
 -- 6.6: "A tag name consists of an ASCII letter followed by zero or more ASCII letters, digits, or hyphens (-)."
 unfoldable pub name_byte : ℕ → Bool
@@ -46,23 +46,23 @@ attribute_byte b = letter_or_digit b || isin b (ascii "_.:-")
 -- spaces, tabs, and up to one line ending, and an attribute value." "An unquoted attribute value is a nonempty string of
 -- characters not including spaces, tabs, line endings, ", ', =, <, >, or `."
 unfoldable pub next_part : Part → ℕ → Next
-next_part namePart b = cond (name_byte b) (go_on namePart) (tag_end b)
-next_part gapPart b = cond (attribute_begin b) (go_on attributePart) (tag_end b)
-next_part attributePart b =
-    cond (attribute_byte b) (go_on attributePart) (cond (tag_white b) (go_on attributeGapPart) (cond (eqb b 61) (go_on equalsPart) (tag_end b)))
-next_part attributeGapPart b =
-    cond (tag_white b) (go_on attributeGapPart) (cond (eqb b 61) (go_on equalsPart)
-    (cond (attribute_begin b) (go_on attributePart) (tag_end b)))
-next_part equalsPart b =
-    cond (tag_white b) (go_on equalsPart) (cond (eqb b 39) (go_on singlePart) (cond (eqb b 34) (go_on doublePart)
-    (cond (isin b (ascii "=<>`")) stuck (go_on barePart))))
-next_part barePart b = cond (tag_white b || eqb b 62) (tag_end b) (cond (isin b (ascii "\"'=<`")) stuck (go_on barePart))
-next_part singlePart b = cond (eqb b 39) (go_on quotedPart) (go_on singlePart)
-next_part doublePart b = cond (eqb b 34) (go_on quotedPart) (go_on doublePart)
-next_part quotedPart b = tag_end b
-next_part slashPart b = cond (eqb b 62) done stuck
-next_part closingPart b = cond (name_byte b) (go_on closingPart) (closing_end b)
-next_part closingGapPart b = closing_end b
+next_part name_part b = cond (name_byte b) (go_on name_part) (tag_end b)
+next_part gap_part b = cond (attribute_begin b) (go_on attribute_part) (tag_end b)
+next_part attribute_part b =
+    cond (attribute_byte b) (go_on attribute_part) (cond (tag_white b) (go_on attribute_gap_part) (cond (eqb b 61) (go_on equals_part) (tag_end b)))
+next_part attribute_gap_part b =
+    cond (tag_white b) (go_on attribute_gap_part) (cond (eqb b 61) (go_on equals_part)
+    (cond (attribute_begin b) (go_on attribute_part) (tag_end b)))
+next_part equals_part b =
+    cond (tag_white b) (go_on equals_part) (cond (eqb b 39) (go_on single_part) (cond (eqb b 34) (go_on double_part)
+    (cond (isin b (ascii "=<>`")) stuck (go_on bare_part))))
+next_part bare_part b = cond (tag_white b || eqb b 62) (tag_end b) (cond (isin b (ascii "\"'=<`")) stuck (go_on bare_part))
+next_part single_part b = cond (eqb b 39) (go_on quoted_part) (go_on single_part)
+next_part double_part b = cond (eqb b 34) (go_on quoted_part) (go_on double_part)
+next_part quoted_part b = tag_end b
+next_part slash_part b = cond (eqb b 62) done stuck
+next_part closing_part b = cond (name_byte b) (go_on closing_part) (closing_end b)
+next_part closing_gap_part b = closing_end b
 
 -- what stands behind the tag, if it is one
 unfoldable pub behind_part : Part → Bytes → Option Bytes
@@ -76,7 +76,7 @@ named s (b ∷ r) = elim (letter b) [ true ↦ behind_part s r | false ↦ none 
 -- the bytes behind a <
 unfoldable pub behind_tag : Bytes → Option Bytes
 behind_tag [] = none
-behind_tag (b ∷ r) = elim (eqb b 47) [ true ↦ named closingPart r | false ↦ named namePart (b ∷ r) ]
+behind_tag (b ∷ r) = elim (eqb b 47) [ true ↦ named closing_part r | false ↦ named name_part (b ∷ r) ]
 
 unfoldable pub is_some : Option Bytes → Bool
 is_some none = false
