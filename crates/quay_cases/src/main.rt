@@ -6,7 +6,7 @@
 
 mod build;
 
-ghost use Rattle.std.specs.Prelude.{◌<◌};
+ghost use Rattle.std.specs.Prelude.{◌<◌, ◌^◌};
 
 use build::{field, fields, holding, two_cells};
 use md::call::{Answer, serialize_md};
@@ -261,8 +261,8 @@ fn show_all(
 
 // The memories: S bytes for a sheet, and N for nodes.
 fn show_in<const S: usize, const N: usize>(rt: &impl Print) -> io::Result<()>
-    requires sheet_size { S < 9223372036854775808 }
-    requires node_size { N < 9223372036854775808 }
+    requires sheet_size { S < 2 ^ 63 }
+    requires node_size { N < 2 ^ 63 }
 {
     let mut sheet = [0u8; S];
     let mut nodes = [0u8; N];

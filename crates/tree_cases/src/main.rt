@@ -5,7 +5,7 @@
 mod dump;
 mod list;
 
-ghost use Rattle.std.specs.Prelude.{◌≤◌, ◌<◌, length, IfOk};
+ghost use Rattle.std.specs.Prelude.{◌≤◌, ◌<◌, ◌^◌, length, IfOk};
 
 use crate::dump::{print_nodes, put};
 use crate::list::{build_sheet, read_head};
@@ -86,8 +86,8 @@ fn run_all(rt: &impl Print, input: &[u8], sheet: &mut [u8], nodes: &mut [u8]) ->
 
 // The memories: S bytes for a sheet, and N for nodes.
 fn run_in<const S: usize, const N: usize>(rt: &impl Print, input: &[u8]) -> io::Result<()>
-    requires sheet_size { S < 9223372036854775808 }
-    requires node_size { N < 9223372036854775808 }
+    requires sheet_size { S < 2 ^ 63 }
+    requires node_size { N < 2 ^ 63 }
 {
     let mut sheet = [0u8; S];
     let mut nodes = [0u8; N];
