@@ -206,10 +206,8 @@ fn inline_code(
     ensures { (levels : ℕ) (name : Bytes) (attrs : List Attr) (kids : Forest) → ElementAt sheet.now nodes.now i name attrs kids → Writes (length text.old) text.new result (def.inline_code (serializer (tags_to_skip (skip_list own run.now)) levels) opts name attrs kids (take len text.old)) }
 {
     let inner = code_opts(opts);
-    match write_skip_md(sheet, own, run, nodes, &mut text[len..], 0, i, inner) {
-        Wrote::Done(n) => push_trimmed_code(sheet, nodes, text, len, n, i),
-        Wrote::Full => Wrote::Full,
-    }
+    let n = write_skip_md(sheet, own, run, nodes, &mut text[len..], 0, i, inner)?;
+push_trimmed_code(sheet, nodes, text, len, n, i)
 }
 
 pub fn write_code(

@@ -26,7 +26,7 @@ pub fn end_list(text: &mut [u8], len: usize, opts: FormatOpts) -> Wrote
     ensures { Writes (length text.old) text.new result (ended_list opts (take len text.old)) }
 {
     if opts.table_cell {
-        return Wrote::Done(len);
+        return Ok(len);
     }
     add_linebreaks(text, len, b"\n", b"\n\n")
 }
@@ -85,7 +85,7 @@ pub fn due_line(text: &mut [u8], len: usize, line: bool, item: Item) -> Wrote
     ensures { Writes (length text.old) text.new result (line_if line item.ctx (take len text.old)) }
 {
     if !line {
-        return Wrote::Done(len);
+        return Ok(len);
     }
     push_linebreak(text, len, item.ctx.opts.table_cell)
 }
@@ -96,7 +96,7 @@ pub fn push_heading_prefix(text: &mut [u8], len: usize, name: usize) -> Wrote
     ensures { Writes (length text.old) text.new result (push (flow_prefix name) (take len text.old)) }
 {
     if !is_heading(name) {
-        return Wrote::Done(len);
+        return Ok(len);
     }
     push_md_prefix(text, len, name)
 }

@@ -17,10 +17,8 @@ fn push_bracket(text: &mut [u8], len: usize) -> Wrote
     requires { len ≤ length text.old }
     ensures { Writes (length text.old) text.new result (bracket (take len text.old)) }
 {
-    match escape_trailing_bang(text, len) {
-        Wrote::Done(n) => push_byte(text, n, 91),
-        Wrote::Full => Wrote::Full,
-    }
+    let n = escape_trailing_bang(text, len)?;
+push_byte(text, n, 91)
 }
 
 // The words of what stands from base on, escaped.
@@ -48,10 +46,8 @@ fn push_link_text(text: &mut [u8], base: usize, len: usize, plain: bool, opts: F
     requires { (len ≤ base) × (base ≤ length text.old) }
     ensures { Writes (length text.old) text.new result (link_front (drop base text.old) (append_by plain opts) (take len text.old)) }
 {
-    match push_bracket(&mut text[..base], len) {
-        Wrote::Done(n) => push_by(text, base, n, plain, opts),
-        Wrote::Full => Wrote::Full,
-    }
+    let n = push_bracket(&mut text[..base], len)?;
+push_by(text, base, n, plain, opts)
 }
 
 // The link whose text stands from base on.
@@ -69,10 +65,8 @@ fn push_shown(
     requires { ((len ≤ base) × (base ≤ length text.old)) × ((place + 3 ≤ length sheet.now) × (from ≤ to) × (to ≤ length sheet.now) × (length sheet.now ≤ 1048576)) }
     ensures { Writes (length text.old) text.new result (link_shown (attrs_behind sheet.now place) (take (to - from) (drop from sheet.now)) (drop base text.old) (append_by plain opts) (take len text.old)) }
 {
-    match push_link_text(text, base, len, plain, opts) {
-        Wrote::Done(m) => push_link_end(text, m, sheet, place, from, to),
-        Wrote::Full => Wrote::Full,
-    }
+    let m = push_link_text(text, base, len, plain, opts)?;
+push_link_end(text, m, sheet, place, from, to)
 }
 
 // The link, from its text, the n bytes behind the text; the destination stands from `from` to `to` in the sheet.
@@ -92,7 +86,7 @@ pub fn push_link(
     ensures { Writes (length text.old) text.new result (link_step (attrs_behind sheet.now place) (take (to - from) (drop from sheet.now)) (take n (drop len text.old)) (append_by plain opts) (take len text.old)) }
 {
     if n == 0 {
-        return Wrote::Done(len);
+        return Ok(len);
     }
     let base = text.len() - n;
     lift(text, len, n, base);

@@ -16,7 +16,7 @@ use marks::code::{push_code_text, push_fenced_block};
 use nodes::nodes::push_text_of;
 use normalized::text_utils::push_block_space;
 use spec::ctx::FormatOpts;
-use text::buffer::{Class, Wrote, is_in, push_byte, push_byte_if};
+use text::buffer::{Class, Full, Wrote, is_in, push_byte, push_byte_if};
 use tree::attributes::Value;
 use tree::nodes::{node_end, node_place, text_at};
 
@@ -33,12 +33,10 @@ fn push_word_byte(text: &mut [u8], len: usize, b: u8, lead: bool) -> Wrote
     ensures { Writes (length text.old) text.new result (push (word_byte lead b) (take len text.old)) }
 {
     if is_in(Class::White, b) {
-        return Wrote::Done(len);
+        return Ok(len);
     }
-    match push_byte_if(text, len, 32, lead) {
-        Wrote::Done(n) => push_byte(text, n, b),
-        Wrote::Full => Wrote::Full,
-    }
+    let n = push_byte_if(text, len, 32, lead)?;
+push_byte(text, n, b)
 }
 
 // Appends the words of a piece, with one blank between two.
@@ -52,10 +50,10 @@ fn join_words(text: &mut [u8], len: usize, s: &[u8], some: bool, gap: bool) -> J
     let mut i = 0;
     while i < s.len() {
         match push_word_byte(text, n, s[i], any & white) {
-            Wrote::Done(m) => {
+            Ok(m) => {
                 n = m;
             }
-            Wrote::Full => {
+            Err(Full) => {
                 return Joined::Full;
             }
         }
@@ -94,12 +92,12 @@ fn push_words(
                 gap = white;
             }
             Joined::Full => {
-                return Wrote::Full;
+                return Err(Full);
             }
         }
         i += 1;
     }
-    Wrote::Done(n)
+    Ok(n)
 }
 
 // The words as a code span.
@@ -114,10 +112,8 @@ fn push_word_span(
     requires { Siblings sheet.now nodes.now from to × (len ≤ length text.old) }
     ensures { (parent : ℕ) (f : Forest) → Rep sheet.now nodes.now parent from to f → Writes (length text.old) text.new result (def.push_code_text 0 (join (ascii " ") (words (text_of f))) (take len text.old)) }
 {
-    match push_words(sheet, nodes, text, len, from, to) {
-        Wrote::Done(m) => push_code_text(text, len, len, m - len, 0),
-        Wrote::Full => Wrote::Full,
-    }
+    let m = push_words(sheet, nodes, text, len, from, to)?;
+push_code_text(text, len, len, m - len, 0)
 }
 
 // In a link's text.
@@ -132,13 +128,9 @@ fn pre_in_link(
     requires { Siblings sheet.now nodes.now from to × (len ≤ length text.old) }
     ensures { (parent : ℕ) (f : Forest) → Rep sheet.now nodes.now parent from to f → Writes (length text.old) text.new result (def.pre_in_link (text_of f) (take len text.old)) }
 {
-    match push_block_space(text, len) {
-        Wrote::Done(n) => match push_word_span(sheet, nodes, text, n, from, to) {
-            Wrote::Done(m) => push_block_space(text, m),
-            Wrote::Full => Wrote::Full,
-        },
-        Wrote::Full => Wrote::Full,
-    }
+    let n = push_block_space(text, len)?;
+let m = push_word_span(sheet, nodes, text, n, from, to)?;
+push_block_space(text, m)
 }
 
 // The block of the n bytes behind the text.
@@ -158,10 +150,8 @@ fn pre_block(sheet: &[u8], nodes: &[u8], text: &mut [u8], len: usize, i: usize) 
     ensures { (name : Bytes) (attrs : List Attr) (kids : Forest) (anc : Ancestors) → ElementAt sheet.now nodes.now i name attrs kids → Around sheet.now nodes.now (parent_at nodes.now i) anc → Writes (length text.old) text.new result (push (cond (ends_with (ascii "\n\n") (take len text.old)) [] (ascii "\n") ++ def.fenced_block (or_nothing (def.find_code_language anc attrs kids)) (text_of kids)) (take len text.old)) }
 {
     let to = node_end(nodes, i);
-    match push_text_of(sheet, nodes, text, len, i + 1, to) {
-        Wrote::Done(m) => push_pre(sheet, nodes, text, len, m - len, i),
-        Wrote::Full => Wrote::Full,
-    }
+    let m = push_text_of(sheet, nodes, text, len, i + 1, to)?;
+push_pre(sheet, nodes, text, len, m - len, i)
 }
 
 pub fn write_pre(

@@ -87,10 +87,10 @@ fn open_break(
         if is_link_block(name) {
             return push_block_space(text, len);
         }
-        return Wrote::Done(len);
+        return Ok(len);
     }
     if !is_md_block(name) {
-        return Wrote::Done(len);
+        return Ok(len);
     }
     if opts.table_cell {
         return add_cell_block_break(text, len, b"<br>");
@@ -105,11 +105,11 @@ fn push_opening(text: &mut [u8], len: usize, name: usize, opts: FormatOpts) -> W
     ensures { Writes (length text.old) text.new result (push (cond opts.link_body [] (md_prefix name)) (take len text.old)) }
 {
     if opts.link_body {
-        return Wrote::Done(len);
+        return Ok(len);
     }
     // most elements are neither
     if (name < 5) | (15 < name) {
-        return Wrote::Done(len);
+        return Ok(len);
     }
     push_md_prefix(text, len, name)
 }
@@ -127,13 +127,11 @@ pub fn opened(
     ensures { (name : Bytes) (attrs : List Attr) (kids : Forest) → ElementAt sheet.now nodes.now i name attrs kids → Writes (length text.old) text.new result (def.opened opts (tag_of name) attrs kids (take len text.old)) }
 {
     if opts.skip_md {
-        return Wrote::Done(len);
+        return Ok(len);
     }
     let name = node_name(sheet, nodes, i);
-    match open_break(sheet, nodes, text, len, i, name, opts) {
-        Wrote::Done(n) => push_opening(text, n, name, opts),
-        Wrote::Full => Wrote::Full,
-    }
+    let n = open_break(sheet, nodes, text, len, i, name, opts)?;
+push_opening(text, n, name, opts)
 }
 
 fn close_block(text: &mut [u8], len: usize, opts: FormatOpts) -> Wrote
@@ -178,7 +176,7 @@ fn close_by(text: &mut [u8], len: usize, name: usize, opts: FormatOpts) -> Wrote
     if (name == 20) | ((name == 16) | (name == 17)) {
         return close_line(text, len, opts);
     }
-    Wrote::Done(len)
+    Ok(len)
 }
 
 fn escape_heading(text: &mut [u8], len: usize, name: usize) -> Wrote
@@ -186,7 +184,7 @@ fn escape_heading(text: &mut [u8], len: usize, name: usize) -> Wrote
     ensures { Writes (length text.old) text.new result (escape_heading name (take len text.old)) }
 {
     if !is_heading(name) {
-        return Wrote::Done(len);
+        return Ok(len);
     }
     escape_closing_hashes(text, len)
 }
@@ -195,10 +193,8 @@ fn close_md(text: &mut [u8], len: usize, name: usize, opts: FormatOpts) -> Wrote
     requires { len ≤ length text.old }
     ensures { Writes (length text.old) text.new result (def.close_md opts name (take len text.old)) }
 {
-    match escape_heading(text, len, name) {
-        Wrote::Done(n) => close_by(text, n, name, opts),
-        Wrote::Full => Wrote::Full,
-    }
+    let n = escape_heading(text, len, name)?;
+close_by(text, n, name, opts)
 }
 
 // SerializeOp::Close.
@@ -207,7 +203,7 @@ pub fn closed(text: &mut [u8], len: usize, name: usize, opts: FormatOpts) -> Wro
     ensures { Writes (length text.old) text.new result (def.closed opts name (take len text.old)) }
 {
     if ends_with_double_linebreak(&text[..len], opts.table_cell) {
-        return Wrote::Done(len);
+        return Ok(len);
     }
     if opts.link_body & is_link_block(name) {
         return push_block_space(text, len);
@@ -246,7 +242,7 @@ fn push_scoped(text: &mut [u8], len: usize, n: usize, name: usize, opts: FormatO
     ensures { Writes (length text.old) text.new result (emphasis_step opts name (take n (drop len text.old)) (take len text.old)) }
 {
     if n == 0 {
-        return Wrote::Done(len);
+        return Ok(len);
     }
     let scope = opts.emphasis_scope;
     if scope.contains(scope_of(name)) {

@@ -17,10 +17,8 @@ fn push_decimal(text: &mut [u8], len: usize, n: u32) -> Wrote
     if n < 10 {
         return push_byte(text, len, last);
     }
-    match push_decimal(text, len, n / 10) {
-        Wrote::Done(m) => push_byte(text, m, last),
-        Wrote::Full => Wrote::Full,
-    }
+    let m = push_decimal(text, len, n / 10)?;
+push_byte(text, m, last)
 }
 
 // Appends the marker of an item of a bullet list.
@@ -40,10 +38,8 @@ fn push_ol_prefix(text: &mut [u8], len: usize, n: u32) -> Wrote
     requires { len ≤ length text.old }
     ensures { Writes (length text.old) text.new result (push (decimal n ++ ascii ". ") (take len text.old)) }
 {
-    match push_decimal(text, len, n) {
-        Wrote::Done(m) => push_all(text, m, b". "),
-        Wrote::Full => Wrote::Full,
-    }
+    let m = push_decimal(text, len, n)?;
+push_all(text, m, b". ")
 }
 
 // Appends the marker of an item.

@@ -86,7 +86,7 @@ fn push_alt(text: &mut [u8], len: usize, sheet: &[u8], place: usize) -> Wrote
     let opts = FormatOpts::new();
     match attribute(sheet, place, b"alt") {
         Value::At(from, to) => push_normalized_text(text, len, &sheet[from..to], opts),
-        Value::Missing => Wrote::Done(len),
+        Value::Missing => Ok(len),
     }
 }
 
@@ -102,13 +102,9 @@ fn push_image(
     requires { (len ≤ length text.old) × (place + 3 ≤ length sheet.now) × (from ≤ to) × (to ≤ length sheet.now) × (length sheet.now ≤ 1048576) }
     ensures { Writes (length text.old) text.new result (def.image_of (attrs_behind sheet.now place) (take (to - from) (drop from sheet.now)) (take len text.old)) }
 {
-    match push_all(text, len, b"![") {
-        Wrote::Done(n) => match push_alt(text, n, sheet, place) {
-            Wrote::Done(m) => push_link_end(text, m, sheet, place, from, to),
-            Wrote::Full => Wrote::Full,
-        },
-        Wrote::Full => Wrote::Full,
-    }
+    let n = push_all(text, len, b"![")?;
+let m = push_alt(text, n, sheet, place)?;
+push_link_end(text, m, sheet, place, from, to)
 }
 
 pub fn write_img(text: &mut [u8], len: usize, sheet: &[u8], place: usize) -> Wrote
@@ -117,6 +113,6 @@ pub fn write_img(text: &mut [u8], len: usize, sheet: &[u8], place: usize) -> Wro
 {
     match source(sheet, place) {
         Value::At(from, to) => push_image(text, len, sheet, place, from, to),
-        Value::Missing => Wrote::Done(len),
+        Value::Missing => Ok(len),
     }
 }

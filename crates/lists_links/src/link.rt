@@ -21,7 +21,7 @@ fn push_title_of(text: &mut [u8], len: usize, sheet: &[u8], place: usize) -> Wro
 {
     match attribute(sheet, place, b"title") {
         Value::At(from, to) => push_title(text, len, &sheet[from..to]),
-        Value::Missing => Wrote::Done(len),
+        Value::Missing => Ok(len),
     }
 }
 
@@ -30,10 +30,8 @@ fn push_dest(text: &mut [u8], len: usize, sheet: &[u8], from: usize, to: usize) 
     requires { (len ≤ length text.old) × (from ≤ to) × (to ≤ length sheet.now) × (length sheet.now ≤ 1048576) }
     ensures { Writes (length text.old) text.new result (and_then (push (ascii "](") (take len text.old)) (push_md_url (take (to - from) (drop from sheet.now)))) }
 {
-    match push_all(text, len, b"](") {
-        Wrote::Done(n) => push_md_url(text, n, &sheet[from..to]),
-        Wrote::Full => Wrote::Full,
-    }
+    let n = push_all(text, len, b"](")?;
+push_md_url(text, n, &sheet[from..to])
 }
 
 // Appends what follows the text of a link or an image.
@@ -48,11 +46,7 @@ pub fn push_link_end(
     requires { (len ≤ length text.old) × (place + 3 ≤ length sheet.now) × (from ≤ to) × (to ≤ length sheet.now) × (length sheet.now ≤ 1048576) }
     ensures { Writes (length text.old) text.new result (def.link_end (attrs_behind sheet.now place) (take (to - from) (drop from sheet.now)) (take len text.old)) }
 {
-    match push_dest(text, len, sheet, from, to) {
-        Wrote::Done(n) => match push_title_of(text, n, sheet, place) {
-            Wrote::Done(m) => push_byte(text, m, 41),
-            Wrote::Full => Wrote::Full,
-        },
-        Wrote::Full => Wrote::Full,
-    }
+    let n = push_dest(text, len, sheet, from, to)?;
+let m = push_title_of(text, n, sheet, place)?;
+push_byte(text, m, 41)
 }

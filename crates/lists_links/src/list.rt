@@ -45,10 +45,8 @@ pub fn begin_item(text: &mut [u8], len: usize, blocks: bool, ctx: ListContext) -
 {
     let n = trim_before_item(text, len, blocks);
     let indent = ctx.list_indent;
-    match push_repeated(text, n, 32, indent) {
-        Wrote::Done(m) => push_prefix(text, m, ctx),
-        Wrote::Full => Wrote::Full,
-    }
+    let m = push_repeated(text, n, 32, indent)?;
+push_prefix(text, m, ctx)
 }
 
 // The item that begins behind a text of `start` bytes: `next` is the context after its number.
@@ -70,10 +68,8 @@ pub fn push_line_start(text: &mut [u8], len: usize, item: Item) -> Wrote
     ensures { Writes (length text.old) text.new result (push (break_of item.ctx ++ replicate item.indent 32) (take len text.old)) }
 {
     let indent = item.indent;
-    match push_linebreak(text, len, item.ctx.opts.table_cell) {
-        Wrote::Done(n) => push_repeated(text, n, 32, indent),
-        Wrote::Full => Wrote::Full,
-    }
+    let n = push_linebreak(text, len, item.ctx.opts.table_cell)?;
+push_repeated(text, n, 32, indent)
 }
 
 // Appends a rule on a line of its own.
@@ -81,13 +77,9 @@ fn push_rule_line(text: &mut [u8], len: usize, item: Item) -> Wrote
     requires { len ≤ length text.old }
     ensures { Writes (length text.old) text.new result (push ((break_of item.ctx ++ replicate item.indent 32) ++ (ascii "---" ++ break_of item.ctx)) (take len text.old)) }
 {
-    match push_line_start(text, len, item) {
-        Wrote::Done(n) => match push_all(text, n, b"---") {
-            Wrote::Done(m) => push_linebreak(text, m, item.ctx.opts.table_cell),
-            Wrote::Full => Wrote::Full,
-        },
-        Wrote::Full => Wrote::Full,
-    }
+    let n = push_line_start(text, len, item)?;
+let m = push_all(text, n, b"---")?;
+push_linebreak(text, m, item.ctx.opts.table_cell)
 }
 
 // Appends a rule, behind a blank line where the item has content.
@@ -99,10 +91,8 @@ pub fn push_rule(text: &mut [u8], len: usize, item: Item) -> Wrote
     if n <= item.start {
         return push_rule_line(text, n, item);
     }
-    match push_linebreak(text, n, item.ctx.opts.table_cell) {
-        Wrote::Done(m) => push_rule_line(text, m, item),
-        Wrote::Full => Wrote::Full,
-    }
+    let m = push_linebreak(text, n, item.ctx.opts.table_cell)?;
+push_rule_line(text, m, item)
 }
 
 // Begins a line at the item's content, unless one begins.
@@ -130,7 +120,7 @@ pub fn push_block_lead(
 {
     let indent = item.indent;
     if is_first_block & (indented | (len <= item.start)) {
-        return Wrote::Done(len);
+        return Ok(len);
     }
     if indented {
         return push_repeated(text, len, 32, indent);
@@ -145,10 +135,10 @@ pub fn push_inline_lead(text: &mut [u8], len: usize, item: Item, is_blank_text: 
 {
     let indent = item.indent;
     if is_blank_text | (len <= item.start) {
-        return Wrote::Done(len);
+        return Ok(len);
     }
     if !ends_with_byte(&text[..len], 10) {
-        return Wrote::Done(len);
+        return Ok(len);
     }
     push_repeated(text, len, 32, indent)
 }
@@ -159,7 +149,7 @@ pub fn end_item(text: &mut [u8], len: usize, item: Item) -> Wrote
     ensures { Writes (length text.old) text.new result (ended_item (item_of item) (take len text.old)) }
 {
     if ends_with_byte(&text[..len], 10) {
-        return Wrote::Done(len);
+        return Ok(len);
     }
     push_linebreak(text, len, item.ctx.opts.table_cell)
 }

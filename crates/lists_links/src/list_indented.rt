@@ -86,7 +86,7 @@ fn own_line(text: &mut [u8], len: usize, item: Item) -> Wrote
     ensures { Writes (length text.old) text.new result (def.own_line (item_of item) (take len text.old)) }
 {
     if at_line_start(&text[..len], item) {
-        return Wrote::Done(len);
+        return Ok(len);
     }
     let n = trim_item_end(&text[..len], item.start);
     push_line_start(text, n, item)
@@ -128,16 +128,9 @@ fn push_lines(text: &mut [u8], room: usize, from: usize, to: usize, len: usize, 
         let b = text[i];
         i += 1;
         let empty = ends_line(text, i, to);
-        match push_line_byte(&mut text[..room], m, b, empty, item) {
-            Wrote::Done(k) => {
-                m = k;
-            }
-            Wrote::Full => {
-                return Wrote::Full;
-            }
-        }
+        m = push_line_byte(&mut text[..room], m, b, empty, item)?;
     }
-    Wrote::Done(m)
+    Ok(m)
 }
 
 // Appends the lines of the block that stands behind the room, without the line ends around it.
@@ -158,8 +151,6 @@ pub fn push_indented(text: &mut [u8], len: usize, n: usize, item: Item) -> Wrote
 {
     let base = text.len() - n;
     lift(text, len, n, base);
-    match own_line(&mut text[..base], len, item) {
-        Wrote::Done(m) => push_block(text, base, m, item),
-        Wrote::Full => Wrote::Full,
-    }
+    let m = own_line(&mut text[..base], len, item)?;
+push_block(text, base, m, item)
 }

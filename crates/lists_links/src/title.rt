@@ -24,17 +24,10 @@ fn push_quoted(text: &mut [u8], base: usize, n: usize, len: usize) -> Wrote
     let mut i = base;
     while i < end {
         let b = text[i];
-        match put_escaped(text, base, m, b == 34, b) {
-            Wrote::Done(k) => {
-                m = k;
-            }
-            Wrote::Full => {
-                return Wrote::Full;
-            }
-        }
+        m = put_escaped(text, base, m, b == 34, b)?;
         i += 1;
     }
-    Wrote::Done(m)
+    Ok(m)
 }
 
 fn push_quoted_title(text: &mut [u8], len: usize, title: &[u8]) -> Wrote
@@ -42,14 +35,10 @@ fn push_quoted_title(text: &mut [u8], len: usize, title: &[u8]) -> Wrote
     ensures { Writes (length text.old) text.new result (def.quoted_title title.now (take len text.old)) }
 {
     let opts = FormatOpts::new();
-    match push_normalized_text(&mut text[len..], 0, title, opts) {
-        Wrote::Done(n) => {
-            let base = text.len() - n;
+    let n = push_normalized_text(&mut text[len..], 0, title, opts)?;
+let base = text.len() - n;
             lift(text, len, n, base);
             push_quoted(text, base, n, len)
-        }
-        Wrote::Full => Wrote::Full,
-    }
 }
 
 fn push_title_text(text: &mut [u8], len: usize, title: &[u8]) -> Wrote
@@ -67,11 +56,7 @@ pub fn push_title(text: &mut [u8], len: usize, title: &[u8]) -> Wrote
     requires { len ≤ length text.old }
     ensures { Writes (length text.old) text.new result (def.push_title title.now (take len text.old)) }
 {
-    match push_all(text, len, b" \"") {
-        Wrote::Done(n) => match push_title_text(text, n, title) {
-            Wrote::Done(m) => push_byte(text, m, 34),
-            Wrote::Full => Wrote::Full,
-        },
-        Wrote::Full => Wrote::Full,
-    }
+    let n = push_all(text, len, b" \"")?;
+let m = push_title_text(text, n, title)?;
+push_byte(text, m, 34)
 }

@@ -83,7 +83,7 @@ fn push_piece(text: &mut [u8], len: usize, b: u8, wrap: bool, second: bool, nbsp
     ensures { Writes (length text.old) text.new result (push (piece_of wrap second nbsp b) (take len text.old)) }
 {
     if second {
-        return Wrote::Done(len);
+        return Ok(len);
     }
     if b == 38 {
         return push_all(text, len, b"&amp;");
@@ -140,31 +140,20 @@ fn push_dest(text: &mut [u8], len: usize, dest: &[u8], wrap: bool) -> Wrote
     while i < dest.len() {
         let j = i + 1;
         let nbsp = (dest[i] == 194) & starts_with_byte(&dest[j..], 160);
-        match push_piece(text, n, dest[i], wrap, second, nbsp) {
-            Wrote::Done(m) => {
-                n = m;
-            }
-            Wrote::Full => {
-                return Wrote::Full;
-            }
-        }
+        n = push_piece(text, n, dest[i], wrap, second, nbsp)?;
         second = !second & nbsp;
         i += 1;
     }
-    Wrote::Done(n)
+    Ok(n)
 }
 
 fn push_wrapped(text: &mut [u8], len: usize, dest: &[u8]) -> Wrote
     requires { len ≤ length text.old }
     ensures { Writes (length text.old) text.new result (push (ascii "<" ++ (def.each_byte def.wrapped_byte (def.html_escape dest.now) ++ ascii ">")) (take len text.old)) }
 {
-    match push_byte(text, len, 60) {
-        Wrote::Done(n) => match push_dest(text, n, dest, true) {
-            Wrote::Done(m) => push_byte(text, m, 62),
-            Wrote::Full => Wrote::Full,
-        },
-        Wrote::Full => Wrote::Full,
-    }
+    let n = push_byte(text, len, 60)?;
+let m = push_dest(text, n, dest, true)?;
+push_byte(text, m, 62)
 }
 
 // Whether b stands in a destination as it is, whatever is around it.

@@ -121,17 +121,10 @@ fn push_filtered(text: &mut [u8], len: usize, s: &[u8]) -> Wrote
     let mut n = len;
     let mut i = 0;
     while i < s.len() {
-        match push_kept(text, n, s[i]) {
-            Wrote::Done(m) => {
-                n = m;
-            }
-            Wrote::Full => {
-                return Wrote::Full;
-            }
-        }
+        n = push_kept(text, n, s[i])?;
         i += 1;
     }
-    Wrote::Done(n)
+    Ok(n)
 }
 
 // Appends what sanitize_attr_value makes of a value.
@@ -151,23 +144,17 @@ fn push_opening(text: &mut [u8], len: usize, fence: usize, space: bool) -> Wrote
     ensures { Writes (length text.old) text.new result (push (cond (ends_with (ascii "`") (take len text.old)) (ascii " ") [] ++ (def.backticks fence ++ cond space (ascii " ") [])) (take len text.old)) }
 {
     let apart = ends_with_byte(&text[..len], 96);
-    match push_byte_if(text, len, 32, apart) {
-        Wrote::Done(n) => match push_repeated(text, n, 96, fence) {
-            Wrote::Done(m) => push_byte_if(text, m, 32, space),
-            Wrote::Full => Wrote::Full,
-        },
-        Wrote::Full => Wrote::Full,
-    }
+    let n = push_byte_if(text, len, 32, apart)?;
+let m = push_repeated(text, n, 96, fence)?;
+push_byte_if(text, m, 32, space)
 }
 
 fn push_closing(text: &mut [u8], len: usize, fence: usize, space: bool) -> Wrote
     requires { len ≤ length text.old }
     ensures { Writes (length text.old) text.new result (push (cond space (ascii " ") [] ++ def.backticks fence) (take len text.old)) }
 {
-    match push_byte_if(text, len, 32, space) {
-        Wrote::Done(n) => push_repeated(text, n, 96, fence),
-        Wrote::Full => Wrote::Full,
-    }
+    let n = push_byte_if(text, len, 32, space)?;
+push_repeated(text, n, 96, fence)
 }
 
 // The code span of what stands from base on, of which in_being bytes count until it is appended.
@@ -177,13 +164,9 @@ fn push_code_span(text: &mut [u8], base: usize, len: usize, in_being: usize) -> 
 {
     let fence = max_backtick_run(&text[base..]) + 1;
     let space = needs_space(&text[base..]);
-    match push_opening(&mut text[..base], len, fence, space) {
-        Wrote::Done(n) => match push_lifted(text, base, n, in_being) {
-            Wrote::Done(m) => push_closing(text, m, fence, space),
-            Wrote::Full => Wrote::Full,
-        },
-        Wrote::Full => Wrote::Full,
-    }
+    let n = push_opening(&mut text[..base], len, fence, space)?;
+let m = push_lifted(text, base, n, in_being)?;
+push_closing(text, m, fence, space)
 }
 
 // The code is the n bytes at `from`, behind the text; in_being of them count until they are appended.
@@ -192,7 +175,7 @@ pub fn push_code_text(text: &mut [u8], len: usize, from: usize, n: usize, in_bei
     ensures { Writes (length text.old) text.new result (def.push_code_text in_being (take n (drop from text.old)) (take len text.old)) }
 {
     if n == 0 {
-        return Wrote::Done(len);
+        return Ok(len);
     }
     let base = text.len() - n;
     lift(text, from, n, base);
@@ -213,29 +196,19 @@ fn push_block_opening(text: &mut [u8], len: usize, fence: usize, lang: &[u8]) ->
     ensures { Writes (length text.old) text.new result (push (cond (ends_with (ascii "\n\n") (take len text.old)) [] (ascii "\n") ++ (def.backticks fence ++ (def.sanitize_attr_value lang.now ++ ascii "\n"))) (take len text.old)) }
 {
     let begun = ends_with(&text[..len], b"\n\n");
-    match push_byte_if(text, len, 10, !begun) {
-        Wrote::Done(n) => match push_repeated(text, n, 96, fence) {
-            Wrote::Done(m) => match push_sanitized(text, m, lang) {
-                Wrote::Done(k) => push_byte(text, k, 10),
-                Wrote::Full => Wrote::Full,
-            },
-            Wrote::Full => Wrote::Full,
-        },
-        Wrote::Full => Wrote::Full,
-    }
+    let n = push_byte_if(text, len, 10, !begun)?;
+let m = push_repeated(text, n, 96, fence)?;
+let k = push_sanitized(text, m, lang)?;
+push_byte(text, k, 10)
 }
 
 fn push_block_closing(text: &mut [u8], len: usize, fence: usize, ended: bool) -> Wrote
     requires { len ≤ length text.old }
     ensures { Writes (length text.old) text.new result (push (cond ended [] (ascii "\n") ++ (def.backticks fence ++ ascii "\n")) (take len text.old)) }
 {
-    match push_byte_if(text, len, 10, !ended) {
-        Wrote::Done(n) => match push_repeated(text, n, 96, fence) {
-            Wrote::Done(m) => push_byte(text, m, 10),
-            Wrote::Full => Wrote::Full,
-        },
-        Wrote::Full => Wrote::Full,
-    }
+    let n = push_byte_if(text, len, 10, !ended)?;
+let m = push_repeated(text, n, 96, fence)?;
+push_byte(text, m, 10)
 }
 
 // The fenced block of what stands from base on.
@@ -245,13 +218,9 @@ fn push_block(text: &mut [u8], base: usize, len: usize, lang: &[u8]) -> Wrote
 {
     let fence = fence_len(&text[base..]);
     let ended = (base == text.len()) | ends_with_byte(&text[base..], 10);
-    match push_block_opening(&mut text[..base], len, fence, lang) {
-        Wrote::Done(n) => match push_lifted(text, base, n, 0) {
-            Wrote::Done(m) => push_block_closing(text, m, fence, ended),
-            Wrote::Full => Wrote::Full,
-        },
-        Wrote::Full => Wrote::Full,
-    }
+    let n = push_block_opening(&mut text[..base], len, fence, lang)?;
+let m = push_lifted(text, base, n, 0)?;
+push_block_closing(text, m, fence, ended)
 }
 
 // The fenced block of write_pre: the content is the n bytes at `from`, behind the text, and none of them counts apart from

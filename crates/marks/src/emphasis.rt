@@ -9,7 +9,7 @@ ghost use Rattle.text.specs.Writes.{Writes};
 use input::fields::is_same;
 use normalized::text_utils::escape_trailing_bang;
 use text::buffer::{
-    Class, Wrote, ends_with, ends_with_byte, lift, push_all, push_byte, push_byte_if,
+    Class, Full, Wrote, ends_with, ends_with_byte, lift, push_all, push_byte, push_byte_if,
     saturating_sub, starts_with_byte, trim_end, trim_end_matches,
 };
 use text::lifted::push_lifted;
@@ -53,13 +53,13 @@ pub fn try_trim_prev_emphasis_marker(text: &mut [u8], len: usize, marker: &[u8])
     ensures { Writes (length text.old) text.new result (def.try_trim_prev_emphasis_marker marker.now (take len text.old)) }
 {
     if !ends_with_emphasis(marker, &text[..len]) {
-        return Wrote::Done(len);
+        return Ok(len);
     }
     if ends_with_byte(&text[..len], 32) {
         let n = saturating_sub(len, marker.len() + 1);
         push_byte(text, n, 32)
     } else {
-        Wrote::Done(saturating_sub(len, marker.len()))
+        Ok(saturating_sub(len, marker.len()))
     }
 }
 
@@ -78,7 +78,7 @@ fn push_marker(text: &mut [u8], len: usize, marker: &[u8], merged: bool) -> Wrot
     ensures { Writes (length text.old) text.new result (push (cond merged [] marker.now) (take len text.old)) }
 {
     if merged {
-        return Wrote::Done(len);
+        return Ok(len);
     }
     push_all(text, len, marker)
 }
@@ -88,7 +88,7 @@ fn escape_bang_if(text: &mut [u8], len: usize, bang: bool) -> Wrote
     ensures { Writes (length text.old) text.new result (bang_if bang (take len text.old)) }
 {
     if !bang {
-        return Wrote::Done(len);
+        return Ok(len);
     }
     escape_trailing_bang(text, len)
 }
@@ -99,16 +99,10 @@ fn push_front(text: &mut [u8], len: usize, marker: &[u8], lead: bool, bang: bool
     ensures { Writes (length text.old) text.new result (marked_front marker.now lead bang (take len text.old)) }
 {
     let merged = ends_with_emphasis(marker, &text[..len]);
-    match try_trim_prev_emphasis_marker(text, len, marker) {
-        Wrote::Done(n) => match push_lead(text, n, lead) {
-            Wrote::Done(m) => match push_marker(text, m, marker, merged) {
-                Wrote::Done(k) => escape_bang_if(text, k, bang),
-                Wrote::Full => Wrote::Full,
-            },
-            Wrote::Full => Wrote::Full,
-        },
-        Wrote::Full => Wrote::Full,
-    }
+    let n = try_trim_prev_emphasis_marker(text, len, marker)?;
+let m = push_lead(text, n, lead)?;
+let k = push_marker(text, m, marker, merged)?;
+escape_bang_if(text, k, bang)
 }
 
 // The emphasis text with its closing marker is what stands from base on.
@@ -117,13 +111,9 @@ fn push_done(text: &mut [u8], base: usize, len: usize, marker: &[u8], lead: bool
     ensures { Writes (length text.old) text.new result (marked_with marker.now lead (drop base text.old) (take len text.old)) }
 {
     let bang = starts_with_byte(&text[base..], 91);
-    match push_front(&mut text[..base], len, marker, lead, bang) {
-        Wrote::Done(n) => {
-            let size = text.len() - base;
+    let n = push_front(&mut text[..base], len, marker, lead, bang)?;
+let size = text.len() - base;
             push_lifted(text, base, n, size)
-        }
-        Wrote::Full => Wrote::Full,
-    }
 }
 
 // Appends the closing marker, and a blank that the emphasis text ended with.
@@ -131,10 +121,8 @@ fn push_end(text: &mut [u8], len: usize, marker: &[u8], trail: bool) -> Wrote
     requires { len ≤ length text.old }
     ensures { Writes (length text.old) text.new result (push (marker.now ++ cond trail (ascii " ") []) (take len text.old)) }
 {
-    match push_all(text, len, marker) {
-        Wrote::Done(n) => push_byte_if(text, n, 32, trail),
-        Wrote::Full => Wrote::Full,
-    }
+    let n = push_all(text, len, marker)?;
+push_byte_if(text, n, 32, trail)
 }
 
 fn one_if(b: bool) -> usize
@@ -159,14 +147,12 @@ fn push_closed(
 {
     let size = n + marker.len() + one_if(trail);
     if text.len() - len <= size {
-        return Wrote::Full;
+        return Err(Full);
     }
     let base = text.len() - size;
     lift(text, from, n, base);
-    match push_end(&mut text[base..], n, marker, trail) {
-        Wrote::Done(_) => push_done(text, base, len, marker, lead),
-        Wrote::Full => Wrote::Full,
-    }
+    push_end(&mut text[base..], n, marker, trail)?;
+push_done(text, base, len, marker, lead)
 }
 
 // The emphasis text is the n bytes behind the text, which are not all White_Space.

@@ -40,7 +40,7 @@ pub fn push_md_prefix(text: &mut [u8], len: usize, name: usize) -> Wrote
     if name == 15 {
         return push_all(text, len, b"---");
     }
-    Wrote::Done(len)
+    Ok(len)
 }
 
 // Escapes a run of `#` behind a blank at the end, which would close the heading.
@@ -53,6 +53,6 @@ pub fn escape_closing_hashes(text: &mut [u8], len: usize) -> Wrote
     if (stem < n) & ends_with_byte(&text[..stem], 32) {
         insert_byte(text, len, stem, 92)
     } else {
-        Wrote::Done(len)
+        Ok(len)
     }
 }

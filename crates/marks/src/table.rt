@@ -7,7 +7,7 @@ ghost use Rattle.text.specs.Writes.{Writes};
 
 use crate::emphasis::backslashes;
 use normalized::text_utils::trim_trailing_space;
-use text::buffer::{Wrote, ends_with, ends_with_byte, push_all};
+use text::buffer::{Full, Wrote, ends_with, ends_with_byte, push_all};
 
 // `\<br>` is text, `\\<br>` an escaped backslash and a line break.
 pub fn ends_with_cell_break(s: &[u8]) -> bool
@@ -27,10 +27,10 @@ pub fn add_cell_block_break(text: &mut [u8], len: usize, linebreak: &[u8]) -> Wr
 {
     let n = trim_trailing_space(&text[..len]);
     if n == 0 {
-        return Wrote::Done(n);
+        return Ok(n);
     }
     if ends_with_cell_break(&text[..n]) {
-        return Wrote::Done(n);
+        return Ok(n);
     }
     push_all(text, n, linebreak)
 }
@@ -98,10 +98,10 @@ pub fn escape_table_cell_inplace(text: &mut [u8], len: usize) -> Wrote
 {
     let extra = count_bare_pipes(&text[..len]);
     if extra == 0 {
-        return Wrote::Done(len);
+        return Ok(len);
     }
     if text.len() - len < extra {
-        return Wrote::Full;
+        return Err(Full);
     }
     let mut at = len + extra;
     let mut i = len;
@@ -111,5 +111,5 @@ pub fn escape_table_cell_inplace(text: &mut [u8], len: usize) -> Wrote
         let b = text[i];
         at = put_before(text, at, bare, b);
     }
-    Wrote::Done(len + extra)
+    Ok(len + extra)
 }

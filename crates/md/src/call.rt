@@ -13,7 +13,7 @@ use normalized::text_utils::trim_space;
 use serializer::options::packed;
 use serializer::write;
 use spec::ctx::FormatOpts;
-use text::buffer::Wrote;
+use text::buffer::{Full, Wrote};
 use tree::memory::clear;
 use tree::nodes::node_end;
 use tree::store::store_nodes;
@@ -40,7 +40,7 @@ fn write_inside(
     let first = start + 1;
     let end = node_end(nodes, start);
     let opts = FormatOpts::new();
-    match write(
+    let n = write(
         sheet,
         own,
         run,
@@ -51,10 +51,8 @@ fn write_inside(
         end,
         packed(opts),
         101,
-    ) {
-        Wrote::Done(n) => Wrote::Done(trim_space(text, n)),
-        Wrote::Full => Wrote::Full,
-    }
+    )?;
+Ok(trim_space(text, n))
 }
 
 // The start node with itself; the fragment has no text of its own.
@@ -70,7 +68,7 @@ fn write_whole(
     ensures { Writes (length text.old) text.new result (written sheet.now (skip_list own run.now) start true) }
 {
     if start == 0 {
-        return Wrote::Done(0);
+        return Ok(0);
     }
     let to = node_end(nodes, start);
     let opts = FormatOpts::new().include_node();
@@ -120,12 +118,12 @@ fn write_sheet(
 {
     store_nodes(sheet, nodes);
     match serialize(sheet, own, run, nodes, text, start, include_node) {
-        Wrote::Done(n) => {
+        Ok(n) => {
             clear(nodes);
             clear_behind(text, n);
             Answer::Written(n)
         }
-        Wrote::Full => {
+        Err(Full) => {
             clear(nodes);
             clear(text);
             Answer::Refused(10)

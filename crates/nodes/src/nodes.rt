@@ -76,17 +76,10 @@ pub fn push_text_of(
         let part = text_at(sheet, place);
         let start = part.start;
         let end = part.end;
-        match push_all(text, n, &sheet[start..end]) {
-            Wrote::Done(m) => {
-                n = m;
-            }
-            Wrote::Full => {
-                return Wrote::Full;
-            }
-        }
+        n = push_all(text, n, &sheet[start..end])?;
         i += 1;
     }
-    Wrote::Done(n)
+    Ok(n)
 }
 
 // Appends the text of node i, if it is one.
@@ -103,7 +96,7 @@ pub fn write_text_node(
 {
     let place = node_place(nodes, i);
     if tag_at(sheet, place) != 4 {
-        return Wrote::Done(len);
+        return Ok(len);
     }
     let part = text_at(sheet, place);
     let start = part.start;
@@ -136,17 +129,10 @@ pub fn write_text(
     let mut n = len;
     let mut i = from;
     while i < to {
-        match write_text_node(sheet, nodes, text, n, i, opts) {
-            Wrote::Done(m) => {
-                n = m;
-            }
-            Wrote::Full => {
-                return Wrote::Full;
-            }
-        }
+        n = write_text_node(sheet, nodes, text, n, i, opts)?;
         i += 1;
     }
-    Wrote::Done(n)
+    Ok(n)
 }
 
 // Whether the texts of the nodes from number `from` up to `to` together are White_Space.

@@ -31,10 +31,10 @@ pub fn blank_for_br(text: &mut [u8], len: usize, name: usize) -> Wrote
     ensures { Writes (length text.old) text.new result (def.blank_for_br name (take len text.old)) }
 {
     if name != 20 {
-        return Wrote::Done(len);
+        return Ok(len);
     }
     if ends_with_byte(&text[..len], 32) {
-        return Wrote::Done(len);
+        return Ok(len);
     }
     push_byte(text, len, 32)
 }
@@ -44,7 +44,7 @@ fn close_skip_md(text: &mut [u8], len: usize, name: usize) -> Wrote
     ensures { Writes (length text.old) text.new result (def.close_skip_md name (take len text.old)) }
 {
     if ends_with(&text[..len], b"\n\n") {
-        return Wrote::Done(len);
+        return Ok(len);
     }
     blank_for_br(text, len, name)
 }
@@ -136,19 +136,12 @@ fn write_open_skip_md(
     let mut open = i;
     let mut at = i + 1;
     while open != 0 {
-        match write_spot(sheet, nodes, text, n, open, at, opts) {
-            Wrote::Done(m) => {
-                n = m;
-            }
-            Wrote::Full => {
-                return Wrote::Full;
-            }
-        }
+        n = write_spot(sheet, nodes, text, n, open, at, opts)?;
         let next = next_spot(sheet, own, run, nodes, i, open, at);
         open = next.open;
         at = next.at;
     }
-    Wrote::Done(n)
+    Ok(n)
 }
 
 // The element at node i under skip_md.
@@ -167,7 +160,7 @@ pub fn write_skip_md(
 {
     let place = node_place(nodes, i);
     if is_skipped(sheet, place, own, run) {
-        return Wrote::Done(len);
+        return Ok(len);
     }
     write_open_skip_md(sheet, own, run, nodes, text, len, i, opts)
 }

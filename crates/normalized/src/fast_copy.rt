@@ -12,7 +12,7 @@ ghost use Rattle.normalized.specs.Blocks.{signed, BlockAt, Appends};
 ghost use Rattle.normalized.specs.Verbatim.{Whole};
 
 use crate::line_start::begins_bare;
-use text::buffer::{Class, Wrote, is_in, push_all};
+use text::buffer::{Class, Full, Wrote, is_in, push_all};
 
 // Whether b stands in a text as it is, `next` behind it: a byte that is not white and, where signs are escaped, ordinary, or a
 // blank before no white byte. Some that would are left out, so that few ranges of bytes are left.
@@ -201,7 +201,7 @@ pub fn push_part(text: &mut [u8], len: usize, src: &[u8], from: usize, to: usize
     let n = to - from;
     let left = text.len() - len;
     if left < n {
-        return Wrote::Full;
+        return Err(Full);
     }
     if (left - n < 16) | (src.len() - to < 16) {
         return push_all(text, len, &src[from..to]);
@@ -212,7 +212,7 @@ pub fn push_part(text: &mut [u8], len: usize, src: &[u8], from: usize, to: usize
         put_bytes(text, len + i, b);
         i += 16;
     }
-    Wrote::Done(len + n)
+    Ok(len + n)
 }
 
 fn is_always_escaped(b: u8) -> bool

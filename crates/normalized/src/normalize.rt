@@ -35,10 +35,8 @@ pub fn push_byte_of(text: &mut [u8], len: usize, b: u8, next: u8, escape: bool) 
     if is_in(Class::White, b) {
         return push_byte_if(text, len, b' ', !is_in(Class::White, next));
     }
-    match push_byte_if(text, len, b'\\', escape & is_sign(b, next)) {
-        Wrote::Done(n) => push_byte(text, n, b),
-        Wrote::Full => Wrote::Full,
-    }
+    let n = push_byte_if(text, len, b'\\', escape & is_sign(b, next))?;
+push_byte(text, n, b)
 }
 
 // Appends what the bytes from `from` up to `stop` add.
@@ -58,17 +56,10 @@ fn push_bytes(
     while i < stop {
         let b = s[i];
         let next = next_of(s, i);
-        match push_byte_of(text, n, b, next, escape) {
-            Wrote::Done(m) => {
-                n = m;
-            }
-            Wrote::Full => {
-                return Wrote::Full;
-            }
-        }
+        n = push_byte_of(text, n, b, next, escape)?;
         i += 1;
     }
-    Wrote::Done(n)
+    Ok(n)
 }
 
 // The same, without a branch where 16 bytes, signs aside, add themselves.
@@ -87,7 +78,7 @@ fn push_stretch(
         let block = block_at(s, from, escape);
         if block.even {
             let signs = block.signs;
-            return Wrote::Done(push_block(s, text, from, len, signs));
+            return Ok(push_block(s, text, from, len, signs));
         }
     }
     push_bytes(text, len, s, from, stop, escape)
@@ -112,26 +103,12 @@ fn push_flow(text: &mut [u8], len: usize, s: &[u8], from: usize, escape: bool) -
     while at < to {
         let k = plain_blocks(&s[at..to], escape);
         let next = at + k;
-        match push_all(text, n, &s[at..next]) {
-            Wrote::Done(m) => {
-                n = m;
-            }
-            Wrote::Full => {
-                return Wrote::Full;
-            }
-        }
+        n = push_all(text, n, &s[at..next])?;
         let stop = stretch_end(next, to);
-        match push_stretch(text, n, s, next, stop, escape) {
-            Wrote::Done(m) => {
-                n = m;
-            }
-            Wrote::Full => {
-                return Wrote::Full;
-            }
-        }
+        n = push_stretch(text, n, s, next, stop, escape)?;
         at = stop;
     }
-    Wrote::Done(n)
+    Ok(n)
 }
 
 // Appends what stands before the byte at `mark`.
@@ -143,13 +120,9 @@ fn push_front(text: &mut [u8], len: usize, s: &[u8], l: Layout, escape: bool) ->
     let at = l.at;
     let mark = l.mark;
     let sign = l.sign;
-    match push_byte_if(text, len, lead, lead != 0) {
-        Wrote::Done(n) => match push_bytes(text, n, s, at, mark, escape) {
-            Wrote::Done(m) => push_byte_if(text, m, b'\\', sign),
-            Wrote::Full => Wrote::Full,
-        },
-        Wrote::Full => Wrote::Full,
-    }
+    let n = push_byte_if(text, len, lead, lead != 0)?;
+let m = push_bytes(text, n, s, at, mark, escape)?;
+push_byte_if(text, m, b'\\', sign)
 }
 
 // Appends a text, its words parted by blanks.
@@ -161,13 +134,9 @@ fn push_words(text: &mut [u8], len: usize, s: &[u8], opts: FormatOpts) -> Wrote
     let mark = l.mark;
     let last = l.last;
     let escape = !opts.skip_escape;
-    match push_front(text, len, s, l, escape) {
-        Wrote::Done(n) => match push_flow(text, n, s, mark, escape) {
-            Wrote::Done(m) => push_byte_if(text, m, b' ', last),
-            Wrote::Full => Wrote::Full,
-        },
-        Wrote::Full => Wrote::Full,
-    }
+    let n = push_front(text, len, s, l, escape)?;
+let m = push_flow(text, n, s, mark, escape)?;
+push_byte_if(text, m, b' ', last)
 }
 
 // The same for a part of a slice, with the options that matter one by one: a record would be copied through memory.

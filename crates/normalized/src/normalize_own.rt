@@ -13,7 +13,7 @@ use crate::fast_copy::plain_blocks;
 use crate::layout::{Layout, lay_out};
 use crate::normalize::{next_of, push_byte_of};
 use spec::ctx::FormatOpts;
-use text::buffer::{Wrote, push_byte_if};
+use text::buffer::{Full, Wrote, push_byte_if};
 
 // Appends a byte before `room`, if it is wanted.
 fn put_if(text: &mut [u8], room: usize, len: usize, b: u8, wanted: bool) -> Wrote
@@ -28,10 +28,8 @@ pub fn put_escaped(text: &mut [u8], room: usize, len: usize, escaped: bool, b: u
     requires { (len ≤ room) × (room ≤ length text.old) }
     ensures { WritesIn room text.old text.new result (push (cond escaped (ascii "\\") [] ++ (b ∷ [])) (take len text.old)) }
 {
-    match put_if(text, room, len, b'\\', escaped) {
-        Wrote::Done(n) => put_if(text, room, n, b, true),
-        Wrote::Full => Wrote::Full,
-    }
+    let n = put_if(text, room, len, b'\\', escaped)?;
+put_if(text, room, n, b, true)
 }
 
 // Appends what the byte at i adds.
@@ -59,17 +57,10 @@ fn push_own_bytes(
     let mut n = len;
     let mut i = from;
     while i < stop {
-        match push_own_byte(text, base, n, i, escape) {
-            Wrote::Done(m) => {
-                n = m;
-            }
-            Wrote::Full => {
-                return Wrote::Full;
-            }
-        }
+        n = push_own_byte(text, base, n, i, escape)?;
         i += 1;
     }
-    Wrote::Done(n)
+    Ok(n)
 }
 
 // Appends the n bytes at `from` as they are.
@@ -78,14 +69,14 @@ fn put_own(text: &mut [u8], base: usize, len: usize, from: usize, n: usize) -> W
     ensures { WritesIn base text.old text.new result (push (slice from (from + n) text.old) (take len text.old)) }
 {
     if base - len < n {
-        return Wrote::Full;
+        return Err(Full);
     }
     let mut i = 0;
     while i < n {
         text[len + i] = text[from + i];
         i += 1;
     }
-    Wrote::Done(len + n)
+    Ok(len + n)
 }
 
 // Appends what the bytes from `from` on add.
@@ -95,10 +86,8 @@ fn push_own_flow(text: &mut [u8], base: usize, len: usize, from: usize, escape: 
 {
     let to = text.len();
     let k = plain_blocks(&text[from..to], escape);
-    match put_own(text, base, len, from, k) {
-        Wrote::Done(n) => push_own_bytes(text, base, n, from + k, to, escape),
-        Wrote::Full => Wrote::Full,
-    }
+    let n = put_own(text, base, len, from, k)?;
+push_own_bytes(text, base, n, from + k, to, escape)
 }
 
 // Appends what stands before the byte at `mark`.
@@ -110,13 +99,9 @@ fn push_own_front(text: &mut [u8], base: usize, len: usize, l: Layout, escape: b
     let from = base + l.at;
     let stop = base + l.mark;
     let sign = l.sign;
-    match put_if(text, base, len, lead, lead != 0) {
-        Wrote::Done(n) => match push_own_bytes(text, base, n, from, stop, escape) {
-            Wrote::Done(m) => put_if(text, base, m, b'\\', sign),
-            Wrote::Full => Wrote::Full,
-        },
-        Wrote::Full => Wrote::Full,
-    }
+    let n = put_if(text, base, len, lead, lead != 0)?;
+let m = push_own_bytes(text, base, n, from, stop, escape)?;
+put_if(text, base, m, b'\\', sign)
 }
 
 // The layout of what stands from `base` on, behind the first `len` bytes.
@@ -136,11 +121,7 @@ pub fn push_normalized_own(text: &mut [u8], base: usize, len: usize, opts: Forma
     let from = base + l.mark;
     let last = l.last;
     let escape = !opts.skip_escape;
-    match push_own_front(text, base, len, l, escape) {
-        Wrote::Done(n) => match push_own_flow(text, base, n, from, escape) {
-            Wrote::Done(m) => put_if(text, base, m, b' ', last),
-            Wrote::Full => Wrote::Full,
-        },
-        Wrote::Full => Wrote::Full,
-    }
+    let n = push_own_front(text, base, len, l, escape)?;
+let m = push_own_flow(text, base, n, from, escape)?;
+put_if(text, base, m, b' ', last)
 }

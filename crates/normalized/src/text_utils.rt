@@ -11,7 +11,7 @@ ghost use Rattle.text.specs.Writes.{Writes, Written};
 
 use input::fields::is_same;
 use text::buffer::{
-    Class, Wrote, all_in, drop_front, ends_with, ends_with_byte, ends_with_either, ends_with_white,
+    Class, Full, Wrote, all_in, drop_front, ends_with, ends_with_byte, ends_with_either, ends_with_white,
     push_all, push_byte, trim_end_matches, trim_start_matches,
 };
 
@@ -89,14 +89,14 @@ pub fn escape_trailing_bang(text: &mut [u8], len: usize) -> Wrote
     ensures { Writes (length text.old) text.new result (def.escape_trailing_bang (take len text.old)) }
 {
     if !ends_with_byte(&text[..len], 33) {
-        return Wrote::Done(len);
+        return Ok(len);
     }
     if len == text.len() {
-        return Wrote::Full;
+        return Err(Full);
     }
     text[len - 1] = 92;
     text[len] = 33;
-    Wrote::Done(len + 1)
+    Ok(len + 1)
 }
 
 pub fn trim_trailing_space(s: &[u8]) -> usize
@@ -113,19 +113,12 @@ pub fn add_linebreaks(text: &mut [u8], len: usize, linebreak: &[u8], end: &[u8])
     let mut left = end.len();
     while 0 < left {
         if ends_with(&text[..n], end) {
-            return Wrote::Done(n);
+            return Ok(n);
         }
-        match push_all(text, n, linebreak) {
-            Wrote::Done(m) => {
-                n = m;
-            }
-            Wrote::Full => {
-                return Wrote::Full;
-            }
-        }
+        n = push_all(text, n, linebreak)?;
         left -= 1;
     }
-    Wrote::Done(n)
+    Ok(n)
 }
 
 pub fn push_block_space(text: &mut [u8], len: usize) -> Wrote
@@ -133,10 +126,10 @@ pub fn push_block_space(text: &mut [u8], len: usize) -> Wrote
     ensures { Writes (length text.old) text.new result (def.push_block_space (take len text.old)) }
 {
     if len == 0 {
-        return Wrote::Done(len);
+        return Ok(len);
     }
     if ends_with_white(&text[..len]) {
-        return Wrote::Done(len);
+        return Ok(len);
     }
     push_byte(text, len, 32)
 }

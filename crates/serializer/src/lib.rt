@@ -51,7 +51,7 @@ use progress::{Going, going_on, rule_block};
 use spec::ctx::{FormatOpts, ListContext};
 use tables::rows::{is_table_node_writable, next_filled_row, next_row};
 use tables::table::{next_cell, push_table, store_span};
-use text::buffer::Wrote;
+use text::buffer::{Full, Wrote};
 use texts::{is_blank_text, is_one_text, trim_behind_text};
 use tree::attributes::{Value, attribute};
 use tree::nodes::{node_end, node_place, tag_at};
@@ -79,22 +79,15 @@ pub fn write(
     ensures writes_forest { WritesForest sheet.now nodes.old from to (λ anc f. write_at (tags_to_skip (skip_list own run.now)) levels anc (def.unpacked bits) f) (take len text.old) (length text.old) text.new result }
 {
     if levels == 0 {
-        return Wrote::Done(len);
+        return Ok(len);
     }
     let mut at = from;
     let mut end = len;
     while at < to {
-        match node(sheet, own, run, nodes, text, end, at, bits, levels - 1) {
-            Wrote::Done(n) => {
-                end = n;
-            }
-            Wrote::Full => {
-                return Wrote::Full;
-            }
-        }
+        end = node(sheet, own, run, nodes, text, end, at, bits, levels - 1)?;
         at = node_end(nodes, at);
     }
-    Wrote::Done(end)
+    Ok(end)
 }
 
 // The same. One text that stands alone is written at once.
@@ -145,13 +138,11 @@ fn node(
         return write_text_node(sheet, nodes, text, len, at, opts);
     }
     if node_is_skipped(sheet, own, run, nodes, at) {
-        return Wrote::Done(len);
+        return Ok(len);
     }
     let opts = unpacked(bits);
-    match opened(sheet, nodes, text, len, at, opts) {
-        Wrote::Done(n) => inside(sheet, own, run, nodes, text, n, at, bits, levels),
-        Wrote::Full => Wrote::Full,
-    }
+    let n = opened(sheet, nodes, text, len, at, opts)?;
+inside(sheet, own, run, nodes, text, n, at, bits, levels)
 }
 
 // What stands in an element that is opened, and its close.
@@ -182,10 +173,8 @@ fn inside(
         return write_element(sheet, own, run, nodes, text, len, at, name, bits, levels);
     }
     let to = node_end(nodes, at);
-    match siblings(sheet, own, run, nodes, text, len, at + 1, to, bits, levels) {
-        Wrote::Done(n) => closed(text, n, name, unpacked(bits)),
-        Wrote::Full => Wrote::Full,
-    }
+    let n = siblings(sheet, own, run, nodes, text, len, at + 1, to, bits, levels)?;
+closed(text, n, name, unpacked(bits))
 }
 
 // An element that has a writer of its own.
@@ -251,10 +240,8 @@ fn kids(
         let opts = unpacked(bits);
         return trim_behind_text(sheet, nodes, text, len, at + 1, opts);
     }
-    match write(sheet, own, run, nodes, text, len, at + 1, to, bits, levels) {
-        Wrote::Done(n) => Wrote::Done(trim_space(text, n)),
-        Wrote::Full => Wrote::Full,
-    }
+    let n = write(sheet, own, run, nodes, text, len, at + 1, to, bits, levels)?;
+Ok(trim_space(text, n))
 }
 
 // elements/emphasis.rs.
@@ -277,7 +264,7 @@ fn write_emphasis(
 {
     let to = node_end(nodes, at);
     let inner = emphasis_opts(name, opts);
-    match write(
+    let n = write(
         sheet,
         own,
         run,
@@ -288,10 +275,8 @@ fn write_emphasis(
         to,
         packed(inner),
         levels,
-    ) {
-        Wrote::Done(n) => push_emphasis_by(text, len, n, name, opts),
-        Wrote::Full => Wrote::Full,
-    }
+    )?;
+push_emphasis_by(text, len, n, name, opts)
 }
 
 // elements/link.rs.
@@ -361,9 +346,8 @@ fn link(
         );
     }
     let plain = fresh.include_node().skip_escape();
-    match write_text(sheet, nodes, &mut text[len..], 0, at + 1, end, plain) {
-        Wrote::Done(n) => {
-            if n == 0 {
+    let n = write_text(sheet, nodes, &mut text[len..], 0, at + 1, end, plain)?;
+if n == 0 {
                 body(
                     sheet, own, run, nodes, text, len, at, from, to, fresh, levels,
                 )
@@ -371,9 +355,6 @@ fn link(
                 let place = node_place(nodes, at);
                 push_text_link(sheet, text, len, n, place, from, to, opts)
             }
-        }
-        Wrote::Full => Wrote::Full,
-    }
 }
 
 // A link that shows what `write` gives for its content.
@@ -397,7 +378,7 @@ fn body(
 {
     let place = node_place(nodes, at);
     let bits = packed(opts);
-    match kids(
+    let n = kids(
         sheet,
         own,
         run,
@@ -407,10 +388,8 @@ fn body(
         at,
         bits,
         levels,
-    ) {
-        Wrote::Done(n) => push_link(sheet, text, len, n, place, from, to, false, opts),
-        Wrote::Full => Wrote::Full,
-    }
+    )?;
+push_link(sheet, text, len, n, place, from, to, false, opts)
 }
 
 // elements/list.rs.
@@ -435,10 +414,8 @@ fn write_list(
     let kind = kind_of(sheet, place, name);
     let to = node_end(nodes, at);
     let ctx = ListContext::new(opts, kind);
-    match items(sheet, own, run, nodes, text, len, at + 1, to, ctx, levels) {
-        Wrote::Done(n) => end_list(text, n, opts),
-        Wrote::Full => Wrote::Full,
-    }
+    let n = items(sheet, own, run, nodes, text, len, at + 1, to, ctx, levels)?;
+end_list(text, n, opts)
 }
 
 // The children of a list.
@@ -468,18 +445,11 @@ fn items(
         let numbered = renumbered(sheet, place, li, ctx);
         let written = item(sheet, own, run, nodes, text, end, c, li, numbered, levels);
         let wrote = written.wrote;
-        match wrote {
-            Wrote::Done(n) => {
-                end = n;
-            }
-            Wrote::Full => {
-                return Wrote::Full;
-            }
-        }
+        end = wrote?;
         ctx = written.ctx;
         c = node_end(nodes, c);
     }
-    Wrote::Done(end)
+    Ok(end)
 }
 
 // A child of a list; `li` says that it is an item, which steps the context.
@@ -548,25 +518,25 @@ fn flat(
     let next = begun.ctx;
     let opts = next.opts;
     match wrote {
-        Wrote::Done(n) => {
+        Ok(n) => {
             let inner = opts.list_item();
             let bits = packed(inner);
             match kids(sheet, own, run, nodes, text, n, c, bits, levels) {
-                Wrote::Done(m) => {
+                Ok(m) => {
                     let w = push_linebreak(text, m, opts.table_cell);
                     ItemWrote {
                         wrote: w,
                         ctx: next,
                     }
                 }
-                Wrote::Full => ItemWrote {
-                    wrote: Wrote::Full,
+                Err(Full) => ItemWrote {
+                    wrote: Err(Full),
                     ctx: next,
                 },
             }
         }
-        Wrote::Full => ItemWrote {
-            wrote: Wrote::Full,
+        Err(Full) => ItemWrote {
+            wrote: Err(Full),
             ctx: next,
         },
     }
@@ -595,7 +565,7 @@ fn blocks(
     let wrote = begun.wrote;
     let next = begun.ctx;
     match wrote {
-        Wrote::Done(n) => {
+        Ok(n) => {
             let item = item_from(ctx, next, n);
             match children(
                 sheet,
@@ -619,13 +589,13 @@ fn blocks(
                     }
                 }
                 Going::Full => ItemWrote {
-                    wrote: Wrote::Full,
+                    wrote: Err(Full),
                     ctx: next,
                 },
             }
         }
-        Wrote::Full => ItemWrote {
-            wrote: Wrote::Full,
+        Err(Full) => ItemWrote {
+            wrote: Err(Full),
             ctx: next,
         },
     }
@@ -747,7 +717,7 @@ fn alone(
     let name = node_name(sheet, nodes, c);
     let line = due & !((name == 23) | blank);
     match due_line(text, len, line, item) {
-        Wrote::Done(n) => {
+        Ok(n) => {
             if node_is_list_item_block(name) {
                 block(
                     sheet,
@@ -773,7 +743,7 @@ fn alone(
                 )
             }
         }
-        Wrote::Full => Going::Full,
+        Err(Full) => Going::Full,
     }
 }
 
@@ -799,8 +769,8 @@ fn inline(
     let to = node_end(nodes, c);
     let opts = item.ctx.opts;
     let inner = child_opts(name, opts);
-    match push_inline_lead(text, len, item, blank) {
-        Wrote::Done(n) => write(
+    let n = push_inline_lead(text, len, item, blank)?;
+write(
             sheet,
             own,
             run,
@@ -811,9 +781,7 @@ fn inline(
             to,
             packed(inner),
             levels,
-        ),
-        Wrote::Full => Wrote::Full,
-    }
+        )
 }
 
 // A block of an item.
@@ -867,13 +835,9 @@ fn led(
     ensures kept { Kept c (end_at nodes.old c) nodes.old nodes.new }
     ensures writes_element { WritesElement sheet.now nodes.old c (λ anc name attrs kids. led_step (self_at own run.now levels) anc (element name attrs kids nothing) (item_of item) first) (take len text.old) (length text.old) text.new result }
 {
-    match push_block_lead(text, len, item, first, name == 23) {
-        Wrote::Done(n) => match flow(sheet, own, run, nodes, text, n, c, name, item, levels) {
-            Wrote::Done(m) => push_linebreak(text, m, item.ctx.opts.table_cell),
-            Wrote::Full => Wrote::Full,
-        },
-        Wrote::Full => Wrote::Full,
-    }
+    let n = push_block_lead(text, len, item, first, name == 23)?;
+let m = flow(sheet, own, run, nodes, text, n, c, name, item, levels)?;
+push_linebreak(text, m, item.ctx.opts.table_cell)
 }
 
 // A code block, or any other block without its own node.
@@ -898,17 +862,11 @@ fn flow(
         return indented(sheet, own, run, nodes, text, len, c, item, levels);
     }
     let opts = item.ctx.opts;
-    match push_heading_prefix(text, len, name) {
-        Wrote::Done(n) => {
-            let inner = opts.list_item();
+    let n = push_heading_prefix(text, len, name)?;
+let inner = opts.list_item();
             let bits = packed(inner);
-            match kids(sheet, own, run, nodes, text, n, c, bits, levels) {
-                Wrote::Done(m) => end_flow(text, m, name, item),
-                Wrote::Full => Wrote::Full,
-            }
-        }
-        Wrote::Full => Wrote::Full,
-    }
+            let m = kids(sheet, own, run, nodes, text, n, c, bits, levels)?;
+end_flow(text, m, name, item)
 }
 
 // A code block of an item: `write_list_item_indented` of elements/list.rs.
@@ -931,7 +889,7 @@ fn indented(
     let to = node_end(nodes, c);
     let opts = item.ctx.opts;
     let inner = opts.include_node();
-    match write(
+    let n = write(
         sheet,
         own,
         run,
@@ -942,10 +900,8 @@ fn indented(
         to,
         packed(inner),
         levels,
-    ) {
-        Wrote::Done(n) => push_indented(text, len, n, item),
-        Wrote::Full => Wrote::Full,
-    }
+    )?;
+push_indented(text, len, n, item)
 }
 
 // elements/table.rs.
@@ -972,10 +928,8 @@ fn write_table(
         let bits = packed(fresh);
         return kids(sheet, own, run, nodes, text, len, at, bits, levels);
     }
-    match cells(sheet, own, run, nodes, text, len, first, to, opts, levels) {
-        Wrote::Done(end) => push_table(sheet, nodes, text, len, end - len, first, to),
-        Wrote::Full => Wrote::Full,
-    }
+    let end = cells(sheet, own, run, nodes, text, len, first, to, opts, levels)?;
+push_table(sheet, nodes, text, len, end - len, first, to)
 }
 
 // The cells of the rows from number `from` on, each a text of its own behind the others.
@@ -999,17 +953,10 @@ fn cells(
     let mut end = len;
     let mut r = next_row(sheet, nodes, from, to);
     while r < to {
-        match row(sheet, own, run, nodes, text, end, r, opts, levels) {
-            Wrote::Done(n) => {
-                end = n;
-            }
-            Wrote::Full => {
-                return Wrote::Full;
-            }
-        }
+        end = row(sheet, own, run, nodes, text, end, r, opts, levels)?;
         r = next_row(sheet, nodes, r + 1, to);
     }
-    Wrote::Done(end)
+    Ok(end)
 }
 
 // The cells of one row.
@@ -1033,19 +980,13 @@ fn row(
     let mut end = len;
     let mut c = next_cell(sheet, nodes, tr + 1, to);
     while c < to {
-        match cell(sheet, own, run, nodes, &mut text[end..], c, opts, levels) {
-            Wrote::Done(n) => {
-                store_span(nodes, c, end, n);
+        let n = cell(sheet, own, run, nodes, &mut text[end..], c, opts, levels)?;
+store_span(nodes, c, end, n);
                 end += n;
-            }
-            Wrote::Full => {
-                return Wrote::Full;
-            }
-        }
         let after = node_end(nodes, c);
         c = next_cell(sheet, nodes, after, to);
     }
-    Wrote::Done(end)
+    Ok(end)
 }
 
 // The text of a cell.
@@ -1066,11 +1007,7 @@ fn cell(
 {
     let inner = opts.fresh().table_cell();
     let bits = packed(inner);
-    match kids(sheet, own, run, nodes, text, 0, c, bits, levels) {
-        Wrote::Done(n) => {
-            let k = trim_trailing_cell_break(&text[..n]);
+    let n = kids(sheet, own, run, nodes, text, 0, c, bits, levels)?;
+let k = trim_trailing_cell_break(&text[..n]);
             escape_table_cell_inplace(text, k)
-        }
-        Wrote::Full => Wrote::Full,
-    }
 }

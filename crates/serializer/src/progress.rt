@@ -5,7 +5,7 @@ ghost use Rattle.lists_links.specs.Items.{item_of};
 ghost use Rattle.serializer.specs.Writers.{progress_at, Goes, going_of};
 
 use lists_links::list::{Item, push_rule};
-use text::buffer::Wrote;
+use text::buffer::{Full, Wrote};
 
 // The length of the text, whether no block stood before, whether a blank line is due.
 #[derive(Clone, Copy)]
@@ -18,8 +18,8 @@ pub fn going_on(wrote: Wrote, first: bool, due: bool) -> Going
     ensures { result ≡ going_of wrote first due }
 {
     match wrote {
-        Wrote::Done(n) => Going::On(n, first, due),
-        Wrote::Full => Going::Full,
+        Ok(n) => Going::On(n, first, due),
+        Err(Full) => Going::Full,
     }
 }
 

@@ -39,10 +39,8 @@ pub fn trim_behind_text(
     requires { NodeAt sheet.now nodes.now i × (len ≤ length text.old) }
     ensures { Writes (length text.old) text.new result (and_then (text_step opts sheet.now (place_at nodes.now i) (take len text.old)) trim_space) }
 {
-    match write_text_node(sheet, nodes, text, len, i, opts) {
-        Wrote::Done(n) => Wrote::Done(trim_space(text, n)),
-        Wrote::Full => Wrote::Full,
-    }
+    let n = write_text_node(sheet, nodes, text, len, i, opts)?;
+Ok(trim_space(text, n))
 }
 
 // Whether the node whose field stands at `place` is a text of white bytes.

@@ -15,7 +15,7 @@ ghost use Rattle.text.specs.Writes.{Writes};
 use crate::bars::{at_least_one, put_byte_cells, put_column};
 use crate::rows::{all_th, count_cells, is_table_cell, next_filled_row};
 use nodes::nodes::node_name;
-use text::buffer::{Wrote, lift, push_byte, saturating_sub};
+use text::buffer::{Full, Wrote, lift, push_byte, saturating_sub};
 use tree::memory::{read_long, store_long};
 use tree::nodes::node_end;
 
@@ -281,7 +281,7 @@ fn push_sized(
     let more = 5 + 6 * cells + 9 * blanks + empty + extra;
     let room = text.len();
     if !has_room(room - len - n, n, bytes, more) {
-        return Wrote::Full;
+        return Err(Full);
     }
     let base = room - n;
     lift(text, len, n, base);

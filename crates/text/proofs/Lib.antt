@@ -9,4 +9,5 @@ pub mod Sourcing
 pub mod Ordinary
 pub mod WhiteSpace
 pub mod Temporary
+pub mod Finding
 pub mod Lifting

@@ -9,9 +9,9 @@ use lib.Seq.{length-take-le, take-take, take_all, take-append-add, take-append-l
 use Rattle.spec.specs.Out.{Out, Step, and_then, push, beside}
 use Rattle.text.specs.Lifted.{Lifted}
 use Rattle.text.specs.Source.{WritesIn}
-use Rattle.text.specs.Writes.{Written, Refused, Says, Writes}
-use Rattle.text.specs.declared.buffer.Wrote.{Wrote}
-use Rattle.text.specs.declared.buffer.Wrote.TheVariants.{Done, Full}
+use Rattle.text.specs.Writes.{Written, Refused, Says, Writes, Wrote}
+use Rattle.std.specs.Prelude.{Ok, Err}
+use Rattle.text.specs.declared.buffer.Full.{Full}
 use Rattle.text.proofs.Reading.{rest_part}
 use Rattle.text.proofs.Temporary.{lent, back}
 use Rattle.text.proofs.Writing.{alike, done, full, reaches, push_both, Owes, owes_all, owes_on, owes_over}
@@ -75,7 +75,7 @@ abbrev pub joined : List ℕ → ℕ → ℕ → ℕ → Step → Out
 joined d len base k f = beside k (and_then (f (take len d)) (push (drop base d)))
 
 module _ (d : List ℕ) (len base k : ℕ) (h : len ≤ base) (g : base + k ≤ length d) (f : Step) where
-  module _ {mid : List ℕ} {r : Wrote} {m : ℕ} (w : WritesIn base d mid r (f (take len d))) (e : r ≡ Done m) where
+  module _ {mid : List ℕ} {r : Wrote} {m : ℕ} (w : WritesIn base d mid r (f (take len d))) (e : r ≡ Ok m) where
     front : Written base (take base mid) m (f (take len d))
     front = done e w.writes
 
@@ -94,12 +94,12 @@ module _ (d : List ℕ) (len base k : ℕ) (h : len ≤ base) (g : base + k ≤ 
         }
       where
         go : (s : Wrote) → Says (length d) after s (beside k (push (drop base d) (f (take len d)).text)) → Says (length d) after s (joined d len base k f)
-        go (Done j) u = record { long = u.long; fits = omega (arith, u.fits, front.fits); count = u.count; text_is = u.text_is }
-        go Full u = record { over = omega (arith, u.over) }
+        go (Ok j) u = record { long = u.long; fits = omega (arith, u.fits, front.fits); count = u.count; text_is = u.text_is }
+        go (Err _) u = record { over = omega (arith, u.over) }
 
 -- all of it counts
-pub joined_full : (d : List ℕ) (len base : ℕ) → base ≤ length d → (f : Step) {mid z : List ℕ} {r : Wrote} → WritesIn base d mid r (f (take len d)) → r ≡ Full
-    → Writes (length d) z Full (joined d len base (length (drop base d)) f)
+pub joined_full : (d : List ℕ) (len base : ℕ) → base ≤ length d → (f : Step) {mid z : List ℕ} {r : Wrote} {x y : Full} → WritesIn base d mid r (f (take len d)) → r ≡ Err x
+    → Writes (length d) z (Err y) (joined d len base (length (drop base d)) f)
 unfolding and_then beside push
 joined_full d len base g f w e =
     let v : Refused base (f (take len d)) = full e w.writes in
@@ -115,7 +115,7 @@ module _ (d : List ℕ) (len base k : ℕ) (h : len ≤ base) (g : base + k ≤ 
   around = and_then (beside k (push (x ++ drop base d) (take len d))) (push y)
 
   module _ {mid : List ℕ} {r : Wrote} (w : WritesIn base d mid r (push x (take len d))) where
-    pub around_full : {z : List ℕ} → r ≡ Full → Writes (length d) z Full around
+    pub around_full : {z : List ℕ} {f g : Full} → r ≡ Err f → Writes (length d) z (Err g) around
     unfolding and_then beside push
     around_full e =
         let v : Refused base (push x (take len d)) = full e w.writes in
@@ -125,12 +125,12 @@ module _ (d : List ℕ) (len base k : ℕ) (h : len ≤ base) (g : base + k ≤ 
     whole = owes_all d len (λ t. and_then (beside k (push (x ++ drop base d) t)) (push y)) (omega arith) refl
 
     -- it is appended behind x
-    module _ {m : ℕ} (e : r ≡ Done m) {after : List ℕ} {s : Wrote} (v : Writes (length mid) after s (beside k (push (drop base mid) (take m mid)))) where
+    module _ {m : ℕ} (e : r ≡ Ok m) {after : List ℕ} {s : Wrote} (v : Writes (length mid) after s (beside k (push (drop base mid) (take m mid)))) where
       said : Writes (length d) after s (beside k (push (x ++ drop base d) (take len d)))
       said = alike (ap (beside k) (push_both x (drop base d) (take len d))) (joined_writes d len base k h g (push x) w e v)
 
-      pub around_on : {j : ℕ} → s ≡ Done j → Owes (length d) after j (push y) around
+      pub around_on : {j : ℕ} → s ≡ Ok j → Owes (length d) after j (push y) around
       around_on q = owes_on whole (λ t. beside k (push (x ++ drop base d) t)) (push y) refl (done q said)
 
-      pub around_stop : {z : List ℕ} → s ≡ Full → Writes (length d) z Full around
+      pub around_stop : {z : List ℕ} {f g : Full} → s ≡ Err f → Writes (length d) z (Err g) around
       around_stop q = owes_over whole (λ t. beside k (push (x ++ drop base d) t)) (push y) refl (full q said)

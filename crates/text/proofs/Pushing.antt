@@ -1,10 +1,12 @@
 -- A loop that appends: d is the memory, and its first `len` bytes are the text. Assumes nothing.
 use Prim.Native.Nat.{ℕ, ◌+◌, ◌-◌, ◌≤◌, ◌<◌}
 use mathlib.Core.Path.{◌≡◌, sym, ap, ◌∙◌}
-use mathlib.Core.List.{List, [], ◌∷◌, ◌++◌}
+use mathlib.Core.List.{List, [], ◌∷◌, ◌++◌, append_assoc}
 use native.Mathlib.Omega.{arith}
 use native.Mathlib.Numerals.{add-one}
-use lib.ListN.{length, take, set, length-append, length-set}
+use lib.ListN.{length, take, drop, set, length-append, length-set, length-take, length-drop}
+use borrow.Rule.Slice.PartMut.{put_mid, same_len_mid}
+use lib.Seq.{take_at}
 use lib.Seq.{length-take-le, take-suc-set, take_all, take-paste, paste, length-paste}
 use Rattle.spec.specs.Out.{push}
 use Rattle.text.specs.Writes.{Written, Refused}
@@ -35,4 +37,17 @@ byte_done d b len h =
       fits = omega arith;
       count = sym (length-append (take len d) (b ∷ []) ∙ ap (λ (k : ℕ). k + 1) l);
       text_is = rw (add-one, take-suc-set);
+    }
+
+-- the bytes from `len` on are replaced by s, as a write to `text[len..len + k]` leaves them
+pub put_done : (d s : List ℕ) (len k : ℕ) → k ≡ length s → len + k ≤ length d → Written (length d) (put_mid len (len + k - len) d s) (len + k) (push s (take len d))
+unfolding push
+put_done d s len k q h =
+    let l : length (take len d) ≡ len = length-take-le len d (omega arith) in
+    let m : length (take len d ++ s) ≡ len + k = omega (arith, length-append (take len d) s) in
+    record {
+      long = same_len_mid len (len + k - len) d s (omega (arith, length-take (len + k - len) (drop len d), length-drop len d));
+      fits = omega arith;
+      count = sym m;
+      text_is = ap (take (len + k)) (sym (append_assoc (take len d) s _)) ∙ take_at (take len d ++ s) _ (len + k) m;
     }

@@ -8,7 +8,9 @@ use native.Mathlib.Numerals.{add-one}
 use lib.ListN.{length, take, drop, get_or, length-take, length-drop}
 use lib.Seq.{drop-cons, take_all, drop-length, take-nil, length-take-le}
 use lib.Dec.{eqb, ltb}
-use borrow.Author.Tests.{eq-eqb, eqb-true, eqb-false, ltb-true, ltb-false}
+use borrow.Author.Tests.{eq-eqb, ne_eqb, eqb-true, eqb-false, ltb-true, ltb-false}
+use lib.Pointwise.{pointwise}
+use Rattle.std.specs.List.{list_any}
 use Rattle.spec.specs.Bytes.{isin, same, starts_with, ends_with, every, null, trim_ascii_end, trim_end_matches, one, white}
 use Rattle.spec.specs.Md.TextUtils.{ends_with_white}
 use Rattle.text.specs.Trimmed.{Trimmed}
@@ -64,6 +66,47 @@ pub starts_byte : (s : List ℕ) (b : ℕ) → (length s ≡ 0 → ⊥) → eqb 
 unfolding starts_with
 starts_byte [] b h = absurd (h refl)
 starts_byte (x ∷ s) b h = sym (same_one x b)
+
+pub ends_is : (s : List ℕ) (b : ℕ) → 1 ≤ length s → get_or s (length s - 1) 0 ≡ b → ends_with (b ∷ []) s ≡ true
+ends_is s b h e = sym (ends_byte s b (λ q. omega arith)) ∙ eq-eqb (get_or s (length s - 1) 0) b e
+
+pub ends_not : (s : List ℕ) (b : ℕ) → (get_or s (length s - 1) 0 ≡ b → ⊥) → ends_with (b ∷ []) s ≡ false
+ends_not [] b h = ends_short [] (b ∷ []) (omega arith)
+ends_not (x ∷ s) b h = sym (ends_byte (x ∷ s) b (λ q. omega arith)) ∙ ne_eqb (get_or (x ∷ s) (length (x ∷ s) - 1) 0) b h
+
+pub ends_none : (s : List ℕ) (b : ℕ) → length s < 1 → ends_with (b ∷ []) s ≡ false
+ends_none s b h = ends_short s (b ∷ []) (omega arith)
+
+pub starts_is : (s : List ℕ) (b : ℕ) → 1 ≤ length s → get_or s 0 0 ≡ b → starts_with (b ∷ []) s ≡ true
+starts_is s b h e = sym (starts_byte s b (λ q. omega arith)) ∙ eq-eqb (get_or s 0 0) b e
+
+pub starts_not : (s : List ℕ) (b : ℕ) → (get_or s 0 0 ≡ b → ⊥) → starts_with (b ∷ []) s ≡ false
+starts_not [] b h = starts_short [] (b ∷ []) (omega arith)
+starts_not (x ∷ s) b h = sym (starts_byte (x ∷ s) b (λ q. omega arith)) ∙ ne_eqb x b h
+
+pub starts_none : (s : List ℕ) (b : ℕ) → length s < 1 → starts_with (b ∷ []) s ≡ false
+starts_none s b h = starts_short s (b ∷ []) (omega arith)
+
+-- ---- what the library's methods say, in the words of `spec`
+
+eqb_sym : (a b : ℕ) → eqb a b ≡ eqb b a
+eqb_sym a b = go (eqb b a) refl
+  where
+    go : (t : Bool) → eqb b a ≡ t → eqb a b ≡ t
+    go true e = eq-eqb a b (sym (eqb-true b a e))
+    go false e = ne_eqb a b (λ q. eqb-false b a e (sym q))
+
+pub same_pointwise : (x y : List ℕ) → pointwise eqb x y ≡ same y x
+unfolding same
+same_pointwise [] [] = refl
+same_pointwise [] (b ∷ y) = refl
+same_pointwise (a ∷ x) [] = refl
+same_pointwise (a ∷ x) (b ∷ y) = rw (eqb_sym a b, same_pointwise x y) refl
+
+pub any_isin : (b : ℕ) (s : List ℕ) → list_any (λ y. eqb y b) s ≡ isin b s
+unfolding isin
+any_isin b [] = refl
+any_isin b (c ∷ s) = rw (eqb_sym c b, any_isin b s) refl
 
 -- ---- every byte
 

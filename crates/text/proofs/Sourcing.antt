@@ -11,9 +11,9 @@ use lib.Dec.{eqb}
 use Rattle.spec.specs.Bytes.{starts_with}
 use Rattle.spec.specs.Out.{Out, Step, and_then, push}
 use Rattle.text.specs.Source.{WritesIn}
-use Rattle.text.specs.Writes.{Writes}
-use Rattle.text.specs.declared.buffer.Wrote.{Wrote}
-use Rattle.text.specs.declared.buffer.Wrote.TheVariants.{Done, Full}
+use Rattle.text.specs.Writes.{Writes, Wrote}
+use Rattle.std.specs.Prelude.{Ok, Err}
+use Rattle.text.specs.declared.buffer.Full.{Full}
 use Rattle.text.proofs.Reading.{drop_take, starts_byte, starts_short}
 use Rattle.text.proofs.Writing.{alike, done, full, Owes, owes_all, owes_last, owes_on, owes_over, owes_nothing, push_both}
 
@@ -94,15 +94,15 @@ module _ {room : ℕ} {text mid : List ℕ} {n : ℕ} {rest : Step} {whole : Out
     here : rest (take n (take room mid)) ≡ and_then (f (take n (take room mid))) g
     here = at_front rest ∙ e ∙ ap (λ (o : Out). and_then o g) (sym (at_front f))
 
-    pub owed_step : {after : List ℕ} {m : ℕ} {r : Wrote} → r ≡ Done m → WritesIn room mid after r (f (take n mid)) → OwesIn room text after m g whole
+    pub owed_step : {after : List ℕ} {m : ℕ} {r : Wrote} → r ≡ Ok m → WritesIn room mid after r (f (take n mid)) → OwesIn room text after m g whole
     owed_step q w =
         record { still = record { long = w.long ∙ p.still.long; behind = w.behind ∙ p.still.behind }; owes = owes_on p.owes f g here (done q (said f w.writes)) }
 
-    pub owed_stop : {after : List ℕ} {r : Wrote} → r ≡ Full → WritesIn room mid after r (f (take n mid)) → WritesIn room text after Full whole
+    pub owed_stop : {after : List ℕ} {r : Wrote} {x y : Full} → r ≡ Err x → WritesIn room mid after r (f (take n mid)) → WritesIn room text after (Err y) whole
     owed_stop q w =
         record { long = w.long ∙ p.still.long; behind = w.behind ∙ p.still.behind; writes = owes_over p.owes f g here (full q (said f w.writes)) }
 
-  pub owed_nothing : rest (take n mid) ≡ push [] (take n mid) → WritesIn room text mid (Done n) whole
+  pub owed_nothing : rest (take n mid) ≡ push [] (take n mid) → WritesIn room text mid (Ok n) whole
   owed_nothing e = record { long = p.still.long; behind = p.still.behind; writes = owes_nothing p.owes (at_front rest ∙ e ∙ sym (at_front (push []))) }
 
 -- the rest in other words
@@ -114,10 +114,10 @@ alike_in {room} {before} {after} {r} {o} {p} e w = subst (λ (x : Out). WritesIn
 
 -- two appends
 module _ {room len : ℕ} {d mid : List ℕ} {r : Wrote} (h : len ≤ room) (k : room ≤ length d) (x y : List ℕ) (w : WritesIn room d mid r (push x (take len d))) where
-  pub pair_go : {n : ℕ} → r ≡ Done n → OwesIn room d mid n (push y) (push (x ++ y) (take len d))
+  pub pair_go : {n : ℕ} → r ≡ Ok n → OwesIn room d mid n (push y) (push (x ++ y) (take len d))
   pair_go q = owed_step (owed_all room d len (push (x ++ y)) h k refl) (push x) (push y) (push_both x y (take len d)) q w
 
-  pub pair_stop : r ≡ Full → WritesIn room d mid Full (push (x ++ y) (take len d))
+  pub pair_stop : {f g : Full} → r ≡ Err f → WritesIn room d mid (Err g) (push (x ++ y) (take len d))
   pair_stop q = owed_stop (owed_all room d len (push (x ++ y)) h k refl) (push x) (push y) (push_both x y (take len d)) q w
 
 -- the front of the memory is lent, and comes back as ys

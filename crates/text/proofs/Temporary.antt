@@ -15,9 +15,9 @@ use Rattle.spec.specs.Out.{Out, Step, and_then, push, nested, inside, beside}
 use Rattle.spec.specs.Md.TextUtils.{each_byte, quote_escaped}
 use Rattle.text.specs.Lifted.{Lifted}
 use Rattle.text.specs.Source.{WritesIn}
-use Rattle.text.specs.Writes.{Written, Refused, Says, Writes}
-use Rattle.text.specs.declared.buffer.Wrote.{Wrote}
-use Rattle.text.specs.declared.buffer.Wrote.TheVariants.{Done, Full}
+use Rattle.text.specs.Writes.{Written, Refused, Says, Writes, Wrote}
+use Rattle.std.specs.Prelude.{Ok, Err}
+use Rattle.text.specs.declared.buffer.Full.{Full}
 use Rattle.text.proofs.Writing.{push_both, reaches}
 use Rattle.text.proofs.Sourcing.{part_is, part_none}
 
@@ -74,14 +74,14 @@ module _ (xs : List ℕ) (len : ℕ) (h : len ≤ length xs) (o : Out) where
           t = length-take-le len xs h
 
           go : (r : Wrote) → Says base (take base final) r (push (g o.text) (take len xs)) → Says (length xs) final r (nested o (λ t. beside (length o.text) (push (g o.text) t)) (take len xs))
-          go (Done m) y =
+          go (Ok m) y =
               record {
                 long = v.long ∙ lifted_long;
                 fits = omega (arith, y.fits, w.fits, w.count, lent_length, back_length, temp_fits, t);
                 count = y.count;
                 text_is = sym (take-take m base final (omega (arith, reaches y, y.long))) ∙ y.text_is;
               }
-          go Full y = record { over = omega (arith, y.over, w.count, back_length, temp_fits, t) }
+          go (Err _) y = record { over = omega (arith, y.over, w.count, back_length, temp_fits, t) }
 
 -- ---- quote marks escaped
 

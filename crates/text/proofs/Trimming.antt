@@ -5,8 +5,8 @@ use mathlib.Core.Bool.{Bool, true, false}
 use mathlib.Core.List.{List, [], ◌∷◌, ◌++◌}
 use native.Mathlib.Omega.{arith}
 use native.Mathlib.Numerals.{add-one}
-use lib.ListN.{length, take, drop, get_or}
-use lib.Seq.{drop-cons, take-suc, take_all}
+use lib.ListN.{length, take, drop, get_or, length-take}
+use lib.Seq.{drop-cons, take-suc, take_all, take-take, take-length}
 use Rattle.spec.specs.Bytes.{one, unless, trim_end_matches, trim_start_matches}
 
 -- a byte of the class at the end goes
@@ -73,3 +73,21 @@ skip_none p [] zero h = refl
 skip_none p [] (suc i) h = refl
 skip_none p (x ∷ s) zero h = absurd (omega arith)
 skip_none p (x ∷ s) (suc i) h = skip_none p s i (omega arith)
+
+-- ---- a front of s, without its last byte
+pub front_less : (s r : List ℕ) → length r ≤ length s → take (length r) s ≡ r → take (length (take (length r - 1) r)) s ≡ take (length r - 1) r
+front_less s r h e =
+    let n : length (take (length r - 1) r) ≡ length r - 1 = omega (arith, length-take (length r - 1) r) in
+    ap (λ (k : ℕ). take k s) n ∙ sym (take-take (length r - 1) (length r) s (omega arith)) ∙ ap (λ (l : List ℕ). take (length r - 1) l) e
+
+pub last_less : (p : ℕ → Bool) (r : List ℕ) → 1 ≤ length r → p (get_or r (length r - 1) 0) ≡ true
+    → trim_end_matches (one p) r ≡ trim_end_matches (one p) (take (length r - 1) r)
+last_less p r h e = ap (trim_end_matches (one p)) (sym (take-length r)) ∙ trim_less p r (length r) (omega arith) (omega arith) e
+
+pub last_here : (p : ℕ → Bool) (r : List ℕ) → 1 ≤ length r → p (get_or r (length r - 1) 0) ≡ false → trim_end_matches (one p) r ≡ r
+last_here p r h e =
+    ap (trim_end_matches (one p)) (sym (take-length r)) ∙ trim_here p r (length r) (omega arith) (omega arith) e ∙ take-length r
+
+pub last_none : (p : ℕ → Bool) (r : List ℕ) → length r < 1 → trim_end_matches (one p) r ≡ r
+last_none p [] h = trim_none p [] 0 (omega arith)
+last_none p (x ∷ r) h = absurd (omega arith)

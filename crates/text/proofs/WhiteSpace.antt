@@ -7,9 +7,9 @@ use native.Mathlib.Omega.{arith}
 use lib.Dec.{eqb}
 use borrow.Author.Tests.{eqb-true, eqb-false}
 use lib.ListN.{length, take, drop, get_or, length-drop, take-append-drop}
-use lib.Seq.{slice, slice-cons, slice_empty, length-take-le, take-take}
+use lib.Seq.{slice, slice-cons, slice_empty, length-take-le, take-take, take-length}
 use Rattle.spec.specs.Bytes.{Bytes, same, among, unless, white_space_of, is_white_space, trim_end_matches, trim_end}
-use Rattle.text.specs.Trimmed.{WhiteEnd}
+use Rattle.text.specs.Trimmed.{WithoutEnd}
 
 -- no White_Space character has more than three bytes
 pub long : (a b c d : ℕ) (s : List ℕ) → is_white_space (a ∷ b ∷ c ∷ d ∷ s) ≡ false
@@ -94,30 +94,39 @@ module _ (s : List ℕ) (n : ℕ) (h : n ≤ length s) where
               let c : n - k ≡ 3 → ⊥ = eqb-false (n - k) 3 g in
               long_not (slice k n s) (omega (arith, length-drop k (take n s), length-take-le n s h))
 
-  pub end_one : 0 < n → is_white_space (get_or s (n - 1) 0 ∷ []) ≡ true → WhiteEnd s n 1
-  end_one p e = record { within = omega arith; goes = λ z. goes 1 (get_or s (n - 1) 0 ∷ []) (omega arith) (last_one p) (one_goes is_white_space 0 0 (get_or s (n - 1) 0) e); stays = λ z. absurd (omega arith) }
+-- what goes is the last k bytes of s
+without : (s : List ℕ) (k : ℕ) → 0 < k → k ≤ length s → trim_end (take (length s) s) ≡ trim_end (take (length s - k) s) → WithoutEnd s (take (length s - k) s)
+without s k p h e =
+    let m : length (take (length s - k) s) ≡ length s - k = length-take-le (length s - k) s (omega arith) in
+    record { shorter = omega (arith, m); is = ap (λ (j : ℕ). take j s) m; trims = ap trim_end (sym (take-length s)) ∙ e }
 
-  pub end_two : 1 < n → is_white_space (get_or s (n - 1) 0 ∷ []) ≡ false → is_white_space (get_or s (n - 2) 0 ∷ get_or s (n - 1) 0 ∷ []) ≡ true → WhiteEnd s n 2
-  end_two p e f =
-      record {
-        within = omega arith;
-        goes = λ z. goes 2 (get_or s (n - 2) 0 ∷ get_or s (n - 1) 0 ∷ []) (omega arith) (last_two p) (two_go is_white_space 0 (get_or s (n - 2) 0) (get_or s (n - 1) 0) e f);
-        stays = λ z. absurd (omega arith);
-      }
+module _ (s : List ℕ) where
+  abbrev last : ℕ → ℕ
+  last k = get_or s (length s - k) 0
 
-  pub end_three : 2 < n → is_white_space (get_or s (n - 1) 0 ∷ []) ≡ false → is_white_space (get_or s (n - 2) 0 ∷ get_or s (n - 1) 0 ∷ []) ≡ false
-      → is_white_space (get_or s (n - 3) 0 ∷ get_or s (n - 2) 0 ∷ get_or s (n - 1) 0 ∷ []) ≡ true → WhiteEnd s n 3
-  end_three p e f g =
-      record {
-        within = omega arith;
-        goes = λ z. goes 3 (get_or s (n - 3) 0 ∷ get_or s (n - 2) 0 ∷ get_or s (n - 1) 0 ∷ []) (omega arith) (last_three p) (three_go is_white_space (get_or s (n - 3) 0) (get_or s (n - 2) 0) (get_or s (n - 1) 0) e f g);
-        stays = λ z. absurd (omega arith);
-      }
+  pub end_one : 1 ≤ length s → is_white_space (last 1 ∷ []) ≡ true → WithoutEnd s (take (length s - 1) s)
+  end_one h e = without s 1 (omega arith) h (goes s (length s) (omega arith) 1 _ h (last_one s (length s) (omega arith) h) (one_goes is_white_space 0 0 (last 1) e))
 
-  pub end_none : 0 < n → is_white_space (get_or s (n - 1) 0 ∷ []) ≡ false → (1 < n → is_white_space (get_or s (n - 2) 0 ∷ get_or s (n - 1) 0 ∷ []) ≡ false)
-      → (2 < n → is_white_space (get_or s (n - 3) 0 ∷ get_or s (n - 2) 0 ∷ get_or s (n - 1) 0 ∷ []) ≡ false) → WhiteEnd s n 0
-  end_none p x y z = record { within = omega arith; goes = λ w. absurd (omega arith); stays = λ w. none_goes p x y z }
+  pub end_two : 2 ≤ length s → is_white_space (last 1 ∷ []) ≡ false → is_white_space (last 2 ∷ last 1 ∷ []) ≡ true → WithoutEnd s (take (length s - 2) s)
+  end_two h e f = without s 2 (omega arith) h (goes s (length s) (omega arith) 2 _ h (last_two s (length s) (omega arith) h) (two_go is_white_space 0 (last 2) (last 1) e f))
 
-pub end_empty : (s : List ℕ) (n : ℕ) → n ≤ 0 → trim_end (take n s) ≡ take n s
-unfolding trim_end trim_end_matches
-end_empty s n h = let e : n ≡ 0 = omega arith in rw e
+  pub end_three : 3 ≤ length s → is_white_space (last 1 ∷ []) ≡ false → is_white_space (last 2 ∷ last 1 ∷ []) ≡ false → is_white_space (last 3 ∷ last 2 ∷ last 1 ∷ []) ≡ true
+      → WithoutEnd s (take (length s - 3) s)
+  end_three h e f g =
+      without s 3 (omega arith) h (goes s (length s) (omega arith) 3 _ h (last_three s (length s) (omega arith) h) (three_go is_white_space (last 3) (last 2) (last 1) e f g))
+
+  pub end_empty : length s < 1 → trim_end s ≡ s
+  unfolding trim_end trim_end_matches
+  end_empty h = by s h
+    where
+      by : (s : List ℕ) → length s < 1 → trim_end s ≡ s
+      by [] h = refl
+      by (x ∷ s) h = absurd (omega arith)
+
+  pub end_none : 1 ≤ length s → is_white_space (last 1 ∷ []) ≡ false → (1 < length s → is_white_space (last 2 ∷ last 1 ∷ []) ≡ false)
+      → (2 < length s → is_white_space (last 3 ∷ last 2 ∷ last 1 ∷ []) ≡ false) → trim_end s ≡ s
+  end_none h x y z = ap trim_end (sym (take-length s)) ∙ none_goes s (length s) (omega arith) h x y z ∙ take-length s
+
+-- a front of a front
+pub front_of_front : (s r t : List ℕ) → take (length r) s ≡ r → length t < length r → take (length t) r ≡ t → take (length t) s ≡ t
+front_of_front s r t e h f = sym (take-take (length t) (length r) s (omega (arith, h))) ∙ ap (take (length t)) e ∙ f

@@ -7,9 +7,9 @@ use native.Mathlib.Omega.{arith}
 use lib.ListN.{length, take, length-append, length-take}
 use lib.Seq.{length-take-le}
 use Rattle.spec.specs.Out.{Out, Step, and_then, keep, push}
-use Rattle.text.specs.Writes.{Written, Refused, Says, Writes}
-use Rattle.text.specs.declared.buffer.Wrote.{Wrote}
-use Rattle.text.specs.declared.buffer.Wrote.TheVariants.{Done, Full}
+use Rattle.text.specs.Writes.{Written, Refused, Says, Writes, Wrote}
+use Rattle.std.specs.Prelude.{Ok, Err}
+use Rattle.text.specs.declared.buffer.Full.{Full}
 
 -- what a test chooses
 pub yes : {A : Type 0} {b : Bool} (x y : A) → b ≡ true → cond b x y ≡ x
@@ -19,11 +19,11 @@ pub no : {A : Type 0} {b : Bool} (x y : A) → b ≡ false → cond b x y ≡ y
 no {A} {b} x y e = ap (λ (t : Bool). cond t x y) e
 
 -- what an answer says in the arm of a `match` that has it
-pub done : {room : ℕ} {after : List ℕ} {r : Wrote} {n : ℕ} {o : Out} → r ≡ Done n → Writes room after r o → Written room after n o
+pub done : {room : ℕ} {after : List ℕ} {r : Wrote} {n : ℕ} {o : Out} → r ≡ Ok n → Writes room after r o → Written room after n o
 done {room} {after} {r} {n} {o} e w = subst (λ (x : Wrote). Says room after x o) e w.says
 
-pub full : {room : ℕ} {after : List ℕ} {r : Wrote} {o : Out} → r ≡ Full → Writes room after r o → Refused room o
-full {room} {after} {r} {o} e w = subst (λ (x : Wrote). Says room after x o) e w.says
+pub full : {room : ℕ} {after : List ℕ} {r : Wrote} {e : Full} {o : Out} → r ≡ Err e → Writes room after r o → Refused room o
+full {room} {after} {r} {e} {o} q w = subst (λ (x : Wrote). Says room after x o) q w.says
 
 -- the same answer for an equal outcome
 pub alike : {room : ℕ} {after : List ℕ} {r : Wrote} {o p : Out} → o ≡ p → Writes room after r p → Writes room after r o
@@ -51,8 +51,8 @@ pub then : {room : ℕ} {mid after : List ℕ} {n : ℕ} {o : Out} {r : Wrote} (
 then {room} {mid} {after} {n} {o} {r} f w x = record { says = go r x.says }
   where
     go : (r : Wrote) → Says room after r (f (take n mid)) → Says room after r (and_then o f)
-    go (Done m) y = then_done f w y
-    go Full y = then_full f w y
+    go (Ok m) y = then_done f w y
+    go (Err _) y = then_full f w y
 
 -- a refusal on the way is a refusal of the whole
 pub refused : {room : ℕ} {o : Out} (f : Step) → Refused room o → Refused room (and_then o f)
@@ -89,15 +89,15 @@ module _ {room : ℕ} {mid : List ℕ} {n : ℕ} {rest : Step} {whole : Out} (p 
           goes = λ after r x. p.goes after r (alike e (then g v x));
         }
 
-    pub owes_over : {after : List ℕ} → Refused (length mid) (f (take n mid)) → Writes room after Full whole
-    owes_over {after} w =
+    pub owes_over : {after : List ℕ} {y : Full} → Refused (length mid) (f (take n mid)) → Writes room after (Err y) whole
+    owes_over {after} {y} w =
         let v : Refused room (f (take n mid)) = subst (λ (k : ℕ). Refused k (f (take n mid))) p.long w in
-        p.goes after Full (alike e (record { says = refused g v }))
+        p.goes after (Err y) (alike e (record { says = refused g v }))
 
-    pub owes_step : {after : List ℕ} {m : ℕ} {r : Wrote} → r ≡ Done m → Writes (length mid) after r (f (take n mid)) → Owes room after m g whole
+    pub owes_step : {after : List ℕ} {m : ℕ} {r : Wrote} → r ≡ Ok m → Writes (length mid) after r (f (take n mid)) → Owes room after m g whole
     owes_step q w = owes_on (done q w)
 
-    pub owes_stop : {after z : List ℕ} {r : Wrote} → r ≡ Full → Writes (length mid) after r (f (take n mid)) → Writes room z Full whole
+    pub owes_stop : {after z : List ℕ} {r : Wrote} {x y : Full} → r ≡ Err x → Writes (length mid) after r (f (take n mid)) → Writes room z (Err y) whole
     owes_stop q w = owes_over (full q w)
 
 -- nothing is left
@@ -112,11 +112,11 @@ keeps_nothing d n h =
     record { long = refl; fits = omega arith; count = omega (arith, length-append (take n d) []); text_is = sym (append-nil (take n d)) }
 
 pub owes_none : {room : ℕ} {mid : List ℕ} {n : ℕ} {rest : Step} {whole : Out} → Owes room mid n rest whole → rest (take n mid) ≡ keep (take n mid)
-    → Writes room mid (Done n) whole
+    → Writes room mid (Ok n) whole
 owes_none {room} {mid} {n} p e = owes_last p (alike e (record { says = keeps mid n p.reach }))
 
 pub owes_nothing : {room : ℕ} {mid : List ℕ} {n : ℕ} {rest : Step} {whole : Out} → Owes room mid n rest whole → rest (take n mid) ≡ push [] (take n mid)
-    → Writes room mid (Done n) whole
+    → Writes room mid (Ok n) whole
 owes_nothing {room} {mid} {n} p e = owes_last p (alike e (record { says = keeps_nothing mid n p.reach }))
 
 -- ---- steps in equal forms
@@ -130,10 +130,10 @@ push_both x y t = same_out (sym (append_assoc t x y)) (omega (arith, length-appe
 
 -- x is appended, and y is left
 module _ {room : ℕ} {mid : List ℕ} {n : ℕ} {whole : Out} (x y : List ℕ) (p : Owes room mid n (push (x ++ y)) whole) where
-  pub push_on : {after : List ℕ} {m : ℕ} {r : Wrote} → r ≡ Done m → Writes (length mid) after r (push x (take n mid)) → Owes room after m (push y) whole
+  pub push_on : {after : List ℕ} {m : ℕ} {r : Wrote} → r ≡ Ok m → Writes (length mid) after r (push x (take n mid)) → Owes room after m (push y) whole
   push_on q w = owes_step p (push x) (push y) (push_both x y (take n mid)) q w
 
-  pub push_stop : {after z : List ℕ} {r : Wrote} → r ≡ Full → Writes (length mid) after r (push x (take n mid)) → Writes room z Full whole
+  pub push_stop : {after z : List ℕ} {r : Wrote} {f g : Full} → r ≡ Err f → Writes (length mid) after r (push x (take n mid)) → Writes room z (Err g) whole
   push_stop q w = owes_stop p (push x) (push y) (push_both x y (take n mid)) q w
 
 pub keep_then : (t : List ℕ) (f : Step) → and_then (keep t) f ≡ f t

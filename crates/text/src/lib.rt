@@ -3,4 +3,6 @@
 #![tactic(auto)]
 
 pub mod buffer;
+pub mod class;
 pub mod lifted;
+pub mod white_space;

@@ -3,7 +3,7 @@ ghost use Rattle.std.specs.Prelude.{◌≤◌, length, take, drop};
 ghost use Rattle.spec.specs.Out.{push, beside};
 ghost use Rattle.text.specs.Writes.{Writes};
 
-use crate::buffer::{Wrote, drop_front};
+use crate::buffer::{Full, Wrote, drop_front};
 
 // Appends the temporary; in_being bytes of it count meanwhile.
 pub fn push_lifted(text: &mut [u8], base: usize, len: usize, in_being: usize) -> Wrote
@@ -12,9 +12,9 @@ pub fn push_lifted(text: &mut [u8], base: usize, len: usize, in_being: usize) ->
 {
     let room = text.len();
     if base - len < in_being {
-        return Wrote::Full;
+        return Err(Full);
     }
     let n = room - base;
     drop_front(&mut text[len..], base - len, n);
-    Wrote::Done(len + n)
+    Ok(len + n)
 }

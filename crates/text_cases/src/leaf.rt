@@ -11,7 +11,7 @@ use text::buffer::Wrote;
 
 // No case has this answer.
 fn unknown() -> Wrote {
-    Wrote::Done(999999)
+    Ok(999999)
 }
 
 fn text_utils(name: &[u8], text: &mut [u8], len: usize, case: Case, a: &[u8], b: &[u8]) -> Wrote
@@ -30,7 +30,7 @@ fn text_utils(name: &[u8], text: &mut [u8], len: usize, case: Case, a: &[u8], b:
         return normalized::text_utils::escape_trailing_bang(text, len);
     }
     if is_same(name, b"trim_trailing_space") {
-        return Wrote::Done(normalized::text_utils::trim_trailing_space(a));
+        return Ok(normalized::text_utils::trim_trailing_space(a));
     }
     text_utils_end(name, text, len, a, b)
 }
@@ -51,7 +51,7 @@ fn text_utils_end(name: &[u8], text: &mut [u8], len: usize, a: &[u8], b: &[u8]) 
         return normalized::text_utils::push_block_space(text, len);
     }
     if is_same(name, b"trim_space") {
-        return Wrote::Done(normalized::text_utils::trim_space(text, len));
+        return Ok(normalized::text_utils::trim_space(text, len));
     }
     unknown()
 }
@@ -75,7 +75,7 @@ fn code_block(name: &[u8], text: &mut [u8], len: usize, case: Case, a: &[u8], b:
     requires { len ≤ length text.old }
 {
     if is_same(name, b"max_backtick_run") {
-        return Wrote::Done(marks::code::max_backtick_run(a));
+        return Ok(marks::code::max_backtick_run(a));
     }
     if is_same(name, b"sanitize_attr_value") {
         return marks::code::push_sanitized(text, len, a);
@@ -114,7 +114,7 @@ fn table(name: &[u8], text: &mut [u8], len: usize, a: &[u8]) -> Wrote
         return marks::table::add_cell_block_break(text, len, a);
     }
     if is_same(name, b"trim_trailing_cell_break") {
-        return Wrote::Done(marks::table::trim_trailing_cell_break(a));
+        return Ok(marks::table::trim_trailing_cell_break(a));
     }
     if is_same(name, b"escape_table_cell_inplace") {
         return marks::table::escape_table_cell_inplace(text, len);

@@ -18,18 +18,18 @@ use leaf::run;
 use reading::read_full;
 use setup::Case;
 use std::io;
-use text::buffer::{Wrote, front};
+use text::buffer::{Full, Wrote, front};
 
 // Whether the answer is the stored one.
 fn is_answer(r: Wrote, answer: &[u8]) -> bool {
     match r {
-        Wrote::Done(n) => {
+        Ok(n) => {
             if is_same(answer, b"F") {
                 return false;
             }
             number(answer) == n
         }
-        Wrote::Full => is_same(answer, b"F"),
+        Err(Full) => is_same(answer, b"F"),
     }
 }
 
@@ -47,7 +47,7 @@ fn run_line(line: &[u8], memory: &mut [u8], len: usize, a: &[u8], b: &[u8]) -> W
         y: number(field(line, 5)),
     };
     if memory.len() < len {
-        return Wrote::Full;
+        return Err(Full);
     }
     run(field(line, 0), field(line, 1), memory, len, case, a, b)
 }

@@ -4,7 +4,7 @@ ghost use Rattle.std.specs.Prelude.{◌≤◌, length};
 use lists_links::list::Item;
 use lists_links::list_number::{Parsed, parse_list_number};
 use spec::ctx::{FormatOpts, ListContext, ListKind};
-use text::buffer::{Wrote, push_all};
+use text::buffer::{Full, Wrote, push_all};
 
 // The numbers of a case: options as bits, and two that each function reads in its own way.
 #[derive(Clone, Copy)]
@@ -56,13 +56,13 @@ pub fn context(case: Case) -> ListContext {
 }
 
 pub fn truth(b: bool) -> Wrote {
-    if b { Wrote::Done(1) } else { Wrote::Done(0) }
+    if b { Ok(1) } else { Ok(0) }
 }
 
 pub fn parsed(value: &[u8]) -> Wrote {
     match parse_list_number(value) {
-        Parsed::Number(n) => Wrote::Done(n as usize),
-        Parsed::Nothing => Wrote::Full,
+        Parsed::Number(n) => Ok(n as usize),
+        Parsed::Nothing => Err(Full),
     }
 }
 
@@ -85,12 +85,10 @@ pub fn indented(text: &mut [u8], len: usize, case: Case, a: &[u8]) -> Wrote
     let it = item(case);
     let n = a.len();
     if text.len() - len < n {
-        return Wrote::Full;
+        return Err(Full);
     }
-    match push_all(text, len, a) {
-        Wrote::Done(_) => lists_links::list_indented::push_indented(text, len, n, it),
-        Wrote::Full => Wrote::Full,
-    }
+    push_all(text, len, a)?;
+lists_links::list_indented::push_indented(text, len, n, it)
 }
 
 // a stands behind the text; 32 says that it counts.
@@ -99,18 +97,14 @@ pub fn code(text: &mut [u8], len: usize, case: Case, a: &[u8]) -> Wrote
 {
     let n = a.len();
     if text.len() - len < n {
-        return Wrote::Full;
+        return Err(Full);
     }
     let counts = has(case, 32);
-    match push_all(text, len, a) {
-        Wrote::Done(_) => {
-            if counts {
+    push_all(text, len, a)?;
+if counts {
                 return marks::code::push_code_text(text, len, len, n, n);
             }
             marks::code::push_code_text(text, len, len, n, 0)
-        }
-        Wrote::Full => Wrote::Full,
-    }
 }
 
 // a stands behind the text, b is the language.
@@ -119,12 +113,10 @@ pub fn fenced(text: &mut [u8], len: usize, a: &[u8], b: &[u8]) -> Wrote
 {
     let n = a.len();
     if text.len() - len < n {
-        return Wrote::Full;
+        return Err(Full);
     }
-    match push_all(text, len, a) {
-        Wrote::Done(_) => marks::code::push_fenced_block(text, len, len, n, b),
-        Wrote::Full => Wrote::Full,
-    }
+    push_all(text, len, a)?;
+marks::code::push_fenced_block(text, len, len, n, b)
 }
 
 // a stands behind the text, b is the marker.
@@ -133,12 +125,10 @@ pub fn emphasized(text: &mut [u8], len: usize, a: &[u8], b: &[u8]) -> Wrote
 {
     let n = a.len();
     if text.len() - len < n {
-        return Wrote::Full;
+        return Err(Full);
     }
-    match push_all(text, len, a) {
-        Wrote::Done(_) => marks::emphasis::push_emphasis(text, len, n, b),
-        Wrote::Full => Wrote::Full,
-    }
+    push_all(text, len, a)?;
+marks::emphasis::push_emphasis(text, len, n, b)
 }
 
 // A destination is no longer than a sheet.
@@ -146,7 +136,7 @@ pub fn destination(text: &mut [u8], len: usize, a: &[u8]) -> Wrote
     requires { len ≤ length text.old }
 {
     if 1048576 < a.len() {
-        return Wrote::Full;
+        return Err(Full);
     }
     lists_links::url::push_md_url(text, len, a)
 }
@@ -156,10 +146,10 @@ pub fn image(text: &mut [u8], len: usize, a: &[u8]) -> Wrote
     requires { len ≤ length text.old }
 {
     if a.len() < 3 {
-        return Wrote::Full;
+        return Err(Full);
     }
     if 1048576 < a.len() {
-        return Wrote::Full;
+        return Err(Full);
     }
     lists_links::image::write_img(text, len, a, 0)
 }

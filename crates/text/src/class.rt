@@ -1,0 +1,107 @@
+// Sets of bytes, for the functions that trim, skip and test by one.
+
+#![tactic(auto, unfolding(spec::specs::Bytes::blank, spec::specs::Bytes::white, spec::specs::Bytes::isin, spec::specs::Bytes::digit, spec::specs::Md::Elements::Code::is_tab_or_blank, crate::specs::Class::ordinary))]
+
+ghost use Rattle.std.specs.Prelude.{◌≡◌, ℕ, Bool, not, eqb};
+ghost use Rattle.spec.specs.Bytes.{ascii, isin, white, digit, blank};
+ghost use Rattle.spec.specs.Md.Elements.Code.{is_tab_or_blank};
+ghost use Rattle.text.specs.Class.{ordinary};
+
+pub trait ByteClass {
+    // The bytes of the class.
+    ghost holds: { ℕ → Bool };
+
+    fn has(b: u8) -> bool
+        ensures { result ≡ holds b };
+}
+
+pub struct Blank;
+
+impl ByteClass for Blank {
+    ghost holds = { blank };
+
+    fn has(b: u8) -> bool {
+        b == b' '
+    }
+}
+
+pub struct White;
+
+impl ByteClass for White {
+    ghost holds = { white };
+
+    fn has(b: u8) -> bool {
+        b.is_ascii_whitespace()
+    }
+}
+
+// Not white.
+pub struct Black;
+
+impl ByteClass for Black {
+    ghost holds = { λ b. not (white b) };
+
+    fn has(b: u8) -> bool {
+        !b.is_ascii_whitespace()
+    }
+}
+
+pub struct Digit;
+
+impl ByteClass for Digit {
+    ghost holds = { digit };
+
+    fn has(b: u8) -> bool {
+        b.is_ascii_digit()
+    }
+}
+
+// One byte.
+pub struct Only<const B: u8>;
+
+impl<const B: u8> ByteClass for Only<B> {
+    ghost holds = { λ b. eqb b B };
+
+    fn has(b: u8) -> bool {
+        b == B
+    }
+}
+
+pub struct TabOrBlank;
+
+impl ByteClass for TabOrBlank {
+    ghost holds = { is_tab_or_blank };
+
+    fn has(b: u8) -> bool {
+        matches!(b, b'\t' | b' ')
+    }
+}
+
+// Anything but a blank and a line end.
+pub struct InWord;
+
+impl ByteClass for InWord {
+    ghost holds = { λ b. not (isin b (ascii " \n")) };
+
+    fn has(b: u8) -> bool {
+        !matches!(b, b' ' | b'\n')
+    }
+}
+
+// Neither white nor ever escaped behind the beginning of a line.
+pub struct Ordinary;
+
+impl ByteClass for Ordinary {
+    ghost holds = { ordinary };
+
+    // The letters come first: they are most of a text.
+    fn has(b: u8) -> bool {
+        match b {
+            b'a'..=b'z' | b'{' | b'}' | 127.. => true,
+            b'=' | b'>' | b'?' | b'@' | b'A'..=b'Z' | b'^' => true,
+            b'"'..=b')' | b'+'..=b';' => true,
+            14..32 | ..9 | 11 => true,
+            _ => false,
+        }
+    }
+}
