@@ -19,10 +19,9 @@ use crate::pre::write_pre;
 use marks::code::push_code_text;
 use nodes::skip_md::write_skip_md;
 use spec::ctx::FormatOpts;
-use text::buffer::{
-    Class, Wrote, contains_byte, ends_with_byte, is_white_space_1, is_white_space_2,
-    is_white_space_3, reread, trim_end, trim_end_matches, trim_start_matches,
-};
+use text::buffer::{Wrote, contains_byte, ends_with_byte, reread, trim_end_matches, trim_start_matches};
+use text::class::{Blank, TabOrBlank};
+use text::white_space::{is_white_space_1, is_white_space_2, is_white_space_3, trim_end};
 use tree::nodes::{node_end, node_place, text_at};
 
 // How many bytes the White_Space character has that begins s; 0 where none does.
@@ -104,7 +103,7 @@ fn begins_line(sheet: &[u8], nodes: &[u8], from: usize, to: usize) -> bool
         let part = text_at(sheet, place);
         let start = part.start;
         let end = part.end;
-        let n = start + trim_start_matches(&sheet[start..end], Class::TabOrBlank);
+        let n = start + trim_start_matches::<TabOrBlank>(&sheet[start..end]);
         if n < end {
             return sheet[n] == 10;
         }
@@ -117,7 +116,7 @@ fn begins_line(sheet: &[u8], nodes: &[u8], from: usize, to: usize) -> bool
 fn ended_by(s: &[u8], before: bool) -> bool
     ensures { result ≡ ended_by before s.now }
 {
-    let n = trim_end_matches(s, Class::TabOrBlank);
+    let n = trim_end_matches::<TabOrBlank>(s);
     if n == 0 {
         return before;
     }
@@ -147,7 +146,7 @@ fn code_end(s: &[u8], ended: bool) -> usize
     ensures { Trimmed s.now result (cond ended (trim_blanks s.now) s.now) }
 {
     if ended {
-        return trim_end_matches(s, Class::Blank);
+        return trim_end_matches::<Blank>(s);
     }
     s.len()
 }
@@ -157,7 +156,7 @@ fn code_start(s: &[u8], begun: bool) -> usize
     ensures { Skipped s.now result (cond begun (trim_start_matches blank s.now) s.now) }
 {
     if begun {
-        return trim_start_matches(s, Class::Blank);
+        return trim_start_matches::<Blank>(s);
     }
     0
 }

@@ -12,7 +12,8 @@ ghost use Rattle.elements.specs.Languages.{Language, Within};
 ghost use Rattle.nodes.specs.Stands.{Siblings, ElementAt, Placed};
 
 use nodes::nodes::node_name;
-use text::buffer::{Class, starts_with, trim_start_matches};
+use text::buffer::{starts_with, trim_start_matches};
+use text::class::{Black, White};
 use tree::attributes::{Value, attribute, language_attribute};
 use tree::nodes::{node_end, node_parent, node_place};
 
@@ -46,7 +47,7 @@ fn next_word(sheet: &[u8], i: usize, to: usize) -> usize
     requires { (i ≤ to) × (to ≤ length sheet.now) }
     ensures { WordAt sheet.now i to result }
 {
-    i + trim_start_matches(&sheet[i..to], Class::White)
+    i + trim_start_matches::<White>(&sheet[i..to])
 }
 
 // Where the word at i ends.
@@ -54,7 +55,7 @@ fn word_end(sheet: &[u8], i: usize, to: usize) -> usize
     requires { (i < to) × (to ≤ length sheet.now) × (white (get_or sheet.now i 0) ≡ false) }
     ensures { WordEnd sheet.now i to result }
 {
-    i + trim_start_matches(&sheet[i..to], Class::Black)
+    i + trim_start_matches::<Black>(&sheet[i..to])
 }
 
 // The language in the words of a class that stands from `from` to `to`.

@@ -9,7 +9,8 @@ use lists_links::link::push_link_end;
 use normalized::normalize_own::push_normalized_own;
 use normalized::text_utils::escape_trailing_bang;
 use spec::ctx::FormatOpts;
-use text::buffer::{Class, Wrote, all_in, lift, push_byte};
+use text::buffer::{Wrote, all_in, lift, push_byte};
+use text::class::{White};
 use text::lifted::push_lifted;
 
 // The opening bracket.
@@ -119,7 +120,7 @@ pub fn push_text_link(
 {
     let own = opts.fresh();
     let end = len + n;
-    if all_in(&text[len..end], Class::White) {
+    if all_in::<White>(&text[len..end]) {
         return push_blank_link(text, len, n, own);
     }
     push_link(sheet, text, len, n, place, from, to, true, own)

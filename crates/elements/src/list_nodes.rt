@@ -15,7 +15,8 @@ ghost use Rattle.nodes.specs.Stands.{Siblings, SomeNode, NodeAt, ElementAt, Some
 use lists_links::list_number::{Parsed, parse_list_number};
 use nodes::nodes::{is_white_space, node_name};
 use spec::ctx::ListKind;
-use text::buffer::{Class, all_in};
+use text::buffer::{all_in};
+use text::class::{White};
 use tree::attributes::{Value, attribute};
 use tree::nodes::{node_end, node_place, tag_at, text_at};
 
@@ -102,7 +103,7 @@ fn is_only_block(sheet: &[u8], nodes: &[u8], i: usize) -> bool
         let part = text_at(sheet, place);
         let start = part.start;
         let end = part.end;
-        return all_in(&sheet[start..end], Class::White);
+        return all_in::<White>(&sheet[start..end]);
     }
     if tag != 1 {
         return true;

@@ -16,7 +16,8 @@ use marks::code::{push_code_text, push_fenced_block};
 use nodes::nodes::push_text_of;
 use normalized::text_utils::push_block_space;
 use spec::ctx::FormatOpts;
-use text::buffer::{Class, Full, Wrote, is_in, push_byte, push_byte_if};
+use text::buffer::{Full, Wrote, push_byte, push_byte_if};
+use text::class::{ByteClass, White};
 use tree::attributes::Value;
 use tree::nodes::{node_end, node_place, text_at};
 
@@ -32,7 +33,7 @@ fn push_word_byte(text: &mut [u8], len: usize, b: u8, lead: bool) -> Wrote
     requires { len ≤ length text.old }
     ensures { Writes (length text.old) text.new result (push (word_byte lead b) (take len text.old)) }
 {
-    if is_in(Class::White, b) {
+    if White::has(b) {
         return Ok(len);
     }
     let n = push_byte_if(text, len, 32, lead)?;
@@ -57,7 +58,7 @@ fn join_words(text: &mut [u8], len: usize, s: &[u8], some: bool, gap: bool) -> J
                 return Joined::Full;
             }
         }
-        white = is_in(Class::White, s[i]);
+        white = White::has(s[i]);
         any = any | !white;
         i += 1;
     }

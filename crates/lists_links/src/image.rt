@@ -13,7 +13,9 @@ ghost use Rattle.text.specs.Writes.{Writes};
 use crate::link::push_link_end;
 use normalized::normalize::push_normalized_text;
 use spec::ctx::FormatOpts;
-use text::buffer::{Class, Wrote, push_all, trim_end, trim_end_matches, trim_start_matches};
+use text::buffer::{Wrote, push_all, trim_end_matches, trim_start_matches};
+use text::class::{Black, Only, White};
+use text::white_space::{trim_end};
 use tree::attributes::{Value, attribute};
 
 // The value of an attribute, if it holds more than White_Space.
@@ -37,9 +39,9 @@ fn first_word(sheet: &[u8], from: usize, to: usize) -> Value
     requires { (from ≤ to) × (to ≤ length sheet.now) }
     ensures { Valued sheet.now result (def.first_source (some (take (to - from) (drop from sheet.now)))) }
 {
-    let start = from + trim_start_matches(&sheet[from..to], Class::White);
-    let end = start + trim_start_matches(&sheet[start..to], Class::Black);
-    let n = trim_end_matches(&sheet[start..end], Class::Comma);
+    let start = from + trim_start_matches::<White>(&sheet[from..to]);
+    let end = start + trim_start_matches::<Black>(&sheet[start..to]);
+    let n = trim_end_matches::<Only<b','>>(&sheet[start..end]);
     if n == 0 {
         return Value::Missing;
     }

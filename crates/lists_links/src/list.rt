@@ -10,10 +10,8 @@ ghost use Rattle.text.specs.Writes.{Writes, Written};
 use crate::ctx::{prefix_len, push_prefix};
 use normalized::text_utils::{push_linebreak, trim_trailing_space};
 use spec::ctx::ListContext;
-use text::buffer::{
-    Class, Wrote, drop_front, ends_with_byte, push_all, push_repeated, trim_end_matches,
-    trim_start_matches,
-};
+use text::buffer::{Wrote, drop_front, ends_with_byte, push_all, push_repeated, trim_end_matches, trim_start_matches};
+use text::class::{White};
 
 // What the loop over an item's children knows: the context after its number is written, how many blanks stand before its
 // blocks, the place where its content begins.
@@ -33,7 +31,7 @@ fn trim_before_item(text: &mut [u8], len: usize, blocks: bool) -> usize
     if !blocks {
         return n;
     }
-    let k = trim_start_matches(&text[..n], Class::White);
+    let k = trim_start_matches::<White>(&text[..n]);
     drop_front(text, k, n - k);
     n - k
 }
@@ -87,7 +85,7 @@ pub fn push_rule(text: &mut [u8], len: usize, item: Item) -> Wrote
     requires { len ≤ length text.old }
     ensures { Writes (length text.old) text.new result (rule_step (item_of item) (take len text.old)) }
 {
-    let n = trim_end_matches(&text[..len], Class::White);
+    let n = trim_end_matches::<White>(&text[..len]);
     if n <= item.start {
         return push_rule_line(text, n, item);
     }

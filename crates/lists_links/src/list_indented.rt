@@ -11,10 +11,9 @@ ghost use Rattle.text.specs.Writes.{Writes};
 
 use crate::list::{Item, push_line_start};
 use normalized::text_utils::push_linebreak;
-use text::buffer::{
-    Class, Wrote, all_in, ends_with_byte, lift, push_byte, trim_end, trim_end_matches,
-    trim_start_matches,
-};
+use text::buffer::{Wrote, all_in, ends_with_byte, lift, push_byte, trim_end_matches, trim_start_matches};
+use text::class::{Blank, Only};
+use text::white_space::{trim_end};
 
 // Whether the byte at k goes on with a character; none stands behind the end.
 fn continues(t: &[u8], k: usize) -> bool
@@ -63,7 +62,7 @@ fn at_line_start(t: &[u8], item: Item) -> bool
         return false;
     }
     let n = t.len() - indent;
-    if !all_in(&t[n..], Class::Blank) {
+    if !all_in::<Blank>(&t[n..]) {
         return false;
     }
     ends_with_byte(&t[..n], 10)
@@ -138,8 +137,8 @@ fn push_block(text: &mut [u8], room: usize, len: usize, item: Item) -> Wrote
     requires { (len ≤ room) × (room ≤ length text.old) }
     ensures { WritesIn room text.old text.new result (push (def.block_lines (item_of item) (split def.is_line_end (block_text (drop room text.old)))) (take len text.old)) }
 {
-    let from = room + trim_start_matches(&text[room..], Class::LineEnd);
-    let to = from + trim_end_matches(&text[from..], Class::LineEnd);
+    let from = room + trim_start_matches::<Only<b'\n'>>(&text[room..]);
+    let to = from + trim_end_matches::<Only<b'\n'>>(&text[from..]);
     push_lines(text, room, from, to, len, item)
 }
 

@@ -6,7 +6,8 @@ ghost use Rattle.spec.specs.Md.Elements.List as def;
 ghost use Rattle.lists_links.specs.Parsed.{parsed_of, signed, unsigned};
 ghost use Rattle.text.specs.Trimmed.{Skipped};
 
-use text::buffer::{Class, starts_with_byte, trim_start_matches};
+use text::buffer::{starts_with_byte, trim_start_matches};
+use text::class::{Digit, Only, White};
 
 // The number that an attribute's value says, if it says one.
 #[derive(Clone, Copy)]
@@ -18,7 +19,7 @@ pub enum Parsed {
 pub fn parse_list_number(value: &[u8]) -> Parsed
     ensures { result ≡ parsed_of (def.parse_list_number value.now) }
 {
-    let start = trim_start_matches(value, Class::White);
+    let start = trim_start_matches::<White>(value);
     parse_signed(&value[start..])
 }
 
@@ -27,7 +28,7 @@ fn parse_signed(value: &[u8]) -> Parsed
     ensures { result ≡ parsed_of (signed value.now) }
 {
     let sign = sign_len(value);
-    let digits_len = trim_start_matches(&value[sign..], Class::Digit);
+    let digits_len = trim_start_matches::<Digit>(&value[sign..]);
     if digits_len == 0 {
         return Parsed::Nothing;
     }
@@ -51,7 +52,7 @@ fn sign_len(value: &[u8]) -> usize
 fn clamped(digits: &[u8]) -> u32
     ensures { result ≡ def.clamped (trim_start_matches (λ b. eqb b 48) digits.now) }
 {
-    let zeros = trim_start_matches(digits, Class::Zero);
+    let zeros = trim_start_matches::<Only<b'0'>>(digits);
     if 9 < digits.len() - zeros {
         return 999999999;
     }

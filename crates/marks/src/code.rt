@@ -7,10 +7,8 @@ ghost use Rattle.marks.specs.Runs.{RunsBehind};
 ghost use Rattle.text.specs.Writes.{Writes};
 ghost use Rattle.spec.specs.Md.Elements.Code as def;
 
-use text::buffer::{
-    Class, Wrote, all_in, contains_byte, ends_with, ends_with_byte, is_in, lift, push_byte,
-    push_byte_if, push_repeated, starts_with_byte, trim_start_matches,
-};
+use text::buffer::{Wrote, all_in, contains_byte, ends_with, ends_with_byte, lift, push_byte, push_byte_if, push_repeated, starts_with_byte, trim_start_matches};
+use text::class::{Black, Blank, ByteClass, Digit, White};
 use text::lifted::push_lifted;
 
 // The longest run of backticks that has ended, and the run before what follows.
@@ -94,14 +92,14 @@ pub fn needs_space(s: &[u8]) -> bool
     ensures { result ≡ def.needs_space s.now }
 {
     (starts_with_byte(s, 96) | ends_with_byte(s, 96))
-        | ((starts_with_byte(s, 32) & ends_with_byte(s, 32)) & !all_in(s, Class::Blank))
+        | ((starts_with_byte(s, 32) & ends_with_byte(s, 32)) & !all_in::<Blank>(s))
 }
 
 // A byte that a language's name keeps.
 fn is_kept(b: u8) -> bool
     ensures { result ≡ kept_byte b }
 {
-    (is_in(Class::Digit, b) | (((65 <= b) & (b <= 90)) | ((97 <= b) & (b <= 122))))
+    (Digit::has(b) | (((65 <= b) & (b <= 90)) | ((97 <= b) & (b <= 122))))
         | ((b == 45) | ((b == 95) | ((b == 43) | ((b == 46) | (b == 35)))))
 }
 
@@ -132,8 +130,8 @@ pub fn push_sanitized(text: &mut [u8], len: usize, raw: &[u8]) -> Wrote
     requires { len ≤ length text.old }
     ensures { Writes (length text.old) text.new result (push (def.sanitize_attr_value raw.now) (take len text.old)) }
 {
-    let from = trim_start_matches(raw, Class::White);
-    let n = trim_start_matches(&raw[from..], Class::Black);
+    let from = trim_start_matches::<White>(raw);
+    let n = trim_start_matches::<Black>(&raw[from..]);
     let to = from + n;
     push_filtered(text, len, &raw[from..to])
 }

@@ -8,17 +8,16 @@ ghost use Rattle.text.specs.Writes.{Writes};
 
 use input::fields::is_same;
 use normalized::text_utils::escape_trailing_bang;
-use text::buffer::{
-    Class, Full, Wrote, ends_with, ends_with_byte, lift, push_all, push_byte, push_byte_if,
-    saturating_sub, starts_with_byte, trim_end, trim_end_matches,
-};
+use text::buffer::{Full, Wrote, ends_with, ends_with_byte, lift, push_all, push_byte, push_byte_if, starts_with_byte, trim_end_matches};
+use text::class::{Only, White};
+use text::white_space::{trim_end};
 use text::lifted::push_lifted;
 
 // How many backslashes s ends with.
 pub fn backslashes(s: &[u8]) -> usize
     ensures { result ≡ def.backslashes s.now }
 {
-    s.len() - trim_end_matches(s, Class::Backslash)
+    s.len() - trim_end_matches::<Only<b'\\'>>(s)
 }
 
 pub fn is_exact_marker_end(tail: &[u8], marker: &[u8]) -> bool
@@ -40,7 +39,7 @@ pub fn ends_with_emphasis(marker: &[u8], acc: &[u8]) -> bool
     if (marker.len() == 0) | (acc.len() == 0) {
         return false;
     }
-    let n = trim_end_matches(acc, Class::White);
+    let n = trim_end_matches::<White>(acc);
     if !((n == acc.len()) | is_same(&acc[n..], b" ")) {
         return false;
     }
@@ -56,10 +55,10 @@ pub fn try_trim_prev_emphasis_marker(text: &mut [u8], len: usize, marker: &[u8])
         return Ok(len);
     }
     if ends_with_byte(&text[..len], 32) {
-        let n = saturating_sub(len, marker.len() + 1);
+        let n = len.saturating_sub(marker.len() + 1);
         push_byte(text, n, 32)
     } else {
-        Ok(saturating_sub(len, marker.len()))
+        Ok(len.saturating_sub(marker.len()))
     }
 }
 

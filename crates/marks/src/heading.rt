@@ -4,9 +4,9 @@ ghost use Rattle.spec.specs.Out.{push};
 ghost use Rattle.spec.specs.Md.Heading as def;
 ghost use Rattle.text.specs.Writes.{Writes};
 
-use text::buffer::{
-    Class, Wrote, ends_with_byte, insert_byte, push_all, trim_end, trim_end_matches,
-};
+use text::buffer::{Wrote, ends_with_byte, insert_byte, push_all, trim_end_matches};
+use text::class::{Only};
+use text::white_space::{trim_end};
 
 pub fn is_heading(name: usize) -> bool
     ensures { result ≡ def.is_heading name }
@@ -49,7 +49,7 @@ pub fn escape_closing_hashes(text: &mut [u8], len: usize) -> Wrote
     ensures { Writes (length text.old) text.new result (def.escape_closing_hashes (take len text.old)) }
 {
     let n = trim_end(&text[..len]);
-    let stem = trim_end_matches(&text[..n], Class::Hash);
+    let stem = trim_end_matches::<Only<b'#'>>(&text[..n]);
     if (stem < n) & ends_with_byte(&text[..stem], 32) {
         insert_byte(text, len, stem, 92)
     } else {

@@ -3,7 +3,7 @@ ghost use Rattle.std.specs.Prelude.{◌≡◌, cond, true};
 ghost use Rattle.nodes.specs.Begun.{next_white, white_state, is_nothing};
 ghost use Rattle.nodes.specs.declared.white_space.Begun.TheVariants as begun;
 
-use text::buffer::{is_white_space_1, is_white_space_2, is_white_space_3};
+use text::white_space::{is_white_space_1, is_white_space_2, is_white_space_3};
 
 // The bytes of a character that is begun, behind White_Space: none, one, two; or bytes that are not White_Space.
 #[derive(Clone, Copy)]

@@ -18,7 +18,7 @@ use Rattle.normalized.specs.Blocks.{signed, Signs, BlockAt, Appends}
 use Rattle.text.specs.Flow.{added, flow_before, plain, Plain}
 use Rattle.text.specs.Writes.{Writes, Written}
 use Rattle.normalized.specs.declared.fast_copy.Block.{Block}
-use Rattle.text.specs.declared.buffer.Wrote.TheVariants.{Done}
+use Rattle.std.specs.Prelude.{Ok}
 use Rattle.text.proofs.Ordinary.{not_escaped}
 use Rattle.normalized.proofs.Flowing.{blank_added, less_or_not}
 use Rattle.text.proofs.Sourcing.{slice_on, follows_some}
@@ -172,7 +172,7 @@ block_step {d} {now} {len} {n} signs s at i p h k =
     subst₂ (λ (m j : ℕ). Appends d (set (set now n 92) (n + get_or signs i 0) b) len (n + get_or signs i 0 + 1) m (signed signs s at j)) z (sym (add-one i)) (appends_next p h (get_or signs i 0) b k)
 
 -- what is appended where there is room for the most that it may be
-pub appends_done : {d after : Bytes} {len n most : ℕ} {x : Bytes} → Appends d after len n most x → len + most ≤ length d → Writes (length d) after (Done n) (push x (take len d))
+pub appends_done : {d after : Bytes} {len n most : ℕ} {x : Bytes} → Appends d after len n most x → len + most ≤ length d → Writes (length d) after (Ok n) (push x (take len d))
 unfolding push
 appends_done {d} {after} {len} {n} {most} {x} p h =
     let c : n ≡ length (take len d ++ x) = sym (length-take-le n after (omega (arith, p.reach, p.long))) ∙ ap length p.text_is in
@@ -197,7 +197,7 @@ fit from stop to room len h k e =
     }
 
 pub block_writes : {escape : Bool} {s text after : Bytes} {from stop len n : ℕ} {block : Block} → Fit from stop (length s) (length text) len → BlockAt escape s from block → block.even ≡ true
-    → Appends text after len n 32 (signed block.signs s from 16) → Writes (length text) after (Done n) (push (flow_before escape (slice from stop s) (slice stop (length s) s)) (take len text))
+    → Appends text after len n 32 (signed block.signs s from 16) → Writes (length text) after (Ok n) (push (flow_before escape (slice from stop s) (slice stop (length s) s)) (take len text))
 block_writes {escape} {s} {text} {after} {from} {stop} {len} f b e a =
     alike
     (ap (λ (j : ℕ). push (flow_before escape (slice from j s) (slice j (length s) s)) (take len text)) f.sixteen

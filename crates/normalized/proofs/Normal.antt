@@ -18,7 +18,7 @@ use Rattle.text.specs.Flow.{starts_black, flow, flow_before}
 use Rattle.normalized.specs.Words.{WordAt, WordEnd}
 use Rattle.normalized.specs.Layout.{LineSign, Laid}
 use Rattle.text.specs.Writes.{Writes}
-use Rattle.text.specs.declared.buffer.Wrote.{Wrote}
+use Rattle.text.specs.Writes.{Wrote}
 use Rattle.text.proofs.Sourcing.{part_none}
 use Rattle.text.proofs.Writing.{alike, alike_answer}
 use Rattle.normalized.proofs.Flowing.{added_ordinary, words_flow}

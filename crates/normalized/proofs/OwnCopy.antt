@@ -7,7 +7,7 @@ use lib.ListN.{length, take, drop, get_or, length-append, length-drop}
 use lib.Seq.{length-take-le, take-take, get_or-drop, drop-drop, slice, paste, length-paste, take-paste, drop-paste}
 use Rattle.spec.specs.Out.{push}
 use Rattle.text.specs.Source.{WritesIn}
-use Rattle.text.specs.declared.buffer.Wrote.TheVariants.{Done, Full}
+use Rattle.std.specs.Prelude.{Ok, Err}
 use Rattle.text.proofs.Sourcing.{part_is}
 
 module _ (d : List ℕ) (room len from : ℕ) (h : len ≤ room) (k : room ≤ from) where
@@ -23,7 +23,7 @@ module _ (d : List ℕ) (room len from : ℕ) (h : len ≤ room) (k : room ≤ f
     part : slice from (from + n) d ≡ take n (drop from d)
     part = let a : from + n - from ≡ n = omega arith in sym (part_is from (from + n) d) ∙ ap (λ (j : ℕ). take j (drop from d)) a
 
-    pub own_full : room - len < n → WritesIn room d d Full (push (slice from (from + n) d) (take len d))
+    pub own_full : room - len < n → WritesIn room d d (Err (record {})) (push (slice from (from + n) d) (take len d))
     unfolding push
     own_full q =
         record {
@@ -32,7 +32,7 @@ module _ (d : List ℕ) (room len from : ℕ) (h : len ≤ room) (k : room ≤ f
           behind = refl;
         }
 
-    pub own_done : (after : List ℕ) → n ≤ room - len → after ≡ paste d len (drop from d) n → WritesIn room d after (Done (len + n)) (push (slice from (from + n) d) (take len d))
+    pub own_done : (after : List ℕ) → n ≤ room - len → after ≡ paste d len (drop from d) n → WritesIn room d after (Ok (len + n)) (push (slice from (from + n) d) (take len d))
     unfolding push
     own_done after q e =
         let s = drop from d in

@@ -12,8 +12,9 @@ use Rattle.spec.specs.Md.TextUtils.{is_escaped}
 use Rattle.text.specs.Flow.{starts_black, added, flow, flow_before, Flows}
 use Rattle.text.proofs.Writing.{push_both}
 use Rattle.text.specs.Source.{WritesIn}
-use Rattle.text.specs.declared.buffer.Wrote.{Wrote}
-use Rattle.text.specs.declared.buffer.Wrote.TheVariants.{Done, Full}
+use Rattle.text.specs.Writes.{Wrote}
+use Rattle.std.specs.Prelude.{Ok, Err}
+use Rattle.text.specs.declared.buffer.Full.{Full}
 use Rattle.text.proofs.Reading.{drop_take}
 use Rattle.text.proofs.Sourcing.{Still, OwesIn, owed_all, owed_as, owed_step, owed_stop, slice_kept, get_d_kept, part_is, part_none, slice_on}
 use Rattle.normalized.proofs.Wording.{slice_front}
@@ -147,10 +148,10 @@ module _ {base len from k : ℕ} (d : List ℕ) (escape : Bool) (h : len ≤ bas
     owed : OwesIn base d d len (push (flow escape (slice from (length d) d))) (push (flow escape (slice from (length d) d)) (take len d))
     owed = owed_all base d len (push (flow escape (slice from (length d) d))) h (omega arith) refl
 
-    pub plain_go : {n : ℕ} → r ≡ Done n → OwesIn base d mid n (push (flow escape (slice (from + k) (length d) d))) (push (flow escape (slice from (length d) d)) (take len d))
+    pub plain_go : {n : ℕ} → r ≡ Ok n → OwesIn base d mid n (push (flow escape (slice (from + k) (length d) d))) (push (flow escape (slice from (length d) d)) (take len d))
     plain_go q = owed_step owed (push (slice from (from + k) d)) (push (flow escape (slice (from + k) (length d) d))) (plain_turn d escape (take len d) from k plain_fits flows) q w
 
-    pub plain_stop : r ≡ Full → WritesIn base d mid Full (push (flow escape (slice from (length d) d)) (take len d))
+    pub plain_stop : {f g : Full} → r ≡ Err f → WritesIn base d mid (Err g) (push (flow escape (slice from (length d) d)) (take len d))
     plain_stop q = owed_stop owed (push (slice from (from + k) d)) (push (flow escape (slice (from + k) (length d) d))) (plain_turn d escape (take len d) from k plain_fits flows) q w
 
 -- y is appended in other words, and z is left
@@ -158,8 +159,8 @@ module _ {room n : ℕ} {d mid after : List ℕ} {whole : Out} {r : Wrote} {x y 
   as_said : OwesIn room d mid n (push (y ++ z)) whole
   as_said = owed_as (ap (λ (v : List ℕ). v ++ z) e) o
 
-  pub next_go : {m : ℕ} → r ≡ Done m → OwesIn room d after m (push z) whole
+  pub next_go : {m : ℕ} → r ≡ Ok m → OwesIn room d after m (push z) whole
   next_go q = owed_step as_said (push y) (push z) (push_both y z (take n mid)) q w
 
-  pub next_stop : r ≡ Full → WritesIn room d after Full whole
+  pub next_stop : {f g : Full} → r ≡ Err f → WritesIn room d after (Err g) whole
   next_stop q = owed_stop as_said (push y) (push z) (push_both y z (take n mid)) q w

@@ -12,7 +12,8 @@ ghost use Rattle.normalized.specs.Blocks.{signed, BlockAt, Appends};
 ghost use Rattle.normalized.specs.Verbatim.{Whole};
 
 use crate::line_start::begins_bare;
-use text::buffer::{Class, Full, Wrote, is_in, push_all};
+use text::buffer::{Full, Wrote, push_all};
+use text::class::{ByteClass, Digit};
 
 // Whether b stands in a text as it is, `next` behind it: a byte that is not white and, where signs are escaped, ordinary, or a
 // blank before no white byte. Some that would are left out, so that few ranges of bytes are left.
@@ -137,7 +138,7 @@ fn may_begin(text: &[u8], s: &[u8], escape: bool, list_item: bool) -> bool
         return false;
     }
     let before = text[text.len() - 1];
-    if (before <= b' ') | is_in(Class::Digit, before) {
+    if (before <= b' ') | Digit::has(before) {
         return false;
     }
     !((s.len() == 1) & (s[0] == b' '))

@@ -8,7 +8,8 @@ use crate::line_start::line_sign;
 use crate::text_utils::ends_with_marker_digits;
 use input::fields::is_same;
 use spec::ctx::FormatOpts;
-use text::buffer::{Class, ends_with_byte, ends_with_either, ends_with_white, trim_start_matches};
+use text::buffer::{ends_with_byte, ends_with_either, ends_with_white, trim_start_matches};
+use text::class::{Black, White};
 
 // A text is `lead`, unless it is 0, what its bytes from `at` on add, with a backslash more before the byte at `mark` if `sign`
 // says so, and a blank if `last` does.
@@ -65,14 +66,14 @@ fn mark_of(s: &[u8], at: usize, end: usize, k: usize) -> usize
     if k < end - at {
         return at + k;
     }
-    end + trim_start_matches(&s[end..], Class::White)
+    end + trim_start_matches::<White>(&s[end..])
 }
 
 // The layout of s behind a text. A text of white bytes is a blank at most.
 pub fn lay_out(text: &[u8], s: &[u8], opts: FormatOpts) -> Layout
     ensures { Laid opts text.now s.now result }
 {
-    let at = trim_start_matches(s, Class::White);
+    let at = trim_start_matches::<White>(s);
     if at == s.len() {
         let blank = !ends_with_either(text, b'\n', b' ') & (at != 0);
         return Layout {
@@ -83,7 +84,7 @@ pub fn lay_out(text: &[u8], s: &[u8], opts: FormatOpts) -> Layout
             last: false,
         };
     }
-    let end = at + trim_start_matches(&s[at..], Class::Black);
+    let end = at + trim_start_matches::<Black>(&s[at..]);
     let lead = lead_of(text, opts, at != 0, is_dot(&s[at..end]));
     let k = line_sign(&s[at..end], !opts.skip_escape & is_line_start(text, opts));
     let mark = mark_of(s, at, end, k);

@@ -7,7 +7,8 @@ ghost use Rattle.text.specs.Flow.{last_dot, MayStart};
 ghost use Rattle.normalized.specs.Layout.{LineSign};
 
 use crate::text_utils::is_ordered_list_marker;
-use text::buffer::{Class, all_in, is_in};
+use text::buffer::all_in;
+use text::class::{ByteClass, Digit, Only, White};
 
 // Whether a word ends with a `.` or `)` at i: behind it stands nothing, or a white byte.
 fn is_last_dot(s: &[u8], i: usize) -> bool
@@ -20,7 +21,7 @@ fn is_last_dot(s: &[u8], i: usize) -> bool
     if s.len() == i + 1 {
         return true;
     }
-    is_in(Class::White, s[i + 1])
+    White::has(s[i + 1])
 }
 
 // Whether the first word of s, which begins with a digit, is the marker of an item.
@@ -30,7 +31,7 @@ fn begins_marker(s: &[u8]) -> bool
 {
     let mut i = 1;
     while i < s.len() {
-        if !is_in(Class::Digit, s[i]) {
+        if !Digit::has(s[i]) {
             return is_last_dot(s, i);
         }
         i += 1;
@@ -50,7 +51,7 @@ pub fn begins_bare(s: &[u8], escape: bool) -> bool
     if !escape {
         return b' ' < s[0];
     }
-    if !is_in(Class::Digit, s[0]) {
+    if !Digit::has(s[0]) {
         return false;
     }
     !begins_marker(s)
@@ -75,7 +76,7 @@ pub fn line_sign(word: &[u8], line_start: bool) -> usize
     if is_ordered_list_marker(word) {
         return n - 1;
     }
-    if is_line_start_escaped(word[0]) | all_in(word, Class::Equals) {
+    if is_line_start_escaped(word[0]) | all_in::<Only<b'='>>(word) {
         0
     } else {
         n

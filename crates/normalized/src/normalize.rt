@@ -14,7 +14,8 @@ ghost use Rattle.normalized.specs.Layout.{Behind, front};
 use crate::fast_copy::{block_at, is_sign, is_verbatim, plain_blocks, push_block, push_part};
 use crate::layout::{Layout, lay_out};
 use spec::ctx::FormatOpts;
-use text::buffer::{Class, Wrote, is_in, push_all, push_byte, push_byte_if, reread};
+use text::buffer::{Wrote, push_all, push_byte, push_byte_if, reread};
+use text::class::{ByteClass, Ordinary, White};
 
 // The byte behind the one at i; a blank where there is none.
 pub fn next_of(s: &[u8], i: usize) -> u8
@@ -29,14 +30,14 @@ pub fn push_byte_of(text: &mut [u8], len: usize, b: u8, next: u8, escape: bool) 
     requires { len ≤ length text.old }
     ensures { (rest : List ℕ) → Behind next rest → Writes (length text.old) text.new result (push (added escape b rest) (take len text.old)) }
 {
-    if is_in(Class::Ordinary, b) {
+    if Ordinary::has(b) {
         return push_byte(text, len, b);
     }
-    if is_in(Class::White, b) {
-        return push_byte_if(text, len, b' ', !is_in(Class::White, next));
+    if White::has(b) {
+        return push_byte_if(text, len, b' ', !White::has(next));
     }
     let n = push_byte_if(text, len, b'\\', escape & is_sign(b, next))?;
-push_byte(text, n, b)
+    push_byte(text, n, b)
 }
 
 // Appends what the bytes from `from` up to `stop` add.
@@ -121,8 +122,8 @@ fn push_front(text: &mut [u8], len: usize, s: &[u8], l: Layout, escape: bool) ->
     let mark = l.mark;
     let sign = l.sign;
     let n = push_byte_if(text, len, lead, lead != 0)?;
-let m = push_bytes(text, n, s, at, mark, escape)?;
-push_byte_if(text, m, b'\\', sign)
+    let m = push_bytes(text, n, s, at, mark, escape)?;
+    push_byte_if(text, m, b'\\', sign)
 }
 
 // Appends a text, its words parted by blanks.
@@ -135,8 +136,8 @@ fn push_words(text: &mut [u8], len: usize, s: &[u8], opts: FormatOpts) -> Wrote
     let last = l.last;
     let escape = !opts.skip_escape;
     let n = push_front(text, len, s, l, escape)?;
-let m = push_flow(text, n, s, mark, escape)?;
-push_byte_if(text, m, b' ', last)
+    let m = push_flow(text, n, s, mark, escape)?;
+    push_byte_if(text, m, b' ', last)
 }
 
 // The same for a part of a slice, with the options that matter one by one: a record would be copied through memory.

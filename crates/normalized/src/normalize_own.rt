@@ -29,7 +29,7 @@ pub fn put_escaped(text: &mut [u8], room: usize, len: usize, escaped: bool, b: u
     ensures { WritesIn room text.old text.new result (push (cond escaped (ascii "\\") [] ++ (b ∷ [])) (take len text.old)) }
 {
     let n = put_if(text, room, len, b'\\', escaped)?;
-put_if(text, room, n, b, true)
+    put_if(text, room, n, b, true)
 }
 
 // Appends what the byte at i adds.
@@ -87,7 +87,7 @@ fn push_own_flow(text: &mut [u8], base: usize, len: usize, from: usize, escape: 
     let to = text.len();
     let k = plain_blocks(&text[from..to], escape);
     let n = put_own(text, base, len, from, k)?;
-push_own_bytes(text, base, n, from + k, to, escape)
+    push_own_bytes(text, base, n, from + k, to, escape)
 }
 
 // Appends what stands before the byte at `mark`.
@@ -100,8 +100,8 @@ fn push_own_front(text: &mut [u8], base: usize, len: usize, l: Layout, escape: b
     let stop = base + l.mark;
     let sign = l.sign;
     let n = put_if(text, base, len, lead, lead != 0)?;
-let m = push_own_bytes(text, base, n, from, stop, escape)?;
-put_if(text, base, m, b'\\', sign)
+    let m = push_own_bytes(text, base, n, from, stop, escape)?;
+    put_if(text, base, m, b'\\', sign)
 }
 
 // The layout of what stands from `base` on, behind the first `len` bytes.
@@ -122,6 +122,6 @@ pub fn push_normalized_own(text: &mut [u8], base: usize, len: usize, opts: Forma
     let last = l.last;
     let escape = !opts.skip_escape;
     let n = push_own_front(text, base, len, l, escape)?;
-let m = push_own_flow(text, base, n, from, escape)?;
-put_if(text, base, m, b' ', last)
+    let m = push_own_flow(text, base, n, from, escape)?;
+    put_if(text, base, m, b' ', last)
 }

@@ -11,9 +11,10 @@ ghost use Rattle.text.specs.Writes.{Writes, Written};
 
 use input::fields::is_same;
 use text::buffer::{
-    Class, Full, Wrote, all_in, drop_front, ends_with, ends_with_byte, ends_with_either, ends_with_white,
+    Full, Wrote, all_in, drop_front, ends_with, ends_with_byte, ends_with_either, ends_with_white,
     push_all, push_byte, trim_end_matches, trim_start_matches,
 };
+use text::class::{Blank, Digit, InWord, White};
 
 // An ordered-list marker like `3.` or `12)`.
 pub fn is_ordered_list_marker(chunk: &[u8]) -> bool
@@ -26,7 +27,7 @@ pub fn is_ordered_list_marker(chunk: &[u8]) -> bool
         return false;
     }
     let n = chunk.len() - 1;
-    all_in(&chunk[..n], Class::Digit)
+    all_in::<Digit>(&chunk[..n])
 }
 
 // The marker of a list item.
@@ -49,7 +50,7 @@ fn before_marker(stem: &[u8]) -> usize
         return stem.len();
     }
     let n = stem.len() - 1;
-    let b = trim_end_matches(&stem[..n], Class::InWord);
+    let b = trim_end_matches::<InWord>(&stem[..n]);
     if is_marker(&stem[b..n]) {
         b
     } else {
@@ -60,7 +61,7 @@ fn before_marker(stem: &[u8]) -> usize
 fn at_indent(text: &[u8]) -> bool
     ensures { result ≡ def.at_indent text.now }
 {
-    let n = trim_end_matches(text, Class::Blank);
+    let n = trim_end_matches::<Blank>(text);
     if n == 0 {
         return true;
     }
@@ -71,7 +72,7 @@ fn at_indent(text: &[u8]) -> bool
 pub fn ends_with_marker_digits(text: &[u8]) -> bool
     ensures { result ≡ def.ends_with_marker_digits text.now }
 {
-    let n = trim_end_matches(text, Class::Digit);
+    let n = trim_end_matches::<Digit>(text);
     let d = text.len() - n;
     if d < 1 {
         return false;
@@ -102,7 +103,7 @@ pub fn escape_trailing_bang(text: &mut [u8], len: usize) -> Wrote
 pub fn trim_trailing_space(s: &[u8]) -> usize
     ensures { Trimmed s.now result (def.trim_blanks s.now) }
 {
-    trim_end_matches(s, Class::Blank)
+    trim_end_matches::<Blank>(s)
 }
 
 pub fn add_linebreaks(text: &mut [u8], len: usize, linebreak: &[u8], end: &[u8]) -> Wrote
@@ -139,8 +140,8 @@ pub fn trim_space(text: &mut [u8], len: usize) -> usize
     requires { len ≤ length text.old }
     ensures { Written (length text.old) text.new result (def.trim_space (take len text.old)) }
 {
-    let n = trim_end_matches(&text[..len], Class::White);
-    let k = trim_start_matches(&text[..n], Class::White);
+    let n = trim_end_matches::<White>(&text[..len]);
+    let k = trim_start_matches::<White>(&text[..n]);
     drop_front(text, k, n - k);
     n - k
 }

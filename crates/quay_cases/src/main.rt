@@ -12,7 +12,7 @@ use build::{field, fields, holding, two_cells};
 use md::call::{Answer, serialize_md};
 use sheet_main::answer_to;
 use std::io;
-use text::buffer::front;
+use text::buffer::{front};
 
 // The bytes, with `/` for LF.
 fn print_slashed(rt: &impl Print, s: &[u8]) -> io::Result<()> {

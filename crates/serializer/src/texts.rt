@@ -12,7 +12,8 @@ ghost use Rattle.nodes.specs.TextStep.{text_step};
 use nodes::nodes::write_text_node;
 use normalized::text_utils::trim_space;
 use spec::ctx::FormatOpts;
-use text::buffer::{Class, Wrote, all_in};
+use text::buffer::{Wrote, all_in};
+use text::class::{White};
 use tree::nodes::{node_place, tag_at, text_at};
 
 // Whether the nodes from number `from` up to `to` are one text.
@@ -54,5 +55,5 @@ pub fn is_blank_text(sheet: &[u8], place: usize) -> bool
     let part = text_at(sheet, place);
     let start = part.start;
     let end = part.end;
-    all_in(&sheet[start..end], Class::White)
+    all_in::<White>(&sheet[start..end])
 }

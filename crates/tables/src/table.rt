@@ -15,7 +15,7 @@ ghost use Rattle.text.specs.Writes.{Writes};
 use crate::bars::{at_least_one, put_byte_cells, put_column};
 use crate::rows::{all_th, count_cells, is_table_cell, next_filled_row};
 use nodes::nodes::node_name;
-use text::buffer::{Full, Wrote, lift, push_byte, saturating_sub};
+use text::buffer::{Full, Wrote, lift, push_byte};
 use tree::memory::{read_long, store_long};
 use tree::nodes::node_end;
 
@@ -276,7 +276,7 @@ fn push_sized(
     ensures { Writes (length text.old) text.new result (table_sized (lengths_to sheet.now nodes.now row end) (line_lengths sheet.now nodes.now from to) (take n (drop len text.old)) (take len text.old)) }
 {
     let wide = first_width(sheet, nodes, from, to);
-    let blanks = saturating_sub(wide, cells);
+    let blanks = wide.saturating_sub(cells);
     let extra = lines_marks(sheet, nodes, from, to);
     let more = 5 + 6 * cells + 9 * blanks + empty + extra;
     let room = text.len();

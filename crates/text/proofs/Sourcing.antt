@@ -13,9 +13,10 @@ use Rattle.spec.specs.Out.{Out, Step, and_then, push}
 use Rattle.text.specs.Source.{WritesIn}
 use Rattle.text.specs.Writes.{Writes, Wrote}
 use Rattle.std.specs.Prelude.{Ok, Err}
+use Rattle.std.specs.Result.{IsErr}
 use Rattle.text.specs.declared.buffer.Full.{Full}
 use Rattle.text.proofs.Reading.{drop_take, starts_byte, starts_short}
-use Rattle.text.proofs.Writing.{alike, done, full, Owes, owes_all, owes_last, owes_on, owes_over, owes_nothing, push_both}
+use Rattle.text.proofs.Writing.{alike, done, full, Owes, owes_all, owes_last, owes_on, owes_over, owes_nothing, push_both, stops}
 
 -- ---- the same part
 
@@ -108,6 +109,10 @@ module _ {room : ℕ} {text mid : List ℕ} {n : ℕ} {rest : Step} {whole : Out
 -- the rest in other words
 pub owed_as : {room : ℕ} {text mid : List ℕ} {n : ℕ} {x y : List ℕ} {whole : Out} → x ≡ y → OwesIn room text mid n (push x) whole → OwesIn room text mid n (push y) whole
 owed_as {room} {text} {mid} {n} {x} {y} {whole} e p = subst (λ (z : List ℕ). OwesIn room text mid n (push z) whole) e p
+
+-- where `?` returns early
+pub stops_in : {room : ℕ} {before after : List ℕ} {s : Wrote} {o : Out} → IsErr s → WritesIn room before after (Err (record {})) o → WritesIn room before after s o
+stops_in h w = record { long = w.long; writes = stops h w.writes; behind = w.behind }
 
 pub alike_in : {room : ℕ} {before after : List ℕ} {r : Wrote} {o p : Out} → o ≡ p → WritesIn room before after r p → WritesIn room before after r o
 alike_in {room} {before} {after} {r} {o} {p} e w = subst (λ (x : Out). WritesIn room before after r x) (sym e) w

@@ -1,7 +1,7 @@
 -- How the answers of functions that write go together. Assumes nothing.
 use Prim.Native.Nat.{ℕ, ◌≤◌}
 use mathlib.Core.Path.{◌≡◌, refl, sym, ap, subst, subst₂}
-use mathlib.Core.Bool.{Bool, true, false, cond}
+use mathlib.Core.Bool.{Bool, true, false, cond, false≢true}
 use mathlib.Core.List.{List, [], ◌++◌, append_assoc, append-nil}
 use native.Mathlib.Omega.{arith}
 use lib.ListN.{length, take, length-append, length-take}
@@ -9,6 +9,7 @@ use lib.Seq.{length-take-le}
 use Rattle.spec.specs.Out.{Out, Step, and_then, keep, push}
 use Rattle.text.specs.Writes.{Written, Refused, Says, Writes, Wrote}
 use Rattle.std.specs.Prelude.{Ok, Err}
+use Rattle.std.specs.Result.{IsErr}
 use Rattle.text.specs.declared.buffer.Full.{Full}
 
 -- what a test chooses
@@ -32,6 +33,14 @@ alike {room} {after} {r} {o} {p} e w = subst (λ (x : Out). Writes room after r 
 -- the same outcome for an equal answer
 pub alike_answer : {room : ℕ} {after : List ℕ} {r s : Wrote} {o : Out} → r ≡ s → Writes room after s o → Writes room after r o
 alike_answer {room} {after} {r} {s} {o} e w = subst (λ (x : Wrote). Writes room after x o) (sym e) w
+
+-- where `?` returns early
+pub stops : {room : ℕ} {after : List ℕ} {s : Wrote} {o : Out} → IsErr s → Writes room after (Err (record {})) o → Writes room after s o
+stops {room} {after} {s} {o} h w = go s h
+  where
+    go : (s : Wrote) → IsErr s → Writes room after s o
+    go (Ok n) h = absurd (false≢true h)
+    go (Err e) h = w
 
 -- ---- sequencing
 

@@ -29,8 +29,8 @@ overflow_sub-before c = (some c.args.list_item (length c.args.text.now) c.if-lis
 pub bounds-text-text : goal.bounds-text-text
 bounds-text-text c = omega (arith, (some c.args.list_item (length c.args.text.now) c.if-list_item-text.false).1)
 
-pub returns-then-before-is_in : goal.returns-then-before-is_in
-returns-then-before-is_in c =
+pub returns-then-before-has : goal.returns-then-before-has
+returns-then-before-has c =
     λ e. absurd (false≢true e)
 
 pub returns : goal.returns
@@ -40,7 +40,7 @@ returns c =
     let s = a.s.now in
     let m = length text - 1 in
     let b = some a.list_item (length text) c.if-list_item-text.false in
-    let q = neither (leb (get_or text m 0) 32) c.is_in.result c.if-before-is_in.false in
+    let q = neither (leb (get_or text m 0) 32) c.has.result c.if-before-has.false in
     λ e v opts only item.
     inner_flow s v (not-true (eqb (length s) 1 && eqb (get_or s 0 0) 32) e) opts text (λ k. sym only ∙ k)
-    (inside_of text m (omega (arith, b.1)) (not_white (get_or text m 0) (omega (arith, leb-false (get_or text m 0) 32 q.0))) (sym c.is_in.ensures ∙ q.1)) (item ∙ b.0)
+    (inside_of text m (omega (arith, b.1)) (not_white (get_or text m 0) (omega (arith, leb-false (get_or text m 0) 32 q.0))) (sym c.has.ensures ∙ q.1)) (item ∙ b.0)

@@ -17,17 +17,17 @@ returns-then-not-escape c =
     let s = c.args.s.now in
     λ e. (not_white (get_or s 0 0) (omega (arith, ltb-true 32 (get_or s 0 0) e)), λ k. absurd (false≢true (sym (c.if-not-escape.true) ∙ k)))
 
-pub returns-then-not-is_in : goal.returns-then-not-is_in
-returns-then-not-is_in c =
+pub returns-then-not-has : goal.returns-then-not-has
+returns-then-not-has c =
     λ e. absurd (false≢true e)
 
 pub begins_marker-requires : goal.begins_marker-requires
-begins_marker-requires c = let d = c.is_in in sym d.ensures ∙ c.if-not-is_in.false
+begins_marker-requires c = let d = c.has in sym d.ensures ∙ c.if-not-has.false
 
 pub returns : goal.returns
 returns c =
     let s = c.args.s.now in
-    let d = c.is_in in
+    let d = c.has in
     let m = c.begins_marker in
-    let h = sym d.ensures ∙ c.if-not-is_in.false in
+    let h = sym d.ensures ∙ c.if-not-has.false in
     λ e. (digit_black (get_or s 0 0) h, λ k. first_digit s h (sym m.ensures ∙ not-true m.result e))

@@ -8,20 +8,20 @@ loop-i-init c =
     let s = c.args.s.now in
     (digit_some s c.requires, marker_begun s c.requires)
 
-pub returns-then-not-is_in : goal.returns-then-not-is_in
-returns-then-not-is_in c =
+pub returns-then-not-has : goal.returns-then-not-has
+returns-then-not-has c =
     let s = c.args.s.now in
     let l = c.loop-i in
-    let d = c.is_in in
+    let d = c.has in
     c.is_last_dot.ensures
-    ∙ sym (l.invariant.1 ∙ tail_here s l.i c.loop-i-test.true (sym d.ensures ∙ c.if-not-is_in.true))
+    ∙ sym (l.invariant.1 ∙ tail_here s l.i c.loop-i-test.true (sym d.ensures ∙ c.if-not-has.true))
 
 pub loop-i-preserved : goal.loop-i-preserved
 loop-i-preserved c =
     let s = c.args.s.now in
     let l = c.loop-i in
-    let d = c.is_in in
-    (omega arith, l.invariant.1 ∙ tail_on s l.i c.loop-i-test.true (sym d.ensures ∙ c.if-not-is_in.false))
+    let d = c.has in
+    (omega arith, l.invariant.1 ∙ tail_on s l.i c.loop-i-test.true (sym d.ensures ∙ c.if-not-has.false))
 
 pub returns : goal.returns
 returns c =

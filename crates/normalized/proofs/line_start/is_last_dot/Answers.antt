@@ -20,4 +20,4 @@ pub returns : goal.returns
 returns c =
     let a = c.args in
     let x = get_or a.s.now a.i 0 in
-    c.is_in.ensures ∙ sym (dot_before a.s.now a.i (omega (arith, c.requires, c.if-s-i.false)) (c.if-not-s-i.false))
+    c.has.ensures ∙ sym (dot_before a.s.now a.i (omega (arith, c.requires, c.if-s-i.false)) (c.if-not-s-i.false))

@@ -4,7 +4,7 @@ use lib.ListN.{length, take, get_or}
 use lib.Seq.{slice}
 use Rattle.spec.specs.Out.{push}
 use Rattle.text.specs.Flow.{added, flow_before}
-use Rattle.text.proofs.Writing.{owes_all, owes_step, owes_stop, owes_nothing}
+use Rattle.text.proofs.Writing.{owes_all, owes_step, owes_stop, owes_nothing, stops}
 use Rattle.normalized.proofs.Streaming.{byte_turn, bytes_ended}
 use native.Mathlib.Omega.{arith}
 use Rattle.normalized.proofs.normalize.push_bytes.Goals as goal
@@ -24,14 +24,14 @@ next_of-next-requires c = omega (arith, c.loop-i-test.true, c.requires.2)
 pub push_byte_of-requires : goal.push_byte_of-requires
 push_byte_of-requires c = c.loop-i.invariant.2.reach
 
-pub returns-in-Full : goal.returns-in-Full
-returns-in-Full c =
-    let a = c.args in
+pub returns-in_err-n : goal.returns-in_err-n
+returns-in_err-n c =
+    stops c.from_residual.ensures.0 (let a = c.args in
     let s = a.s.now in
     let l = c.loop-i in
     let rest = slice (l.i + 1) (length s) s in
     owes_stop l.invariant.2 (push (added a.escape (get_or s l.i 0) rest)) (push (flow_before a.escape (slice (l.i + 1) a.stop s) (slice a.stop (length s) s)))
-    (byte_turn s a.escape (take l.n l.text) l.i a.stop c.loop-i-test.true c.requires.2) c.in-Full.is (c.push_byte_of.ensures rest c.next_of-next.ensures)
+    (byte_turn s a.escape (take l.n l.text) l.i a.stop c.loop-i-test.true c.requires.2) c.in_err-n.was (c.push_byte_of.ensures rest c.next_of-next.ensures))
 
 pub overflow_add-i : goal.overflow_add-i
 overflow_add-i c = omega (arith, c.loop-i-test.true, c.requires.2)
@@ -48,7 +48,7 @@ loop-i-preserved c =
       omega (arith, l.invariant.0),
       omega (arith, c.loop-i-test.true),
       owes_step l.invariant.2 (push (added a.escape (get_or s l.i 0) rest)) (push (flow_before a.escape (slice (l.i + 1) a.stop s) (slice a.stop (length s) s)))
-          (byte_turn s a.escape (take l.n l.text) l.i a.stop c.loop-i-test.true c.requires.2) c.in-Done.is (c.push_byte_of.ensures rest c.next_of-next.ensures),
+          (byte_turn s a.escape (take l.n l.text) l.i a.stop c.loop-i-test.true c.requires.2) c.in_ok-n.was (c.push_byte_of.ensures rest c.next_of-next.ensures),
     )
 
 pub shape_of-text : goal.shape_of-text

@@ -7,7 +7,7 @@ use lib.Seq.{slice, length-slice}
 use Rattle.spec.specs.Out.{push}
 use Rattle.text.specs.Flow.{flow, flow_before, Flows}
 use Rattle.text.proofs.Sourcing.{part_is}
-use Rattle.text.proofs.Writing.{owes_all, owes_step, owes_stop, owes_nothing, alike}
+use Rattle.text.proofs.Writing.{owes_all, owes_step, owes_stop, owes_nothing, alike, stops}
 use Rattle.normalized.proofs.Flowing.{less_or_not}
 use Rattle.normalized.proofs.Streaming.{plain_turn, stretch_turn, flow_ended}
 use native.Mathlib.Omega.{arith}
@@ -40,16 +40,16 @@ slice_bounds-push_all-end c = omega (arith, (plain c.args.s.now c.loop-at.at c.p
 pub push_all-requires : goal.push_all-requires
 push_all-requires c = c.loop-at.invariant.2.reach
 
-pub returns-in-Full : goal.returns-in-Full
-returns-in-Full c =
-    let a = c.args in
+pub returns-in_err-n : goal.returns-in_err-n
+returns-in_err-n c =
+    stops c.from_residual.ensures.0 (let a = c.args in
     let s = a.s.now in
     let l = c.loop-at in
     let k = c.plain_blocks-k.result in
     let p = plain s l.at k a.escape l.invariant.1 c.plain_blocks-k.ensures in
     let t = take l.n l.text in
     owes_stop l.invariant.2 (push (slice l.at (l.at + k) s)) (push (flow a.escape (slice (l.at + k) (length s) s)))
-    (plain_turn s a.escape t l.at k p.0 p.1) c.in-Full.is (alike (ap (λ (x : List ℕ). push x t) (sym (part_is l.at (l.at + k) s))) c.push_all.ensures)
+    (plain_turn s a.escape t l.at k p.0 p.1) c.in_err-n.was (alike (ap (λ (x : List ℕ). push x t) (sym (part_is l.at (l.at + k) s))) c.push_all.ensures))
 
 pub stretch_end-stop-requires : goal.stretch_end-stop-requires
 stretch_end-stop-requires c = omega (arith, (plain c.args.s.now c.loop-at.at c.plain_blocks-k.result c.args.escape c.loop-at.invariant.1 c.plain_blocks-k.ensures).0)
@@ -63,12 +63,12 @@ push_stretch-requires c =
     let p = plain s l.at k a.escape l.invariant.1 c.plain_blocks-k.ensures in
     let t = take l.n l.text in
     let o = owes_step l.invariant.2 (push (slice l.at (l.at + k) s)) (push (flow a.escape (slice (l.at + k) (length s) s)))
-    (plain_turn s a.escape t l.at k p.0 p.1) c.in-Done.is (alike (ap (λ (x : List ℕ). push x t) (sym (part_is l.at (l.at + k) s))) c.push_all.ensures) in
+    (plain_turn s a.escape t l.at k p.0 p.1) c.in_ok-n.was (alike (ap (λ (x : List ℕ). push x t) (sym (part_is l.at (l.at + k) s))) c.push_all.ensures) in
     (o.reach, c.stretch_end-stop.ensures.0, c.stretch_end-stop.ensures.1)
 
-pub returns-in-Full-push_stretch : goal.returns-in-Full-push_stretch
-returns-in-Full-push_stretch c =
-    let a = c.args in
+pub returns-in_err-n-2 : goal.returns-in_err-n-2
+returns-in_err-n-2 c =
+    stops c.from_residual-in_err-n-2.ensures.0 (let a = c.args in
     let s = a.s.now in
     let l = c.loop-at in
     let k = c.plain_blocks-k.result in
@@ -76,9 +76,9 @@ returns-in-Full-push_stretch c =
     let p = plain s l.at k a.escape l.invariant.1 c.plain_blocks-k.ensures in
     let t = take l.n l.text in
     let o = owes_step l.invariant.2 (push (slice l.at (l.at + k) s)) (push (flow a.escape (slice (l.at + k) (length s) s)))
-    (plain_turn s a.escape t l.at k p.0 p.1) c.in-Done.is (alike (ap (λ (x : List ℕ). push x t) (sym (part_is l.at (l.at + k) s))) c.push_all.ensures) in
+    (plain_turn s a.escape t l.at k p.0 p.1) c.in_ok-n.was (alike (ap (λ (x : List ℕ). push x t) (sym (part_is l.at (l.at + k) s))) c.push_all.ensures) in
     owes_stop o (push (flow_before a.escape (slice (l.at + k) j s) (slice j (length s) s))) (push (flow a.escape (slice j (length s) s)))
-    (stretch_turn s a.escape _ (l.at + k) j c.stretch_end-stop.ensures.0 c.stretch_end-stop.ensures.1) c.in-Full-push_stretch.is c.push_stretch.ensures
+    (stretch_turn s a.escape _ (l.at + k) j c.stretch_end-stop.ensures.0 c.stretch_end-stop.ensures.1) c.in_err-n-2.was c.push_stretch.ensures)
 
 pub loop-at-smaller : goal.loop-at-smaller
 loop-at-smaller c =
@@ -100,11 +100,11 @@ loop-at-preserved c =
     let p = plain s l.at k a.escape l.invariant.1 c.plain_blocks-k.ensures in
     let t = take l.n l.text in
     let o = owes_step l.invariant.2 (push (slice l.at (l.at + k) s)) (push (flow a.escape (slice (l.at + k) (length s) s)))
-    (plain_turn s a.escape t l.at k p.0 p.1) c.in-Done.is (alike (ap (λ (x : List ℕ). push x t) (sym (part_is l.at (l.at + k) s))) c.push_all.ensures) in (
+    (plain_turn s a.escape t l.at k p.0 p.1) c.in_ok-n.was (alike (ap (λ (x : List ℕ). push x t) (sym (part_is l.at (l.at + k) s))) c.push_all.ensures) in (
       omega (arith, l.invariant.0, c.stretch_end-stop.ensures.0),
       c.stretch_end-stop.ensures.1,
       owes_step o (push (flow_before a.escape (slice (l.at + k) j s) (slice j (length s) s))) (push (flow a.escape (slice j (length s) s)))
-          (stretch_turn s a.escape _ (l.at + k) j c.stretch_end-stop.ensures.0 c.stretch_end-stop.ensures.1) c.in-Done-push_stretch.is c.push_stretch.ensures,
+          (stretch_turn s a.escape _ (l.at + k) j c.stretch_end-stop.ensures.0 c.stretch_end-stop.ensures.1) c.in_ok-n-2.was c.push_stretch.ensures,
     )
 
 pub shape_of-text : goal.shape_of-text

@@ -6,7 +6,7 @@ use lib.Seq.{slice, length-take-le}
 use Rattle.spec.specs.Bytes.{ascii}
 use Rattle.spec.specs.Out.{push}
 use Rattle.text.specs.Flow.{flow}
-use Rattle.text.proofs.Writing.{owes_all, owes_last, push_on, push_stop}
+use Rattle.text.proofs.Writing.{owes_all, owes_last, push_on, push_stop, stops}
 use Rattle.normalized.specs.Layout.{front}
 use Rattle.normalized.proofs.normalize.push_words.Goals as goal
 
@@ -21,7 +21,7 @@ push_flow-requires c =
     let a = c.args in
     let l = c.lay_out-l.result in
     let x = front (not a.opts.skip_escape) a.s.now l in
-    ((push_on x [] (owes_all a.text.now a.len (push (x ++ [])) c.requires refl) c.in-Done.is c.push_front.ensures).reach, c.lay_out-l.ensures.within)
+    ((push_on x [] (owes_all a.text.now a.len (push (x ++ [])) c.requires refl) c.in_ok-n.was c.push_front.ensures).reach, c.lay_out-l.ensures.within)
 
 pub push_byte_if-requires : goal.push_byte_if-requires
 push_byte_if-requires c =
@@ -31,11 +31,11 @@ push_byte_if-requires c =
     let escape = not a.opts.skip_escape in
     let x = front escape s l in
     let y = flow escape (slice l.mark (length s) s) in
-    let o = push_on x (y ++ []) (owes_all a.text.now a.len (push (x ++ (y ++ []))) c.requires refl) c.in-Done.is c.push_front.ensures in
-    (push_on y [] o c.in-Done-push_flow.is c.push_flow.ensures).reach
+    let o = push_on x (y ++ []) (owes_all a.text.now a.len (push (x ++ (y ++ []))) c.requires refl) c.in_ok-n.was c.push_front.ensures in
+    (push_on y [] o c.in_ok-m.was c.push_flow.ensures).reach
 
-pub returns-in-Done-push_flow : goal.returns-in-Done-push_flow
-returns-in-Done-push_flow c =
+pub returns : goal.returns
+returns c =
     let a = c.args in
     let s = a.s.now in
     let l = c.lay_out-l.result in
@@ -43,28 +43,28 @@ returns-in-Done-push_flow c =
     let x = front escape s l in
     let y = flow escape (slice l.mark (length s) s) in
     let z = cond l.last (ascii " ") [] in
-    let o = push_on x (y ++ z) (owes_all a.text.now a.len (push (x ++ (y ++ z))) c.requires c.lay_out-l.ensures.is) c.in-Done.is c.push_front.ensures in
-    owes_last (push_on y z o c.in-Done-push_flow.is c.push_flow.ensures) c.push_byte_if.ensures
+    let o = push_on x (y ++ z) (owes_all a.text.now a.len (push (x ++ (y ++ z))) c.requires c.lay_out-l.ensures.is) c.in_ok-n.was c.push_front.ensures in
+    owes_last (push_on y z o c.in_ok-m.was c.push_flow.ensures) c.push_byte_if.ensures
 
-pub returns-in-Full-push_flow : goal.returns-in-Full-push_flow
-returns-in-Full-push_flow c =
-    let a = c.args in
+pub returns-in_err-m : goal.returns-in_err-m
+returns-in_err-m c =
+    stops c.from_residual-in_err-m.ensures.0 (let a = c.args in
     let s = a.s.now in
     let l = c.lay_out-l.result in
     let escape = not a.opts.skip_escape in
     let x = front escape s l in
     let y = flow escape (slice l.mark (length s) s) in
     let z = cond l.last (ascii " ") [] in
-    let o = push_on x (y ++ z) (owes_all a.text.now a.len (push (x ++ (y ++ z))) c.requires c.lay_out-l.ensures.is) c.in-Done.is c.push_front.ensures in
-    push_stop y z o c.in-Full-push_flow.is c.push_flow.ensures
+    let o = push_on x (y ++ z) (owes_all a.text.now a.len (push (x ++ (y ++ z))) c.requires c.lay_out-l.ensures.is) c.in_ok-n.was c.push_front.ensures in
+    push_stop y z o c.in_err-m.was c.push_flow.ensures)
 
-pub returns-in-Full : goal.returns-in-Full
-returns-in-Full c =
-    let a = c.args in
+pub returns-in_err-n : goal.returns-in_err-n
+returns-in_err-n c =
+    stops c.from_residual.ensures.0 (let a = c.args in
     let s = a.s.now in
     let l = c.lay_out-l.result in
     let escape = not a.opts.skip_escape in
     let x = front escape s l in
     let y = flow escape (slice l.mark (length s) s) in
     let z = cond l.last (ascii " ") [] in
-    push_stop x (y ++ z) (owes_all a.text.now a.len (push (x ++ (y ++ z))) c.requires c.lay_out-l.ensures.is) c.in-Full.is c.push_front.ensures
+    push_stop x (y ++ z) (owes_all a.text.now a.len (push (x ++ (y ++ z))) c.requires c.lay_out-l.ensures.is) c.in_err-n.was c.push_front.ensures)

@@ -1,11 +1,10 @@
-use mathlib.Core.Path.{◌∙◌}
 use mathlib.Core.Bool.{cond, not}
 use mathlib.Core.List.{[], ◌++◌}
 use lib.ListN.{length, drop, length-drop}
 use lib.Seq.{slice}
 use Rattle.spec.specs.Bytes.{ascii}
 use Rattle.text.specs.Flow.{flow}
-use Rattle.text.proofs.Sourcing.{pair_go, pair_stop, owed_last, owed_reach, alike_in}
+use Rattle.text.proofs.Sourcing.{pair_go, pair_stop, owed_last, owed_reach, alike_in, stops_in}
 use Rattle.normalized.specs.Layout.{front}
 use Rattle.normalized.proofs.Streaming.{own_flow, next_go, next_stop}
 use native.Mathlib.Omega.{arith}
@@ -23,7 +22,7 @@ push_own_flow-requires c =
     let a = c.args in
     let d = a.text.now in
     let x = front (not a.opts.skip_escape) (drop a.base d) c.lay_out_own-l.result in
-    let o = pair_go c.requires.0 c.requires.1 x [] c.push_own_front.ensures c.in-Done.is in
+    let o = pair_go c.requires.0 c.requires.1 x [] c.push_own_front.ensures c.in_ok-n.was in
     (owed_reach o, omega arith, omega (arith, c.requires.1, c.lay_out_own-l.ensures.within, length-drop a.base d, o.still.long))
 
 pub put_if-requires : goal.put_if-requires
@@ -35,15 +34,12 @@ put_if-requires c =
     let escape = not a.opts.skip_escape in
     let x = front escape s l in
     let y = flow escape (slice l.mark (length s) s) in
-    let o = pair_go c.requires.0 c.requires.1 x (y ++ []) c.push_own_front.ensures c.in-Done.is in
-    let p = next_go [] (own_flow escape c.requires.1 o.still l.mark) o c.push_own_flow.ensures c.in-Done-push_own_flow.is in
+    let o = pair_go c.requires.0 c.requires.1 x (y ++ []) c.push_own_front.ensures c.in_ok-n.was in
+    let p = next_go [] (own_flow escape c.requires.1 o.still l.mark) o c.push_own_flow.ensures c.in_ok-m.was in
     (owed_reach p, omega (arith, c.requires.1, p.still.long))
 
-pub shape_of-text-in-Done-push_own_flow : goal.shape_of-text-in-Done-push_own_flow
-shape_of-text-in-Done-push_own_flow c = c.put_if.ensures.long ∙ c.push_own_flow.ensures.long ∙ c.push_own_front.ensures.long
-
-pub returns-in-Done-push_own_flow : goal.returns-in-Done-push_own_flow
-returns-in-Done-push_own_flow c =
+pub returns : goal.returns
+returns c =
     let a = c.args in
     let d = a.text.now in
     let s = drop a.base d in
@@ -52,16 +48,13 @@ returns-in-Done-push_own_flow c =
     let x = front escape s l in
     let y = flow escape (slice l.mark (length s) s) in
     let z = cond l.last (ascii " ") [] in
-    let o = pair_go c.requires.0 c.requires.1 x (y ++ z) c.push_own_front.ensures c.in-Done.is in
-    let p = next_go z (own_flow escape c.requires.1 o.still l.mark) o c.push_own_flow.ensures c.in-Done-push_own_flow.is in
+    let o = pair_go c.requires.0 c.requires.1 x (y ++ z) c.push_own_front.ensures c.in_ok-n.was in
+    let p = next_go z (own_flow escape c.requires.1 o.still l.mark) o c.push_own_flow.ensures c.in_ok-m.was in
     alike_in c.lay_out_own-l.ensures.is (owed_last p c.put_if.ensures)
 
-pub shape_of-text-in-Full-push_own_flow : goal.shape_of-text-in-Full-push_own_flow
-shape_of-text-in-Full-push_own_flow c = c.push_own_flow.ensures.long ∙ c.push_own_front.ensures.long
-
-pub returns-in-Full-push_own_flow : goal.returns-in-Full-push_own_flow
-returns-in-Full-push_own_flow c =
-    let a = c.args in
+pub returns-in_err-m : goal.returns-in_err-m
+returns-in_err-m c =
+    stops_in c.from_residual-in_err-m.ensures.0 (let a = c.args in
     let d = a.text.now in
     let s = drop a.base d in
     let l = c.lay_out_own-l.result in
@@ -69,16 +62,13 @@ returns-in-Full-push_own_flow c =
     let x = front escape s l in
     let y = flow escape (slice l.mark (length s) s) in
     let z = cond l.last (ascii " ") [] in
-    let o = pair_go c.requires.0 c.requires.1 x (y ++ z) c.push_own_front.ensures c.in-Done.is in
+    let o = pair_go c.requires.0 c.requires.1 x (y ++ z) c.push_own_front.ensures c.in_ok-n.was in
     alike_in c.lay_out_own-l.ensures.is
-    (next_stop z (own_flow escape c.requires.1 o.still l.mark) o c.push_own_flow.ensures c.in-Full-push_own_flow.is)
+    (next_stop z (own_flow escape c.requires.1 o.still l.mark) o c.push_own_flow.ensures c.in_err-m.was))
 
-pub shape_of-text-in-Full : goal.shape_of-text-in-Full
-shape_of-text-in-Full c = c.push_own_front.ensures.long
-
-pub returns-in-Full : goal.returns-in-Full
-returns-in-Full c =
-    let a = c.args in
+pub returns-in_err-n : goal.returns-in_err-n
+returns-in_err-n c =
+    stops_in c.from_residual.ensures.0 (let a = c.args in
     let d = a.text.now in
     let s = drop a.base d in
     let l = c.lay_out_own-l.result in
@@ -86,4 +76,4 @@ returns-in-Full c =
     let x = front escape s l in
     let y = flow escape (slice l.mark (length s) s) in
     let z = cond l.last (ascii " ") [] in
-    alike_in c.lay_out_own-l.ensures.is (pair_stop c.requires.0 c.requires.1 x (y ++ z) c.push_own_front.ensures c.in-Full.is)
+    alike_in c.lay_out_own-l.ensures.is (pair_stop c.requires.0 c.requires.1 x (y ++ z) c.push_own_front.ensures c.in_err-n.was))

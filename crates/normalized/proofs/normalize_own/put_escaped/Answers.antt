@@ -1,28 +1,21 @@
-use mathlib.Core.Path.{◌∙◌}
 use mathlib.Core.Bool.{cond}
 use mathlib.Core.List.{[], ◌∷◌}
 use Rattle.spec.specs.Bytes.{ascii}
-use Rattle.text.proofs.Sourcing.{pair_go, pair_stop, owed_last, owed_reach}
+use Rattle.text.proofs.Sourcing.{pair_go, pair_stop, owed_last, owed_reach, stops_in}
 use native.Mathlib.Omega.{arith}
 use Rattle.normalized.proofs.normalize_own.put_escaped.Goals as goal
 
-pub put_if-requires-in-Done : goal.put_if-requires-in-Done
-put_if-requires-in-Done c =
+pub put_if-requires-2 : goal.put_if-requires-2
+put_if-requires-2 c =
     let a = c.args in
-    (owed_reach (pair_go c.requires.0 c.requires.1 (cond a.escaped (ascii "\\") []) (a.b ∷ []) c.put_if.ensures c.in-Done.is), omega (arith, c.requires.1, c.put_if.ensures.long))
+    (owed_reach (pair_go c.requires.0 c.requires.1 (cond a.escaped (ascii "\\") []) (a.b ∷ []) c.put_if.ensures c.in_ok-n.was), omega (arith, c.requires.1, c.put_if.ensures.long))
 
-pub shape_of-text-in-Done : goal.shape_of-text-in-Done
-shape_of-text-in-Done c = c.put_if-in-Done.ensures.long ∙ c.put_if.ensures.long
-
-pub returns-in-Done : goal.returns-in-Done
-returns-in-Done c =
+pub returns : goal.returns
+returns c =
     let a = c.args in
-    owed_last (pair_go c.requires.0 c.requires.1 (cond a.escaped (ascii "\\") []) (a.b ∷ []) c.put_if.ensures c.in-Done.is) c.put_if-in-Done.ensures
+    owed_last (pair_go c.requires.0 c.requires.1 (cond a.escaped (ascii "\\") []) (a.b ∷ []) c.put_if.ensures c.in_ok-n.was) c.put_if-2.ensures
 
-pub shape_of-text-in-Full : goal.shape_of-text-in-Full
-shape_of-text-in-Full c = c.put_if.ensures.long
-
-pub returns-in-Full : goal.returns-in-Full
-returns-in-Full c =
-    let a = c.args in
-    pair_stop c.requires.0 c.requires.1 (cond a.escaped (ascii "\\") []) (a.b ∷ []) c.put_if.ensures c.in-Full.is
+pub returns-in_err-n : goal.returns-in_err-n
+returns-in_err-n c =
+    stops_in c.from_residual.ensures.0 (let a = c.args in
+    pair_stop c.requires.0 c.requires.1 (cond a.escaped (ascii "\\") []) (a.b ∷ []) c.put_if.ensures c.in_err-n.was)

@@ -4,7 +4,7 @@ use lib.ListN.{length, take}
 use lib.Seq.{length-take-le}
 use Rattle.spec.specs.Out.{push}
 use Rattle.spec.specs.Md.TextUtils.{add_linebreaks, breaks_until, trim_trailing_space, trim_blanks}
-use Rattle.text.proofs.Writing.{owes_all, owes_on, owes_step, owes_stop, owes_none}
+use Rattle.text.proofs.Writing.{owes_all, owes_on, owes_step, owes_stop, owes_none, stops}
 use Rattle.text.proofs.Spaces.{cut_done, breaks_none, breaks_ended, breaks_more}
 use native.Mathlib.Omega.{arith}
 use Rattle.normalized.proofs.text_utils.add_linebreaks.Goals as goal
@@ -29,10 +29,6 @@ pub slice_bounds-ends_with-end-in-loop-left : goal.slice_bounds-ends_with-end-in
 slice_bounds-ends_with-end-in-loop-left c =
     sym (length-take-le c.loop-left.n c.loop-left.text c.loop-left.invariant.reach)
 
-pub shape_of-text-then-ends_with : goal.shape_of-text-then-ends_with
-shape_of-text-then-ends_with c =
-    c.loop-left.invariant.long
-
 pub returns-then-ends_with : goal.returns-then-ends_with
 returns-then-ends_with c =
     let a = c.args in let l = c.loop-left in
@@ -42,23 +38,19 @@ pub push_all-requires : goal.push_all-requires
 push_all-requires c =
     c.loop-left.invariant.reach
 
-pub shape_of-text-in-Full : goal.shape_of-text-in-Full
-shape_of-text-in-Full c =
-    c.push_all.auto.text ∙ c.loop-left.invariant.long
-
-pub returns-in-Full : goal.returns-in-Full
-returns-in-Full c =
-    let a = c.args in let l = c.loop-left in
+pub returns-in_err-n : goal.returns-in_err-n
+returns-in_err-n c =
+    stops c.from_residual.ensures.0 (let a = c.args in let l = c.loop-left in
     owes_stop l.invariant (push a.linebreak.now) (breaks_until (l.left - 1) a.linebreak.now a.end.now)
     (breaks_more a.linebreak.now a.end.now (take l.n l.text) l.left c.loop-left-test.true (sym c.ends_with.ensures ∙ c.if-ends_with.false))
-    c.in-Full.is c.push_all.ensures
+    c.in_err-n.was c.push_all.ensures)
 
 pub loop-left-preserved : goal.loop-left-preserved
 loop-left-preserved c =
     let a = c.args in let l = c.loop-left in
     owes_step l.invariant (push a.linebreak.now) (breaks_until (l.left - 1) a.linebreak.now a.end.now)
     (breaks_more a.linebreak.now a.end.now (take l.n l.text) l.left c.loop-left-test.true (sym c.ends_with.ensures ∙ c.if-ends_with.false))
-    c.in-Done.is c.push_all.ensures
+    c.in_ok-n.was c.push_all.ensures
 
 pub shape_of-text : goal.shape_of-text
 shape_of-text c =
