@@ -17,8 +17,8 @@ use Rattle.lists_links.specs.Items.{item_of, line_byte, block_text}
 use Rattle.text.specs.Source.{WritesIn}
 use Rattle.text.specs.Trimmed.{Trimmed, Skipped}
 use Rattle.text.specs.Writes.{Says, Writes}
-use Rattle.text.specs.declared.buffer.Wrote.{Wrote}
-use Rattle.text.specs.declared.buffer.Wrote.TheVariants.{Done, Full}
+use Rattle.text.specs.Writes.{Wrote}
+use Rattle.std.specs.Prelude.{Ok, Err}
 use Rattle.lists_links.specs.declared.list.Item.{Item}
 use Rattle.lists_links.proofs.Boundary.{none_behind, boundary_here}
 use Rattle.text.proofs.Reading.{ends_short, rest_part}
@@ -128,11 +128,11 @@ unfolding beside
 beside_behind {base} {z} {final} {r} {o} h v = record { says = go r v.writes.says }
   where
     go : (r : Wrote) → Says base (take base final) r o → Says (length z) final r (beside (length (drop base z)) o)
-    go (Done m) y =
+    go (Ok m) y =
         record {
           long = v.long;
           fits = omega (arith, y.fits, length-drop base z);
           count = y.count;
           text_is = sym (take-take m base final (omega (arith, reaches y, y.long))) ∙ y.text_is;
         }
-    go Full y = record { over = omega (arith, y.over, length-drop base z) }
+    go (Err _) y = record { over = omega (arith, y.over, length-drop base z) }

@@ -18,7 +18,7 @@ fn push_decimal(text: &mut [u8], len: usize, n: u32) -> Wrote
         return push_byte(text, len, last);
     }
     let m = push_decimal(text, len, n / 10)?;
-push_byte(text, m, last)
+    push_byte(text, m, last)
 }
 
 // Appends the marker of an item of a bullet list.
@@ -39,7 +39,7 @@ fn push_ol_prefix(text: &mut [u8], len: usize, n: u32) -> Wrote
     ensures { Writes (length text.old) text.new result (push (decimal n ++ ascii ". ") (take len text.old)) }
 {
     let m = push_decimal(text, len, n)?;
-push_all(text, m, b". ")
+    push_all(text, m, b". ")
 }
 
 // Appends the marker of an item.

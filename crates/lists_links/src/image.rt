@@ -15,7 +15,7 @@ use normalized::normalize::push_normalized_text;
 use spec::ctx::FormatOpts;
 use text::buffer::{Wrote, push_all, trim_end_matches, trim_start_matches};
 use text::class::{Black, Only, White};
-use text::white_space::{trim_end};
+use text::white_space::trim_end;
 use tree::attributes::{Value, attribute};
 
 // The value of an attribute, if it holds more than White_Space.
@@ -105,8 +105,8 @@ fn push_image(
     ensures { Writes (length text.old) text.new result (def.image_of (attrs_behind sheet.now place) (take (to - from) (drop from sheet.now)) (take len text.old)) }
 {
     let n = push_all(text, len, b"![")?;
-let m = push_alt(text, n, sheet, place)?;
-push_link_end(text, m, sheet, place, from, to)
+    let m = push_alt(text, n, sheet, place)?;
+    push_link_end(text, m, sheet, place, from, to)
 }
 
 pub fn write_img(text: &mut [u8], len: usize, sheet: &[u8], place: usize) -> Wrote

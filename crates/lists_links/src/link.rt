@@ -31,7 +31,7 @@ fn push_dest(text: &mut [u8], len: usize, sheet: &[u8], from: usize, to: usize) 
     ensures { Writes (length text.old) text.new result (and_then (push (ascii "](") (take len text.old)) (push_md_url (take (to - from) (drop from sheet.now)))) }
 {
     let n = push_all(text, len, b"](")?;
-push_md_url(text, n, &sheet[from..to])
+    push_md_url(text, n, &sheet[from..to])
 }
 
 // Appends what follows the text of a link or an image.
@@ -47,6 +47,6 @@ pub fn push_link_end(
     ensures { Writes (length text.old) text.new result (def.link_end (attrs_behind sheet.now place) (take (to - from) (drop from sheet.now)) (take len text.old)) }
 {
     let n = push_dest(text, len, sheet, from, to)?;
-let m = push_title_of(text, n, sheet, place)?;
-push_byte(text, m, 41)
+    let m = push_title_of(text, n, sheet, place)?;
+    push_byte(text, m, 41)
 }

@@ -10,8 +10,11 @@ ghost use Rattle.text.specs.Writes.{Writes, Written};
 use crate::ctx::{prefix_len, push_prefix};
 use normalized::text_utils::{push_linebreak, trim_trailing_space};
 use spec::ctx::ListContext;
-use text::buffer::{Wrote, drop_front, ends_with_byte, push_all, push_repeated, trim_end_matches, trim_start_matches};
-use text::class::{White};
+use text::buffer::{
+    Wrote, drop_front, ends_with_byte, push_all, push_repeated, trim_end_matches,
+    trim_start_matches,
+};
+use text::class::White;
 
 // What the loop over an item's children knows: the context after its number is written, how many blanks stand before its
 // blocks, the place where its content begins.
@@ -44,7 +47,7 @@ pub fn begin_item(text: &mut [u8], len: usize, blocks: bool, ctx: ListContext) -
     let n = trim_before_item(text, len, blocks);
     let indent = ctx.list_indent;
     let m = push_repeated(text, n, 32, indent)?;
-push_prefix(text, m, ctx)
+    push_prefix(text, m, ctx)
 }
 
 // The item that begins behind a text of `start` bytes: `next` is the context after its number.
@@ -67,7 +70,7 @@ pub fn push_line_start(text: &mut [u8], len: usize, item: Item) -> Wrote
 {
     let indent = item.indent;
     let n = push_linebreak(text, len, item.ctx.opts.table_cell)?;
-push_repeated(text, n, 32, indent)
+    push_repeated(text, n, 32, indent)
 }
 
 // Appends a rule on a line of its own.
@@ -76,8 +79,8 @@ fn push_rule_line(text: &mut [u8], len: usize, item: Item) -> Wrote
     ensures { Writes (length text.old) text.new result (push ((break_of item.ctx ++ replicate item.indent 32) ++ (ascii "---" ++ break_of item.ctx)) (take len text.old)) }
 {
     let n = push_line_start(text, len, item)?;
-let m = push_all(text, n, b"---")?;
-push_linebreak(text, m, item.ctx.opts.table_cell)
+    let m = push_all(text, n, b"---")?;
+    push_linebreak(text, m, item.ctx.opts.table_cell)
 }
 
 // Appends a rule, behind a blank line where the item has content.
@@ -90,7 +93,7 @@ pub fn push_rule(text: &mut [u8], len: usize, item: Item) -> Wrote
         return push_rule_line(text, n, item);
     }
     let m = push_linebreak(text, n, item.ctx.opts.table_cell)?;
-push_rule_line(text, m, item)
+    push_rule_line(text, m, item)
 }
 
 // Begins a line at the item's content, unless one begins.

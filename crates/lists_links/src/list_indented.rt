@@ -11,9 +11,11 @@ ghost use Rattle.text.specs.Writes.{Writes};
 
 use crate::list::{Item, push_line_start};
 use normalized::text_utils::push_linebreak;
-use text::buffer::{Wrote, all_in, ends_with_byte, lift, push_byte, trim_end_matches, trim_start_matches};
+use text::buffer::{
+    Wrote, all_in, ends_with_byte, lift, push_byte, trim_end_matches, trim_start_matches,
+};
 use text::class::{Blank, Only};
-use text::white_space::{trim_end};
+use text::white_space::trim_end;
 
 // Whether the byte at k goes on with a character; none stands behind the end.
 fn continues(t: &[u8], k: usize) -> bool
@@ -151,5 +153,5 @@ pub fn push_indented(text: &mut [u8], len: usize, n: usize, item: Item) -> Wrote
     let base = text.len() - n;
     lift(text, len, n, base);
     let m = own_line(&mut text[..base], len, item)?;
-push_block(text, base, m, item)
+    push_block(text, base, m, item)
 }

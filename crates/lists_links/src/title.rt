@@ -36,9 +36,9 @@ fn push_quoted_title(text: &mut [u8], len: usize, title: &[u8]) -> Wrote
 {
     let opts = FormatOpts::new();
     let n = push_normalized_text(&mut text[len..], 0, title, opts)?;
-let base = text.len() - n;
-            lift(text, len, n, base);
-            push_quoted(text, base, n, len)
+    let base = text.len() - n;
+    lift(text, len, n, base);
+    push_quoted(text, base, n, len)
 }
 
 fn push_title_text(text: &mut [u8], len: usize, title: &[u8]) -> Wrote
@@ -57,6 +57,6 @@ pub fn push_title(text: &mut [u8], len: usize, title: &[u8]) -> Wrote
     ensures { Writes (length text.old) text.new result (def.push_title title.now (take len text.old)) }
 {
     let n = push_all(text, len, b" \"")?;
-let m = push_title_text(text, n, title)?;
-push_byte(text, m, 34)
+    let m = push_title_text(text, n, title)?;
+    push_byte(text, m, 34)
 }

@@ -152,8 +152,8 @@ fn push_wrapped(text: &mut [u8], len: usize, dest: &[u8]) -> Wrote
     ensures { Writes (length text.old) text.new result (push (ascii "<" ++ (def.each_byte def.wrapped_byte (def.html_escape dest.now) ++ ascii ">")) (take len text.old)) }
 {
     let n = push_byte(text, len, 60)?;
-let m = push_dest(text, n, dest, true)?;
-push_byte(text, m, 62)
+    let m = push_dest(text, n, dest, true)?;
+    push_byte(text, m, 62)
 }
 
 // Whether b stands in a destination as it is, whatever is around it.

@@ -16,7 +16,7 @@ use Rattle.text.specs.Lifted.{Lifted}
 use Rattle.marks.specs.Marked.{lead_blank, bang_if, marked_front, marked_with}
 use Rattle.text.specs.Trimmed.{Trimmed}
 use Rattle.text.specs.Writes.{Written, Refused, Writes}
-use Rattle.text.specs.declared.buffer.Wrote.{Wrote}
+use Rattle.text.specs.Writes.{Wrote}
 use Rattle.text.proofs.Reading.{rest_part, drop_take, starts_byte, ends_byte, null_none, null_some, starts_short, trimmed_length, ends_long}
 use Rattle.text.proofs.Temporary.{lent, back}
 use Rattle.text.proofs.Writing.{then_assoc}

@@ -7,7 +7,10 @@ ghost use Rattle.marks.specs.Runs.{RunsBehind};
 ghost use Rattle.text.specs.Writes.{Writes};
 ghost use Rattle.spec.specs.Md.Elements.Code as def;
 
-use text::buffer::{Wrote, all_in, contains_byte, ends_with, ends_with_byte, lift, push_byte, push_byte_if, push_repeated, starts_with_byte, trim_start_matches};
+use text::buffer::{
+    Wrote, all_in, contains_byte, ends_with, ends_with_byte, lift, push_byte, push_byte_if,
+    push_repeated, starts_with_byte, trim_start_matches,
+};
 use text::class::{Black, Blank, ByteClass, Digit, White};
 use text::lifted::push_lifted;
 
@@ -143,8 +146,8 @@ fn push_opening(text: &mut [u8], len: usize, fence: usize, space: bool) -> Wrote
 {
     let apart = ends_with_byte(&text[..len], 96);
     let n = push_byte_if(text, len, 32, apart)?;
-let m = push_repeated(text, n, 96, fence)?;
-push_byte_if(text, m, 32, space)
+    let m = push_repeated(text, n, 96, fence)?;
+    push_byte_if(text, m, 32, space)
 }
 
 fn push_closing(text: &mut [u8], len: usize, fence: usize, space: bool) -> Wrote
@@ -152,7 +155,7 @@ fn push_closing(text: &mut [u8], len: usize, fence: usize, space: bool) -> Wrote
     ensures { Writes (length text.old) text.new result (push (cond space (ascii " ") [] ++ def.backticks fence) (take len text.old)) }
 {
     let n = push_byte_if(text, len, 32, space)?;
-push_repeated(text, n, 96, fence)
+    push_repeated(text, n, 96, fence)
 }
 
 // The code span of what stands from base on, of which in_being bytes count until it is appended.
@@ -163,8 +166,8 @@ fn push_code_span(text: &mut [u8], base: usize, len: usize, in_being: usize) -> 
     let fence = max_backtick_run(&text[base..]) + 1;
     let space = needs_space(&text[base..]);
     let n = push_opening(&mut text[..base], len, fence, space)?;
-let m = push_lifted(text, base, n, in_being)?;
-push_closing(text, m, fence, space)
+    let m = push_lifted(text, base, n, in_being)?;
+    push_closing(text, m, fence, space)
 }
 
 // The code is the n bytes at `from`, behind the text; in_being of them count until they are appended.
@@ -195,9 +198,9 @@ fn push_block_opening(text: &mut [u8], len: usize, fence: usize, lang: &[u8]) ->
 {
     let begun = ends_with(&text[..len], b"\n\n");
     let n = push_byte_if(text, len, 10, !begun)?;
-let m = push_repeated(text, n, 96, fence)?;
-let k = push_sanitized(text, m, lang)?;
-push_byte(text, k, 10)
+    let m = push_repeated(text, n, 96, fence)?;
+    let k = push_sanitized(text, m, lang)?;
+    push_byte(text, k, 10)
 }
 
 fn push_block_closing(text: &mut [u8], len: usize, fence: usize, ended: bool) -> Wrote
@@ -205,8 +208,8 @@ fn push_block_closing(text: &mut [u8], len: usize, fence: usize, ended: bool) ->
     ensures { Writes (length text.old) text.new result (push (cond ended [] (ascii "\n") ++ (def.backticks fence ++ ascii "\n")) (take len text.old)) }
 {
     let n = push_byte_if(text, len, 10, !ended)?;
-let m = push_repeated(text, n, 96, fence)?;
-push_byte(text, m, 10)
+    let m = push_repeated(text, n, 96, fence)?;
+    push_byte(text, m, 10)
 }
 
 // The fenced block of what stands from base on.
@@ -217,8 +220,8 @@ fn push_block(text: &mut [u8], base: usize, len: usize, lang: &[u8]) -> Wrote
     let fence = fence_len(&text[base..]);
     let ended = (base == text.len()) | ends_with_byte(&text[base..], 10);
     let n = push_block_opening(&mut text[..base], len, fence, lang)?;
-let m = push_lifted(text, base, n, 0)?;
-push_block_closing(text, m, fence, ended)
+    let m = push_lifted(text, base, n, 0)?;
+    push_block_closing(text, m, fence, ended)
 }
 
 // The fenced block of write_pre: the content is the n bytes at `from`, behind the text, and none of them counts apart from

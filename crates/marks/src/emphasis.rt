@@ -8,10 +8,13 @@ ghost use Rattle.text.specs.Writes.{Writes};
 
 use input::fields::is_same;
 use normalized::text_utils::escape_trailing_bang;
-use text::buffer::{Full, Wrote, ends_with, ends_with_byte, lift, push_all, push_byte, push_byte_if, starts_with_byte, trim_end_matches};
+use text::buffer::{
+    Full, Wrote, ends_with, ends_with_byte, lift, push_all, push_byte, push_byte_if,
+    starts_with_byte, trim_end_matches,
+};
 use text::class::{Only, White};
-use text::white_space::{trim_end};
 use text::lifted::push_lifted;
+use text::white_space::trim_end;
 
 // How many backslashes s ends with.
 pub fn backslashes(s: &[u8]) -> usize
@@ -99,9 +102,9 @@ fn push_front(text: &mut [u8], len: usize, marker: &[u8], lead: bool, bang: bool
 {
     let merged = ends_with_emphasis(marker, &text[..len]);
     let n = try_trim_prev_emphasis_marker(text, len, marker)?;
-let m = push_lead(text, n, lead)?;
-let k = push_marker(text, m, marker, merged)?;
-escape_bang_if(text, k, bang)
+    let m = push_lead(text, n, lead)?;
+    let k = push_marker(text, m, marker, merged)?;
+    escape_bang_if(text, k, bang)
 }
 
 // The emphasis text with its closing marker is what stands from base on.
@@ -111,8 +114,8 @@ fn push_done(text: &mut [u8], base: usize, len: usize, marker: &[u8], lead: bool
 {
     let bang = starts_with_byte(&text[base..], 91);
     let n = push_front(&mut text[..base], len, marker, lead, bang)?;
-let size = text.len() - base;
-            push_lifted(text, base, n, size)
+    let size = text.len() - base;
+    push_lifted(text, base, n, size)
 }
 
 // Appends the closing marker, and a blank that the emphasis text ended with.
@@ -121,7 +124,7 @@ fn push_end(text: &mut [u8], len: usize, marker: &[u8], trail: bool) -> Wrote
     ensures { Writes (length text.old) text.new result (push (marker.now ++ cond trail (ascii " ") []) (take len text.old)) }
 {
     let n = push_all(text, len, marker)?;
-push_byte_if(text, n, 32, trail)
+    push_byte_if(text, n, 32, trail)
 }
 
 fn one_if(b: bool) -> usize
@@ -151,7 +154,7 @@ fn push_closed(
     let base = text.len() - size;
     lift(text, from, n, base);
     push_end(&mut text[base..], n, marker, trail)?;
-push_done(text, base, len, marker, lead)
+    push_done(text, base, len, marker, lead)
 }
 
 // The emphasis text is the n bytes behind the text, which are not all White_Space.

@@ -5,8 +5,8 @@ ghost use Rattle.spec.specs.Md.Heading as def;
 ghost use Rattle.text.specs.Writes.{Writes};
 
 use text::buffer::{Wrote, ends_with_byte, insert_byte, push_all, trim_end_matches};
-use text::class::{Only};
-use text::white_space::{trim_end};
+use text::class::Only;
+use text::white_space::trim_end;
 
 pub fn is_heading(name: usize) -> bool
     ensures { result ≡ def.is_heading name }

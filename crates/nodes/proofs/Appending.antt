@@ -12,8 +12,9 @@ use Rattle.tree.specs.Nodes.{text_at}
 use Rattle.tree.specs.Represents.{Rep}
 use Rattle.tree.proofs.Ranges.{text_pieces}
 use Rattle.text.specs.Writes.{Writes}
-use Rattle.text.specs.declared.buffer.Wrote.{Wrote}
-use Rattle.text.specs.declared.buffer.Wrote.TheVariants.{Done, Full}
+use Rattle.text.specs.Writes.{Wrote}
+use Rattle.text.specs.declared.buffer.Full.{Full}
+use Rattle.std.specs.Prelude.{Ok, Err}
 use Rattle.text.proofs.Writing.{Owes, owes_all, owes_step, owes_stop, owes_nothing, alike, push_both}
 use Rattle.nodes.specs.Stands.{Siblings, NodeAt}
 use Rattle.nodes.proofs.Numbers.{node_in, pieces, pieces_on, pieces_none}
@@ -50,7 +51,7 @@ module _ {S : Type 0} {out : S → Bytes → Bytes} {sh ns : Bytes} {from e : �
           (ap (out x) (pieces_on sh ns e i l q h) ∙ (w.joins x s (pieces sh ns e (i + 1)) ∙ ap (λ (z : S). out x s ++ out z (pieces sh ns e (i + 1))) (sym r)))
           ∙ push_both (out x s) (out y (pieces sh ns e (i + 1))) (take n mid)
 
-      pub appends_on : {after : Bytes} {m : ℕ} {r : Wrote} {y : S} → y ≡ go x s → r ≡ Done m → Writes (length mid) after r (push (out x s) (take n mid))
+      pub appends_on : {after : Bytes} {m : ℕ} {r : Wrote} {y : S} → y ≡ go x s → r ≡ Ok m → Writes (length mid) after r (push (out x s) (take n mid))
           → Appends out sh ns from e a t room after m (i + 1) y
       appends_on {y = y} g d v =
           record {
@@ -58,12 +59,12 @@ module _ {S : Type 0} {out : S → Bytes → Bytes} {sh ns : Bytes} {from e : �
             owes = owes_step c.owes (push (out x s)) (push (out y (pieces sh ns e (i + 1)))) (turn g) d v;
           }
 
-      pub appends_stop : {after z : Bytes} {r : Wrote} → r ≡ Full → Writes (length mid) after r (push (out x s) (take n mid))
-          → (parent : ℕ) (f : Forest) → Rep sh ns parent from e f → Writes room z Full (push (out a (text_of f)) t)
+      pub appends_stop : {after z : Bytes} {r : Wrote} {f g : Full} → r ≡ Err f → Writes (length mid) after r (push (out x s) (take n mid))
+          → (parent : ℕ) (h : Forest) → Rep sh ns parent from e h → Writes room z (Err g) (push (out a (text_of h)) t)
       appends_stop d v parent f k =
           alike (forest_is parent f k) (owes_stop c.owes (push (out x s)) (push (out (go x s) (pieces sh ns e (i + 1)))) (turn refl) d v)
 
-    pub appends_end : e ≤ i → (parent : ℕ) (f : Forest) → Rep sh ns parent from e f → Writes room mid (Done n) (push (out a (text_of f)) t)
+    pub appends_end : e ≤ i → (parent : ℕ) (f : Forest) → Rep sh ns parent from e f → Writes room mid (Ok n) (push (out a (text_of f)) t)
     appends_end l parent f k =
         alike (forest_is parent f k)
         (owes_nothing c.owes (ap (λ (z : Bytes). push z (take n mid)) (ap (out x) (pieces_none sh ns e i l) ∙ w.none x)))

@@ -21,8 +21,9 @@ use Rattle.tree.proofs.Firsts.{rep_le, ended, its_tag, its_body}
 use Rattle.tree.proofs.Kin.{first_skipped}
 use Rattle.text.proofs.Writing.{same_out, keep_then, then_assoc, Owes, owes_all, owes_step, owes_stop, owes_none}
 use Rattle.text.specs.Writes.{Writes}
-use Rattle.text.specs.declared.buffer.Wrote.{Wrote}
-use Rattle.text.specs.declared.buffer.Wrote.TheVariants.{Done, Full}
+use Rattle.text.specs.Writes.{Wrote}
+use Rattle.text.specs.declared.buffer.Full.{Full}
+use Rattle.std.specs.Prelude.{Ok, Err}
 use Rattle.nodes.specs.Stands.{NodeAt, ElementAt}
 use Rattle.nodes.specs.TextStep.{text_step}
 use Rattle.nodes.specs.Spots.{spot_step, below_spot, next_spot}
@@ -304,7 +305,7 @@ going_start skips opts {sh} {ns} {i} d len x f h l =
     }
 
 module _ {skips : List Bytes} {opts : FormatOpts} {sh ns : Bytes} {top o at room : ℕ} {mid : Bytes} {n : ℕ} {whole : Out} (g : Going skips opts sh ns top o at room mid n whole) where
-  pub going_end : o ≡ 0 → Writes room mid (Done n) whole
+  pub going_end : o ≡ 0 → Writes room mid (Ok n) whole
   going_end z = owes_none g.owes (ap (λ (f : Step). f (take n mid)) (g.ahead.none z))
 
   module _ (z : o ≡ 0 → ⊥) where
@@ -312,12 +313,12 @@ module _ {skips : List Bytes} {opts : FormatOpts} {sh ns : Bytes} {top o at room
     going_inside = g.ahead.some z
 
     module _ {r : Wrote} {after : Bytes} (w : Writes (length mid) after r (spot_step opts sh ns o at (take n mid))) where
-      pub going_on : {m : ℕ} {next : Spot} → r ≡ Done m → next ≡ next_spot skips sh ns top o at → Going skips opts sh ns top next.«open» next.at room after m whole
+      pub going_on : {m : ℕ} {next : Spot} → r ≡ Ok m → next ≡ next_spot skips sh ns top o at → Going skips opts sh ns top next.«open» next.at room after m whole
       going_on {m} {next} q e =
           let t : Turn skips opts sh ns top o at g.rest next = subst (λ (s : Spot). Turn skips opts sh ns top o at g.rest s) (sym e) (turn going_inside) in
           record { rest = t.left; ahead = t.ahead; owes = owes_step g.owes (spot_step opts sh ns o at) t.left (t.goes (take n mid)) q w }
 
-      pub going_stop : {z : Bytes} → r ≡ Full → Writes room z Full whole
+      pub going_stop : {z : Bytes} {f g : Full} → r ≡ Err f → Writes room z (Err g) whole
       going_stop q = let t = turn going_inside in owes_stop g.owes (spot_step opts sh ns o at) t.left (t.goes (take n mid)) q w
 
     pub going_less : {next : Spot} → next ≡ next_spot skips sh ns top o at → fall ns top next.«open» next.at < fall ns top o at

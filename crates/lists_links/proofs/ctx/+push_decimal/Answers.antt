@@ -4,7 +4,7 @@ use mathlib.Core.List.{[], ◌∷◌}
 use lib.ListN.{take}
 use Rattle.spec.specs.Bytes.{decimal}
 use Rattle.spec.specs.Out.{push}
-use Rattle.text.proofs.Writing.{alike, owes_all, owes_step, owes_stop, owes_last}
+use Rattle.text.proofs.Writing.{alike, owes_all, owes_step, owes_stop, stops, owes_last}
 use Rattle.lists_links.proofs.Prefixes.{last_only, last_behind}
 use native.Mathlib.Omega.{arith}
 use Rattle.lists_links.proofs.ctx.+push_decimal.Goals as goal
@@ -29,14 +29,14 @@ pub push_decimal-requires : goal.push_decimal-requires
 push_decimal-requires t c =
     (subst (λ (j : ℕ). c.args.n / 10 < j) c.decreases (omega (arith, c.if-n-lt10.false)), c.requires)
 
-pub push_byte-requires-in-Done : goal.push_byte-requires-in-Done
-push_byte-requires-in-Done t c =
-    (owes_step (owes_all c.args.text.now c.args.len (push (decimal c.args.n)) c.requires refl) (push (decimal (c.args.n / 10))) (push ((48 + c.args.n % 10) ∷ [])) (last_behind c.args.n (take c.args.len c.args.text.now) c.if-n-lt10.false) c.in-Done.is c.push_decimal.ensures).reach
+pub push_byte-requires-2 : goal.push_byte-requires-2
+push_byte-requires-2 t c =
+    (owes_step (owes_all c.args.text.now c.args.len (push (decimal c.args.n)) c.requires refl) (push (decimal (c.args.n / 10))) (push ((48 + c.args.n % 10) ∷ [])) (last_behind c.args.n (take c.args.len c.args.text.now) c.if-n-lt10.false) c.in_ok-m.was c.push_decimal.ensures).reach
 
-pub returns-in-Done : goal.returns-in-Done
-returns-in-Done t c =
-    owes_last (owes_step (owes_all c.args.text.now c.args.len (push (decimal c.args.n)) c.requires refl) (push (decimal (c.args.n / 10))) (push ((48 + c.args.n % 10) ∷ [])) (last_behind c.args.n (take c.args.len c.args.text.now) c.if-n-lt10.false) c.in-Done.is c.push_decimal.ensures) c.push_byte-in-Done.ensures
+pub returns : goal.returns
+returns t c =
+    owes_last (owes_step (owes_all c.args.text.now c.args.len (push (decimal c.args.n)) c.requires refl) (push (decimal (c.args.n / 10))) (push ((48 + c.args.n % 10) ∷ [])) (last_behind c.args.n (take c.args.len c.args.text.now) c.if-n-lt10.false) c.in_ok-m.was c.push_decimal.ensures) c.push_byte-2.ensures
 
-pub returns-in-Full : goal.returns-in-Full
-returns-in-Full t c =
-    owes_stop (owes_all c.args.text.now c.args.len (push (decimal c.args.n)) c.requires refl) (push (decimal (c.args.n / 10))) (push ((48 + c.args.n % 10) ∷ [])) (last_behind c.args.n (take c.args.len c.args.text.now) c.if-n-lt10.false) c.in-Full.is c.push_decimal.ensures
+pub returns-in_err-m : goal.returns-in_err-m
+returns-in_err-m t c =
+    stops c.from_residual.ensures.0 (owes_stop (owes_all c.args.text.now c.args.len (push (decimal c.args.n)) c.requires refl) (push (decimal (c.args.n / 10))) (push ((48 + c.args.n % 10) ∷ [])) (last_behind c.args.n (take c.args.len c.args.text.now) c.if-n-lt10.false) c.in_err-m.was c.push_decimal.ensures)

@@ -10,7 +10,7 @@ use Rattle.spec.specs.Md.TextUtils.{push_normalized_text, push_md_url, push_titl
 use Rattle.spec.specs.Md.Elements.Image.{if_some, image_of}
 use Rattle.spec.specs.Md.Elements.Link.{link_end}
 use Rattle.tree.specs.Represents.{attrs_behind}
-use Rattle.text.proofs.Writing.{alike, owes_all, owes_step, owes_stop, owes_last, then_assoc}
+use Rattle.text.proofs.Writing.{alike, owes_all, owes_step, owes_stop, owes_last, then_assoc, stops}
 use Rattle.lists_links.proofs.image.push_image.Goals as goal
 
 pub push_all-requires : goal.push_all-requires
@@ -20,24 +20,24 @@ push_all-requires c =
 pub push_alt-requires : goal.push_alt-requires
 unfolding image_of
 push_alt-requires c =
-    ((owes_step (owes_all c.args.text.now c.args.len (image_of (attrs_behind c.args.sheet.now c.args.place) (take (c.args.to - c.args.from) (drop c.args.from c.args.sheet.now))) c.requires.0 refl) (push (ascii "![")) (λ (t : List ℕ). and_then ((if_some (attr (ascii "alt") (attrs_behind c.args.sheet.now c.args.place)) (λ (alt : List ℕ). push_normalized_text alt new)) t) (λ (t : List ℕ). and_then (push (ascii "](") t) (λ (u : List ℕ). and_then (push_md_url (take (c.args.to - c.args.from) (drop c.args.from c.args.sheet.now)) u) (λ (t : List ℕ). and_then (if_some (attr (ascii "title") (attrs_behind c.args.sheet.now c.args.place)) push_title t) (push (ascii ")")))))) refl c.in-Done.is c.push_all.ensures).reach, c.requires.1)
+    ((owes_step (owes_all c.args.text.now c.args.len (image_of (attrs_behind c.args.sheet.now c.args.place) (take (c.args.to - c.args.from) (drop c.args.from c.args.sheet.now))) c.requires.0 refl) (push (ascii "![")) (λ (t : List ℕ). and_then ((if_some (attr (ascii "alt") (attrs_behind c.args.sheet.now c.args.place)) (λ (alt : List ℕ). push_normalized_text alt new)) t) (λ (t : List ℕ). and_then (push (ascii "](") t) (λ (u : List ℕ). and_then (push_md_url (take (c.args.to - c.args.from) (drop c.args.from c.args.sheet.now)) u) (λ (t : List ℕ). and_then (if_some (attr (ascii "title") (attrs_behind c.args.sheet.now c.args.place)) push_title t) (push (ascii ")")))))) refl c.in_ok-n.was c.push_all.ensures).reach, c.requires.1)
 
 pub push_link_end-requires : goal.push_link_end-requires
 unfolding image_of
 push_link_end-requires c =
-    ((owes_step (owes_step (owes_all c.args.text.now c.args.len (image_of (attrs_behind c.args.sheet.now c.args.place) (take (c.args.to - c.args.from) (drop c.args.from c.args.sheet.now))) c.requires.0 refl) (push (ascii "![")) (λ (t : List ℕ). and_then ((if_some (attr (ascii "alt") (attrs_behind c.args.sheet.now c.args.place)) (λ (alt : List ℕ). push_normalized_text alt new)) t) (λ (t : List ℕ). and_then (push (ascii "](") t) (λ (u : List ℕ). and_then (push_md_url (take (c.args.to - c.args.from) (drop c.args.from c.args.sheet.now)) u) (λ (t : List ℕ). and_then (if_some (attr (ascii "title") (attrs_behind c.args.sheet.now c.args.place)) push_title t) (push (ascii ")")))))) refl c.in-Done.is c.push_all.ensures) (if_some (attr (ascii "alt") (attrs_behind c.args.sheet.now c.args.place)) (λ (alt : List ℕ). push_normalized_text alt new)) (λ (t : List ℕ). and_then (push (ascii "](") t) (λ (u : List ℕ). and_then (push_md_url (take (c.args.to - c.args.from) (drop c.args.from c.args.sheet.now)) u) (λ (t : List ℕ). and_then (if_some (attr (ascii "title") (attrs_behind c.args.sheet.now c.args.place)) push_title t) (push (ascii ")"))))) refl c.in-Done-push_alt.is c.push_alt.ensures).reach, c.requires.1, c.requires.2, c.requires.3, c.requires.4)
+    ((owes_step (owes_step (owes_all c.args.text.now c.args.len (image_of (attrs_behind c.args.sheet.now c.args.place) (take (c.args.to - c.args.from) (drop c.args.from c.args.sheet.now))) c.requires.0 refl) (push (ascii "![")) (λ (t : List ℕ). and_then ((if_some (attr (ascii "alt") (attrs_behind c.args.sheet.now c.args.place)) (λ (alt : List ℕ). push_normalized_text alt new)) t) (λ (t : List ℕ). and_then (push (ascii "](") t) (λ (u : List ℕ). and_then (push_md_url (take (c.args.to - c.args.from) (drop c.args.from c.args.sheet.now)) u) (λ (t : List ℕ). and_then (if_some (attr (ascii "title") (attrs_behind c.args.sheet.now c.args.place)) push_title t) (push (ascii ")")))))) refl c.in_ok-n.was c.push_all.ensures) (if_some (attr (ascii "alt") (attrs_behind c.args.sheet.now c.args.place)) (λ (alt : List ℕ). push_normalized_text alt new)) (λ (t : List ℕ). and_then (push (ascii "](") t) (λ (u : List ℕ). and_then (push_md_url (take (c.args.to - c.args.from) (drop c.args.from c.args.sheet.now)) u) (λ (t : List ℕ). and_then (if_some (attr (ascii "title") (attrs_behind c.args.sheet.now c.args.place)) push_title t) (push (ascii ")"))))) refl c.in_ok-m.was c.push_alt.ensures).reach, c.requires.1, c.requires.2, c.requires.3, c.requires.4)
 
-pub returns-in-Done-push_alt : goal.returns-in-Done-push_alt
+pub returns : goal.returns
 unfolding image_of link_end
-returns-in-Done-push_alt c =
-    owes_last (owes_step (owes_step (owes_all c.args.text.now c.args.len (image_of (attrs_behind c.args.sheet.now c.args.place) (take (c.args.to - c.args.from) (drop c.args.from c.args.sheet.now))) c.requires.0 refl) (push (ascii "![")) (λ (t : List ℕ). and_then ((if_some (attr (ascii "alt") (attrs_behind c.args.sheet.now c.args.place)) (λ (alt : List ℕ). push_normalized_text alt new)) t) (λ (t : List ℕ). and_then (push (ascii "](") t) (λ (u : List ℕ). and_then (push_md_url (take (c.args.to - c.args.from) (drop c.args.from c.args.sheet.now)) u) (λ (t : List ℕ). and_then (if_some (attr (ascii "title") (attrs_behind c.args.sheet.now c.args.place)) push_title t) (push (ascii ")")))))) refl c.in-Done.is c.push_all.ensures) (if_some (attr (ascii "alt") (attrs_behind c.args.sheet.now c.args.place)) (λ (alt : List ℕ). push_normalized_text alt new)) (λ (t : List ℕ). and_then (push (ascii "](") t) (λ (u : List ℕ). and_then (push_md_url (take (c.args.to - c.args.from) (drop c.args.from c.args.sheet.now)) u) (λ (t : List ℕ). and_then (if_some (attr (ascii "title") (attrs_behind c.args.sheet.now c.args.place)) push_title t) (push (ascii ")"))))) refl c.in-Done-push_alt.is c.push_alt.ensures) (alike (sym (then_assoc (push (ascii "](") (take c.in-Done-push_alt.m c.push_alt.new.text)) (push_md_url (take (c.args.to - c.args.from) (drop c.args.from c.args.sheet.now))) (λ (t : List ℕ). and_then (if_some (attr (ascii "title") (attrs_behind c.args.sheet.now c.args.place)) push_title t) (push (ascii ")"))))) c.push_link_end.ensures)
+returns c =
+    owes_last (owes_step (owes_step (owes_all c.args.text.now c.args.len (image_of (attrs_behind c.args.sheet.now c.args.place) (take (c.args.to - c.args.from) (drop c.args.from c.args.sheet.now))) c.requires.0 refl) (push (ascii "![")) (λ (t : List ℕ). and_then ((if_some (attr (ascii "alt") (attrs_behind c.args.sheet.now c.args.place)) (λ (alt : List ℕ). push_normalized_text alt new)) t) (λ (t : List ℕ). and_then (push (ascii "](") t) (λ (u : List ℕ). and_then (push_md_url (take (c.args.to - c.args.from) (drop c.args.from c.args.sheet.now)) u) (λ (t : List ℕ). and_then (if_some (attr (ascii "title") (attrs_behind c.args.sheet.now c.args.place)) push_title t) (push (ascii ")")))))) refl c.in_ok-n.was c.push_all.ensures) (if_some (attr (ascii "alt") (attrs_behind c.args.sheet.now c.args.place)) (λ (alt : List ℕ). push_normalized_text alt new)) (λ (t : List ℕ). and_then (push (ascii "](") t) (λ (u : List ℕ). and_then (push_md_url (take (c.args.to - c.args.from) (drop c.args.from c.args.sheet.now)) u) (λ (t : List ℕ). and_then (if_some (attr (ascii "title") (attrs_behind c.args.sheet.now c.args.place)) push_title t) (push (ascii ")"))))) refl c.in_ok-m.was c.push_alt.ensures) (alike (sym (then_assoc (push (ascii "](") (take c.in_ok-m.m c.push_alt.new.text)) (push_md_url (take (c.args.to - c.args.from) (drop c.args.from c.args.sheet.now))) (λ (t : List ℕ). and_then (if_some (attr (ascii "title") (attrs_behind c.args.sheet.now c.args.place)) push_title t) (push (ascii ")"))))) c.push_link_end.ensures)
 
-pub returns-in-Full-push_alt : goal.returns-in-Full-push_alt
+pub returns-in_err-m : goal.returns-in_err-m
 unfolding image_of
-returns-in-Full-push_alt c =
-    owes_stop (owes_step (owes_all c.args.text.now c.args.len (image_of (attrs_behind c.args.sheet.now c.args.place) (take (c.args.to - c.args.from) (drop c.args.from c.args.sheet.now))) c.requires.0 refl) (push (ascii "![")) (λ (t : List ℕ). and_then ((if_some (attr (ascii "alt") (attrs_behind c.args.sheet.now c.args.place)) (λ (alt : List ℕ). push_normalized_text alt new)) t) (λ (t : List ℕ). and_then (push (ascii "](") t) (λ (u : List ℕ). and_then (push_md_url (take (c.args.to - c.args.from) (drop c.args.from c.args.sheet.now)) u) (λ (t : List ℕ). and_then (if_some (attr (ascii "title") (attrs_behind c.args.sheet.now c.args.place)) push_title t) (push (ascii ")")))))) refl c.in-Done.is c.push_all.ensures) (if_some (attr (ascii "alt") (attrs_behind c.args.sheet.now c.args.place)) (λ (alt : List ℕ). push_normalized_text alt new)) (λ (t : List ℕ). and_then (push (ascii "](") t) (λ (u : List ℕ). and_then (push_md_url (take (c.args.to - c.args.from) (drop c.args.from c.args.sheet.now)) u) (λ (t : List ℕ). and_then (if_some (attr (ascii "title") (attrs_behind c.args.sheet.now c.args.place)) push_title t) (push (ascii ")"))))) refl c.in-Full-push_alt.is c.push_alt.ensures
+returns-in_err-m c =
+    stops c.from_residual-in_err-m.ensures.0 (owes_stop (owes_step (owes_all c.args.text.now c.args.len (image_of (attrs_behind c.args.sheet.now c.args.place) (take (c.args.to - c.args.from) (drop c.args.from c.args.sheet.now))) c.requires.0 refl) (push (ascii "![")) (λ (t : List ℕ). and_then ((if_some (attr (ascii "alt") (attrs_behind c.args.sheet.now c.args.place)) (λ (alt : List ℕ). push_normalized_text alt new)) t) (λ (t : List ℕ). and_then (push (ascii "](") t) (λ (u : List ℕ). and_then (push_md_url (take (c.args.to - c.args.from) (drop c.args.from c.args.sheet.now)) u) (λ (t : List ℕ). and_then (if_some (attr (ascii "title") (attrs_behind c.args.sheet.now c.args.place)) push_title t) (push (ascii ")")))))) refl c.in_ok-n.was c.push_all.ensures) (if_some (attr (ascii "alt") (attrs_behind c.args.sheet.now c.args.place)) (λ (alt : List ℕ). push_normalized_text alt new)) (λ (t : List ℕ). and_then (push (ascii "](") t) (λ (u : List ℕ). and_then (push_md_url (take (c.args.to - c.args.from) (drop c.args.from c.args.sheet.now)) u) (λ (t : List ℕ). and_then (if_some (attr (ascii "title") (attrs_behind c.args.sheet.now c.args.place)) push_title t) (push (ascii ")"))))) refl c.in_err-m.was c.push_alt.ensures)
 
-pub returns-in-Full : goal.returns-in-Full
+pub returns-in_err-n : goal.returns-in_err-n
 unfolding image_of
-returns-in-Full c =
-    owes_stop (owes_all c.args.text.now c.args.len (image_of (attrs_behind c.args.sheet.now c.args.place) (take (c.args.to - c.args.from) (drop c.args.from c.args.sheet.now))) c.requires.0 refl) (push (ascii "![")) (λ (t : List ℕ). and_then ((if_some (attr (ascii "alt") (attrs_behind c.args.sheet.now c.args.place)) (λ (alt : List ℕ). push_normalized_text alt new)) t) (λ (t : List ℕ). and_then (push (ascii "](") t) (λ (u : List ℕ). and_then (push_md_url (take (c.args.to - c.args.from) (drop c.args.from c.args.sheet.now)) u) (λ (t : List ℕ). and_then (if_some (attr (ascii "title") (attrs_behind c.args.sheet.now c.args.place)) push_title t) (push (ascii ")")))))) refl c.in-Full.is c.push_all.ensures
+returns-in_err-n c =
+    stops c.from_residual.ensures.0 (owes_stop (owes_all c.args.text.now c.args.len (image_of (attrs_behind c.args.sheet.now c.args.place) (take (c.args.to - c.args.from) (drop c.args.from c.args.sheet.now))) c.requires.0 refl) (push (ascii "![")) (λ (t : List ℕ). and_then ((if_some (attr (ascii "alt") (attrs_behind c.args.sheet.now c.args.place)) (λ (alt : List ℕ). push_normalized_text alt new)) t) (λ (t : List ℕ). and_then (push (ascii "](") t) (λ (u : List ℕ). and_then (push_md_url (take (c.args.to - c.args.from) (drop c.args.from c.args.sheet.now)) u) (λ (t : List ℕ). and_then (if_some (attr (ascii "title") (attrs_behind c.args.sheet.now c.args.place)) push_title t) (push (ascii ")")))))) refl c.in_err-n.was c.push_all.ensures)

@@ -5,7 +5,7 @@ use lib.ListN.{take, drop, length-take}
 use Rattle.spec.specs.Bytes.{ascii}
 use Rattle.spec.specs.Out.{push, and_then}
 use Rattle.spec.specs.Md.TextUtils.{push_md_url}
-use Rattle.text.proofs.Writing.{owes_all, owes_step, owes_stop, owes_last}
+use Rattle.text.proofs.Writing.{owes_all, owes_step, owes_stop, owes_last, stops}
 use native.Mathlib.Omega.{arith}
 use Rattle.lists_links.proofs.link.push_dest.Goals as goal
 
@@ -27,12 +27,12 @@ slice_bounds-push_md_url-end c =
 
 pub push_md_url-requires : goal.push_md_url-requires
 push_md_url-requires c =
-    ((owes_step (owes_all c.args.text.now c.args.len (λ (t : List ℕ). and_then (push (ascii "](") t) (push_md_url (take (c.args.to - c.args.from) (drop c.args.from c.args.sheet.now)))) c.requires.0 refl) (push (ascii "](")) (push_md_url (take (c.args.to - c.args.from) (drop c.args.from c.args.sheet.now))) refl c.in-Done.is c.push_all.ensures).reach, omega (arith, length-take (c.args.to - c.args.from) (drop c.args.from c.args.sheet.now), c.requires.1, c.requires.2, c.requires.3))
+    ((owes_step (owes_all c.args.text.now c.args.len (λ (t : List ℕ). and_then (push (ascii "](") t) (push_md_url (take (c.args.to - c.args.from) (drop c.args.from c.args.sheet.now)))) c.requires.0 refl) (push (ascii "](")) (push_md_url (take (c.args.to - c.args.from) (drop c.args.from c.args.sheet.now))) refl c.in_ok-n.was c.push_all.ensures).reach, omega (arith, length-take (c.args.to - c.args.from) (drop c.args.from c.args.sheet.now), c.requires.1, c.requires.2, c.requires.3))
 
-pub returns-in-Done : goal.returns-in-Done
-returns-in-Done c =
-    owes_last (owes_step (owes_all c.args.text.now c.args.len (λ (t : List ℕ). and_then (push (ascii "](") t) (push_md_url (take (c.args.to - c.args.from) (drop c.args.from c.args.sheet.now)))) c.requires.0 refl) (push (ascii "](")) (push_md_url (take (c.args.to - c.args.from) (drop c.args.from c.args.sheet.now))) refl c.in-Done.is c.push_all.ensures) c.push_md_url.ensures
+pub returns : goal.returns
+returns c =
+    owes_last (owes_step (owes_all c.args.text.now c.args.len (λ (t : List ℕ). and_then (push (ascii "](") t) (push_md_url (take (c.args.to - c.args.from) (drop c.args.from c.args.sheet.now)))) c.requires.0 refl) (push (ascii "](")) (push_md_url (take (c.args.to - c.args.from) (drop c.args.from c.args.sheet.now))) refl c.in_ok-n.was c.push_all.ensures) c.push_md_url.ensures
 
-pub returns-in-Full : goal.returns-in-Full
-returns-in-Full c =
-    owes_stop (owes_all c.args.text.now c.args.len (λ (t : List ℕ). and_then (push (ascii "](") t) (push_md_url (take (c.args.to - c.args.from) (drop c.args.from c.args.sheet.now)))) c.requires.0 refl) (push (ascii "](")) (push_md_url (take (c.args.to - c.args.from) (drop c.args.from c.args.sheet.now))) refl c.in-Full.is c.push_all.ensures
+pub returns-in_err-n : goal.returns-in_err-n
+returns-in_err-n c =
+    stops c.from_residual.ensures.0 (owes_stop (owes_all c.args.text.now c.args.len (λ (t : List ℕ). and_then (push (ascii "](") t) (push_md_url (take (c.args.to - c.args.from) (drop c.args.from c.args.sheet.now)))) c.requires.0 refl) (push (ascii "](")) (push_md_url (take (c.args.to - c.args.from) (drop c.args.from c.args.sheet.now))) refl c.in_err-n.was c.push_all.ensures)

@@ -3,17 +3,17 @@ use mathlib.Core.List.{◌++◌}
 use lib.ListN.{take, replicate}
 use Rattle.spec.specs.Out.{push}
 use Rattle.spec.specs.Md.Ctx.{break_of}
-use Rattle.text.proofs.Writing.{owes_all, owes_step, owes_stop, owes_last, push_both}
+use Rattle.text.proofs.Writing.{owes_all, owes_step, owes_stop, owes_last, push_both, stops}
 use Rattle.lists_links.proofs.list.push_line_start.Goals as goal
 
 pub push_repeated-requires : goal.push_repeated-requires
 push_repeated-requires c =
-    (owes_step (owes_all c.args.text.now c.args.len (push ((break_of c.args.item.ctx) ++ (replicate c.args.item.indent 32))) c.requires refl) (push (break_of c.args.item.ctx)) (push (replicate c.args.item.indent 32)) (push_both (break_of c.args.item.ctx) (replicate c.args.item.indent 32) (take c.args.len c.args.text.now)) c.in-Done.is c.push_linebreak.ensures).reach
+    (owes_step (owes_all c.args.text.now c.args.len (push ((break_of c.args.item.ctx) ++ (replicate c.args.item.indent 32))) c.requires refl) (push (break_of c.args.item.ctx)) (push (replicate c.args.item.indent 32)) (push_both (break_of c.args.item.ctx) (replicate c.args.item.indent 32) (take c.args.len c.args.text.now)) c.in_ok-n.was c.push_linebreak.ensures).reach
 
-pub returns-in-Done : goal.returns-in-Done
-returns-in-Done c =
-    owes_last (owes_step (owes_all c.args.text.now c.args.len (push ((break_of c.args.item.ctx) ++ (replicate c.args.item.indent 32))) c.requires refl) (push (break_of c.args.item.ctx)) (push (replicate c.args.item.indent 32)) (push_both (break_of c.args.item.ctx) (replicate c.args.item.indent 32) (take c.args.len c.args.text.now)) c.in-Done.is c.push_linebreak.ensures) c.push_repeated.ensures
+pub returns : goal.returns
+returns c =
+    owes_last (owes_step (owes_all c.args.text.now c.args.len (push ((break_of c.args.item.ctx) ++ (replicate c.args.item.indent 32))) c.requires refl) (push (break_of c.args.item.ctx)) (push (replicate c.args.item.indent 32)) (push_both (break_of c.args.item.ctx) (replicate c.args.item.indent 32) (take c.args.len c.args.text.now)) c.in_ok-n.was c.push_linebreak.ensures) c.push_repeated.ensures
 
-pub returns-in-Full : goal.returns-in-Full
-returns-in-Full c =
-    owes_stop (owes_all c.args.text.now c.args.len (push ((break_of c.args.item.ctx) ++ (replicate c.args.item.indent 32))) c.requires refl) (push (break_of c.args.item.ctx)) (push (replicate c.args.item.indent 32)) (push_both (break_of c.args.item.ctx) (replicate c.args.item.indent 32) (take c.args.len c.args.text.now)) c.in-Full.is c.push_linebreak.ensures
+pub returns-in_err-n : goal.returns-in_err-n
+returns-in_err-n c =
+    stops c.from_residual.ensures.0 (owes_stop (owes_all c.args.text.now c.args.len (push ((break_of c.args.item.ctx) ++ (replicate c.args.item.indent 32))) c.requires refl) (push (break_of c.args.item.ctx)) (push (replicate c.args.item.indent 32)) (push_both (break_of c.args.item.ctx) (replicate c.args.item.indent 32) (take c.args.len c.args.text.now)) c.in_err-n.was c.push_linebreak.ensures)

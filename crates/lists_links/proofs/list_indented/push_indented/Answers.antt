@@ -1,3 +1,4 @@
+use Rattle.text.proofs.Writing.{stops}
 use mathlib.Core.Path.{refl, sym, ap, ◌∙◌}
 use mathlib.Core.List.{List, ◌++◌}
 use Prim.Native.Nat.{ℕ, ◌-◌}
@@ -35,23 +36,15 @@ own_line-requires c =
 
 pub push_block-requires : goal.push_block-requires
 push_block-requires c =
-    let o = owed_step (owed_all (length c.args.text.now - c.args.n) c.lift.new.text c.args.len ((own_block (item_of c.args.item)) (drop (length c.args.text.now - c.args.n) c.lift.new.text)) (omega (arith, c.requires)) (omega (arith, c.lift.ensures.long, c.requires)) refl) (def.own_line (item_of c.args.item)) (push (def.block_lines (item_of c.args.item) (split def.is_line_end (block_text (drop (length c.args.text.now - c.args.n) c.lift.new.text))))) refl c.in-Done.is (lent_front (length c.args.text.now - c.args.n) c.args.len c.lift.new.text c.own_line.new.text (def.own_line (item_of c.args.item)) (omega (arith, c.requires)) (omega (arith, c.lift.ensures.long, c.requires)) c.own_line.auto.text c.own_line.ensures) in
+    let o = owed_step (owed_all (length c.args.text.now - c.args.n) c.lift.new.text c.args.len ((own_block (item_of c.args.item)) (drop (length c.args.text.now - c.args.n) c.lift.new.text)) (omega (arith, c.requires)) (omega (arith, c.lift.ensures.long, c.requires)) refl) (def.own_line (item_of c.args.item)) (push (def.block_lines (item_of c.args.item) (split def.is_line_end (block_text (drop (length c.args.text.now - c.args.n) c.lift.new.text))))) refl c.in_ok-m.was (lent_front (length c.args.text.now - c.args.n) c.args.len c.lift.new.text c.own_line.new.text (def.own_line (item_of c.args.item)) (omega (arith, c.requires)) (omega (arith, c.lift.ensures.long, c.requires)) c.own_line.auto.text c.own_line.ensures) in
     (owed_reach o, omega (arith, o.still.long, c.lift.ensures.long))
 
-pub shape_of-text-in-Done : goal.shape_of-text-in-Done
-shape_of-text-in-Done c =
-    c.push_block.ensures.long ∙ (lent_front (length c.args.text.now - c.args.n) c.args.len c.lift.new.text c.own_line.new.text (def.own_line (item_of c.args.item)) (omega (arith, c.requires)) (omega (arith, c.lift.ensures.long, c.requires)) c.own_line.auto.text c.own_line.ensures).long ∙ c.lift.ensures.long
-
-pub returns-in-Done : goal.returns-in-Done
-returns-in-Done c =
-    let o = owed_step (owed_all (length c.args.text.now - c.args.n) c.lift.new.text c.args.len ((own_block (item_of c.args.item)) (drop (length c.args.text.now - c.args.n) c.lift.new.text)) (omega (arith, c.requires)) (omega (arith, c.lift.ensures.long, c.requires)) refl) (def.own_line (item_of c.args.item)) (push (def.block_lines (item_of c.args.item) (split def.is_line_end (block_text (drop (length c.args.text.now - c.args.n) c.lift.new.text))))) refl c.in-Done.is (lent_front (length c.args.text.now - c.args.n) c.args.len c.lift.new.text c.own_line.new.text (def.own_line (item_of c.args.item)) (omega (arith, c.requires)) (omega (arith, c.lift.ensures.long, c.requires)) c.own_line.auto.text c.own_line.ensures) in
+pub returns : goal.returns
+returns c =
+    let o = owed_step (owed_all (length c.args.text.now - c.args.n) c.lift.new.text c.args.len ((own_block (item_of c.args.item)) (drop (length c.args.text.now - c.args.n) c.lift.new.text)) (omega (arith, c.requires)) (omega (arith, c.lift.ensures.long, c.requires)) refl) (def.own_line (item_of c.args.item)) (push (def.block_lines (item_of c.args.item) (split def.is_line_end (block_text (drop (length c.args.text.now - c.args.n) c.lift.new.text))))) refl c.in_ok-m.was (lent_front (length c.args.text.now - c.args.n) c.args.len c.lift.new.text c.own_line.new.text (def.own_line (item_of c.args.item)) (omega (arith, c.requires)) (omega (arith, c.lift.ensures.long, c.requires)) c.own_line.auto.text c.own_line.ensures) in
     lifted_writes {len = c.args.len} (omega arith) c.requires refl c.lift.ensures (indented_block (item_of c.args.item)) (beside_behind (omega (arith, c.lift.ensures.long, c.requires))
-    (owed_last o (alike_in (ap (λ (s : List ℕ). push (def.block_lines (item_of c.args.item) (split def.is_line_end (block_text s))) (take c.in-Done.m (c.own_line.new.text ++ drop (length c.args.text.now - c.args.n) c.lift.new.text))) (sym o.still.behind)) c.push_block.ensures)))
+    (owed_last o (alike_in (ap (λ (s : List ℕ). push (def.block_lines (item_of c.args.item) (split def.is_line_end (block_text s))) (take c.in_ok-m.m (c.own_line.new.text ++ drop (length c.args.text.now - c.args.n) c.lift.new.text))) (sym o.still.behind)) c.push_block.ensures)))
 
-pub shape_of-text-in-Full : goal.shape_of-text-in-Full
-shape_of-text-in-Full c =
-    (lent_front (length c.args.text.now - c.args.n) c.args.len c.lift.new.text c.own_line.new.text (def.own_line (item_of c.args.item)) (omega (arith, c.requires)) (omega (arith, c.lift.ensures.long, c.requires)) c.own_line.auto.text c.own_line.ensures).long ∙ c.lift.ensures.long
-
-pub returns-in-Full : goal.returns-in-Full
-returns-in-Full c =
-    lifted_writes {len = c.args.len} (omega arith) c.requires refl c.lift.ensures (indented_block (item_of c.args.item)) (beside_behind (omega (arith, c.lift.ensures.long, c.requires)) (owed_stop (owed_all (length c.args.text.now - c.args.n) c.lift.new.text c.args.len ((own_block (item_of c.args.item)) (drop (length c.args.text.now - c.args.n) c.lift.new.text)) (omega (arith, c.requires)) (omega (arith, c.lift.ensures.long, c.requires)) refl) (def.own_line (item_of c.args.item)) (push (def.block_lines (item_of c.args.item) (split def.is_line_end (block_text (drop (length c.args.text.now - c.args.n) c.lift.new.text))))) refl c.in-Full.is (lent_front (length c.args.text.now - c.args.n) c.args.len c.lift.new.text c.own_line.new.text (def.own_line (item_of c.args.item)) (omega (arith, c.requires)) (omega (arith, c.lift.ensures.long, c.requires)) c.own_line.auto.text c.own_line.ensures)))
+pub returns-in_err-m : goal.returns-in_err-m
+returns-in_err-m c =
+    stops c.from_residual.ensures.0 (lifted_writes {len = c.args.len} (omega arith) c.requires refl c.lift.ensures (indented_block (item_of c.args.item)) (beside_behind (omega (arith, c.lift.ensures.long, c.requires)) (owed_stop (owed_all (length c.args.text.now - c.args.n) c.lift.new.text c.args.len ((own_block (item_of c.args.item)) (drop (length c.args.text.now - c.args.n) c.lift.new.text)) (omega (arith, c.requires)) (omega (arith, c.lift.ensures.long, c.requires)) refl) (def.own_line (item_of c.args.item)) (push (def.block_lines (item_of c.args.item) (split def.is_line_end (block_text (drop (length c.args.text.now - c.args.n) c.lift.new.text))))) refl c.in_err-m.was (lent_front (length c.args.text.now - c.args.n) c.args.len c.lift.new.text c.own_line.new.text (def.own_line (item_of c.args.item)) (omega (arith, c.requires)) (omega (arith, c.lift.ensures.long, c.requires)) c.own_line.auto.text c.own_line.ensures))))

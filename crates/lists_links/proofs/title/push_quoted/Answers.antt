@@ -8,7 +8,7 @@ use lib.Seq.{slice}
 use Rattle.spec.specs.Bytes.{ascii}
 use Rattle.spec.specs.Out.{push}
 use Rattle.spec.specs.Md.TextUtils.{each_byte, quote_escaped}
-use Rattle.text.proofs.Sourcing.{owed_all, owed_step, owed_stop, owed_nothing, owed_reach, get_d_kept}
+use Rattle.text.proofs.Sourcing.{owed_all, owed_step, owed_stop, owed_nothing, owed_reach, get_d_kept, stops_in}
 use Rattle.text.proofs.Temporary.{quote_turn, quotes_end}
 use native.Mathlib.Omega.{arith}
 use Rattle.lists_links.proofs.title.push_quoted.Goals as goal
@@ -30,17 +30,13 @@ pub put_escaped-requires : goal.put_escaped-requires
 put_escaped-requires c =
     (owed_reach c.loop-i.invariant.2, omega (arith, c.loop-i.invariant.2.still.long, c.requires.1))
 
-pub shape_of-text-in-Full : goal.shape_of-text-in-Full
-shape_of-text-in-Full c =
-    c.put_escaped.ensures.long ∙ c.loop-i.invariant.2.still.long
-
-pub returns-in-Full : goal.returns-in-Full
-returns-in-Full c =
-    let a = c.args in
+pub returns-in_err-m : goal.returns-in_err-m
+returns-in_err-m c =
+    stops_in c.from_residual.ensures.0 (let a = c.args in
     let l = c.loop-i in
     let o = l.invariant.2 in
     owed_stop o (push (cond (eqb (get_or l.text l.i 0) 34) (ascii "\\") [] ++ (get_or l.text l.i 0 ∷ []))) (push (each_byte quote_escaped (slice (l.i + 1) (a.base + a.n) a.text.now)))
-    (quote_turn a.text.now l.i (a.base + a.n) (get_or l.text l.i 0) (take l.m l.text) c.loop-i-test.true c.requires.1 (get_d_kept o.still l.i l.invariant.0)) c.in-Full.is c.put_escaped.ensures
+    (quote_turn a.text.now l.i (a.base + a.n) (get_or l.text l.i 0) (take l.m l.text) c.loop-i-test.true c.requires.1 (get_d_kept o.still l.i l.invariant.0)) c.in_err-m.was c.put_escaped.ensures)
 
 pub overflow_add-i : goal.overflow_add-i
 overflow_add-i c =
@@ -58,7 +54,7 @@ loop-i-preserved c =
       omega (arith, l.invariant.0),
       omega (arith, c.loop-i-test.true),
       owed_step o (push (cond (eqb (get_or l.text l.i 0) 34) (ascii "\\") [] ++ (get_or l.text l.i 0 ∷ []))) (push (each_byte quote_escaped (slice (l.i + 1) (a.base + a.n) a.text.now)))
-          (quote_turn a.text.now l.i (a.base + a.n) (get_or l.text l.i 0) (take l.m l.text) c.loop-i-test.true c.requires.1 (get_d_kept o.still l.i l.invariant.0)) c.in-Done.is c.put_escaped.ensures,
+          (quote_turn a.text.now l.i (a.base + a.n) (get_or l.text l.i 0) (take l.m l.text) c.loop-i-test.true c.requires.1 (get_d_kept o.still l.i l.invariant.0)) c.in_ok-m.was c.put_escaped.ensures,
     )
 
 pub shape_of-text : goal.shape_of-text

@@ -5,7 +5,7 @@ use Rattle.spec.specs.Out.{push, beside}
 use Rattle.spec.specs.Md.Ctx.{new}
 use Rattle.spec.specs.Md.TextUtils.{each_byte, quote_escaped, quoted_title, push_normalized_text}
 use Rattle.spec.specs.declared.ctx.FormatOpts.{FormatOpts}
-use Rattle.text.proofs.Writing.{alike, done, full}
+use Rattle.text.proofs.Writing.{alike, done, full, stops}
 use Rattle.text.proofs.Temporary.{temp_full, temp_fits, back_length, temp_writes}
 use native.Mathlib.Omega.{arith}
 use Rattle.lists_links.proofs.title.push_quoted_title.Goals as goal
@@ -15,7 +15,7 @@ overflow_sub-base c =
     let a = c.args in
     let v = alike (ap (λ (x : FormatOpts). push_normalized_text a.title.now x []) (sym c.new-opts.ensures)) c.push_normalized_text.ensures in
     let o = push_normalized_text a.title.now new [] in
-    let w = done c.in-Done.is v in
+    let w = done c.in_ok-n.was v in
     omega (arith, temp_fits a.text.now a.len c.requires o w)
 
 pub lift-requires : goal.lift-requires
@@ -23,7 +23,7 @@ lift-requires c =
     let a = c.args in
     let v = alike (ap (λ (x : FormatOpts). push_normalized_text a.title.now x []) (sym c.new-opts.ensures)) c.push_normalized_text.ensures in
     let o = push_normalized_text a.title.now new [] in
-    let w = done c.in-Done.is v in
+    let w = done c.in_ok-n.was v in
     (omega (arith, temp_fits a.text.now a.len c.requires o w), omega (arith, temp_fits a.text.now a.len c.requires o w))
 
 pub push_quoted-requires : goal.push_quoted-requires
@@ -31,30 +31,22 @@ push_quoted-requires c =
     let a = c.args in
     let v = alike (ap (λ (x : FormatOpts). push_normalized_text a.title.now x []) (sym c.new-opts.ensures)) c.push_normalized_text.ensures in
     let o = push_normalized_text a.title.now new [] in
-    let w = done c.in-Done.is v in
+    let w = done c.in_ok-n.was v in
     (omega (arith, temp_fits a.text.now a.len c.requires o w), omega (arith, temp_fits a.text.now a.len c.requires o w, c.lift.ensures.long))
 
-pub shape_of-text-in-Done : goal.shape_of-text-in-Done
-shape_of-text-in-Done c =
-    let a = c.args in
-    let v = alike (ap (λ (x : FormatOpts). push_normalized_text a.title.now x []) (sym c.new-opts.ensures)) c.push_normalized_text.ensures in
-    let o = push_normalized_text a.title.now new [] in
-    let w = done c.in-Done.is v in
-    c.push_quoted.ensures.long ∙ c.lift.ensures.long ∙ back_length a.text.now a.len c.requires o w
-
-pub returns-in-Done : goal.returns-in-Done
+pub returns : goal.returns
 unfolding quoted_title
-returns-in-Done c =
+returns c =
     let a = c.args in
     let v = alike (ap (λ (x : FormatOpts). push_normalized_text a.title.now x []) (sym c.new-opts.ensures)) c.push_normalized_text.ensures in
     let o = push_normalized_text a.title.now new [] in
-    let w = done c.in-Done.is v in
+    let w = done c.in_ok-n.was v in
     temp_writes a.text.now a.len c.requires o w _ refl _ c.lift.ensures (each_byte quote_escaped) c.push_quoted.ensures
 
-pub returns-in-Full : goal.returns-in-Full
+pub returns-in_err-n : goal.returns-in_err-n
 unfolding quoted_title
-returns-in-Full c =
-    let a = c.args in
+returns-in_err-n c =
+    stops c.from_residual.ensures.0 (let a = c.args in
     let v = alike (ap (λ (x : FormatOpts). push_normalized_text a.title.now x []) (sym c.new-opts.ensures)) c.push_normalized_text.ensures in
     let o = push_normalized_text a.title.now new [] in
-    record { says = temp_full a.text.now a.len c.requires o (λ t. beside (length o.text) (push (each_byte quote_escaped o.text) t)) (full c.in-Full.is v) }
+    record { says = temp_full a.text.now a.len c.requires o (λ t. beside (length o.text) (push (each_byte quote_escaped o.text) t)) (full c.in_err-n.was v) })

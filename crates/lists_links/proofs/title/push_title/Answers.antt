@@ -7,7 +7,7 @@ use Rattle.spec.specs.Bytes.{ascii, isin}
 use Rattle.spec.specs.Out.{push, and_then}
 use Rattle.spec.specs.Md.Ctx.{new}
 use Rattle.spec.specs.Md.TextUtils.{quoted_title, push_normalized_text, push_title}
-use Rattle.text.proofs.Writing.{owes_all, owes_step, owes_stop, owes_last, then_assoc}
+use Rattle.text.proofs.Writing.{owes_all, owes_step, owes_stop, owes_last, then_assoc, stops}
 use Rattle.lists_links.proofs.title.push_title.Goals as goal
 
 pub push_title_text-requires : goal.push_title_text-requires
@@ -17,7 +17,7 @@ push_title_text-requires c =
     let f = cond (isin 34 a.title.now) (quoted_title a.title.now) (push_normalized_text a.title.now new) in
     let o₁ = owes_all a.text.now a.len (push_title a.title.now) c.requires refl in
     let e₁ = then_assoc (push (ascii " \"") (take a.len a.text.now)) f (push (ascii "\"")) in
-    let o₂ = owes_step o₁ (push (ascii " \"")) (λ (t : List ℕ). and_then (cond (isin 34 a.title.now) (quoted_title a.title.now) (push_normalized_text a.title.now new) t) (push (ascii "\""))) e₁ c.in-Done.is c.push_all.ensures in
+    let o₂ = owes_step o₁ (push (ascii " \"")) (λ (t : List ℕ). and_then (cond (isin 34 a.title.now) (quoted_title a.title.now) (push_normalized_text a.title.now new) t) (push (ascii "\""))) e₁ c.in_ok-n.was c.push_all.ensures in
     o₂.reach
 
 pub push_byte-requires : goal.push_byte-requires
@@ -27,36 +27,36 @@ push_byte-requires c =
     let f = cond (isin 34 a.title.now) (quoted_title a.title.now) (push_normalized_text a.title.now new) in
     let o₁ = owes_all a.text.now a.len (push_title a.title.now) c.requires refl in
     let e₁ = then_assoc (push (ascii " \"") (take a.len a.text.now)) f (push (ascii "\"")) in
-    let o₂ = owes_step o₁ (push (ascii " \"")) (λ (t : List ℕ). and_then (cond (isin 34 a.title.now) (quoted_title a.title.now) (push_normalized_text a.title.now new) t) (push (ascii "\""))) e₁ c.in-Done.is c.push_all.ensures in
-    let o₃ = owes_step o₂ (cond (isin 34 a.title.now) (quoted_title a.title.now) (push_normalized_text a.title.now new)) (push (ascii "\"")) refl c.in-Done-push_title_text.is c.push_title_text.ensures in
+    let o₂ = owes_step o₁ (push (ascii " \"")) (λ (t : List ℕ). and_then (cond (isin 34 a.title.now) (quoted_title a.title.now) (push_normalized_text a.title.now new) t) (push (ascii "\""))) e₁ c.in_ok-n.was c.push_all.ensures in
+    let o₃ = owes_step o₂ (cond (isin 34 a.title.now) (quoted_title a.title.now) (push_normalized_text a.title.now new)) (push (ascii "\"")) refl c.in_ok-m.was c.push_title_text.ensures in
     o₃.reach
 
-pub returns-in-Done-push_title_text : goal.returns-in-Done-push_title_text
+pub returns : goal.returns
 unfolding push_title
-returns-in-Done-push_title_text c =
+returns c =
     let a = c.args in
     let f = cond (isin 34 a.title.now) (quoted_title a.title.now) (push_normalized_text a.title.now new) in
     let o₁ = owes_all a.text.now a.len (push_title a.title.now) c.requires refl in
     let e₁ = then_assoc (push (ascii " \"") (take a.len a.text.now)) f (push (ascii "\"")) in
-    let o₂ = owes_step o₁ (push (ascii " \"")) (λ (t : List ℕ). and_then (cond (isin 34 a.title.now) (quoted_title a.title.now) (push_normalized_text a.title.now new) t) (push (ascii "\""))) e₁ c.in-Done.is c.push_all.ensures in
-    let o₃ = owes_step o₂ (cond (isin 34 a.title.now) (quoted_title a.title.now) (push_normalized_text a.title.now new)) (push (ascii "\"")) refl c.in-Done-push_title_text.is c.push_title_text.ensures in
+    let o₂ = owes_step o₁ (push (ascii " \"")) (λ (t : List ℕ). and_then (cond (isin 34 a.title.now) (quoted_title a.title.now) (push_normalized_text a.title.now new) t) (push (ascii "\""))) e₁ c.in_ok-n.was c.push_all.ensures in
+    let o₃ = owes_step o₂ (cond (isin 34 a.title.now) (quoted_title a.title.now) (push_normalized_text a.title.now new)) (push (ascii "\"")) refl c.in_ok-m.was c.push_title_text.ensures in
     owes_last o₃ c.push_byte.ensures
 
-pub returns-in-Full-push_title_text : goal.returns-in-Full-push_title_text
+pub returns-in_err-m : goal.returns-in_err-m
 unfolding push_title
-returns-in-Full-push_title_text c =
-    let a = c.args in
+returns-in_err-m c =
+    stops c.from_residual-in_err-m.ensures.0 (let a = c.args in
     let f = cond (isin 34 a.title.now) (quoted_title a.title.now) (push_normalized_text a.title.now new) in
     let o₁ = owes_all a.text.now a.len (push_title a.title.now) c.requires refl in
     let e₁ = then_assoc (push (ascii " \"") (take a.len a.text.now)) f (push (ascii "\"")) in
-    let o₂ = owes_step o₁ (push (ascii " \"")) (λ (t : List ℕ). and_then (cond (isin 34 a.title.now) (quoted_title a.title.now) (push_normalized_text a.title.now new) t) (push (ascii "\""))) e₁ c.in-Done.is c.push_all.ensures in
-    owes_stop o₂ (cond (isin 34 a.title.now) (quoted_title a.title.now) (push_normalized_text a.title.now new)) (push (ascii "\"")) refl c.in-Full-push_title_text.is c.push_title_text.ensures
+    let o₂ = owes_step o₁ (push (ascii " \"")) (λ (t : List ℕ). and_then (cond (isin 34 a.title.now) (quoted_title a.title.now) (push_normalized_text a.title.now new) t) (push (ascii "\""))) e₁ c.in_ok-n.was c.push_all.ensures in
+    owes_stop o₂ (cond (isin 34 a.title.now) (quoted_title a.title.now) (push_normalized_text a.title.now new)) (push (ascii "\"")) refl c.in_err-m.was c.push_title_text.ensures)
 
-pub returns-in-Full : goal.returns-in-Full
+pub returns-in_err-n : goal.returns-in_err-n
 unfolding push_title
-returns-in-Full c =
-    let a = c.args in
+returns-in_err-n c =
+    stops c.from_residual.ensures.0 (let a = c.args in
     let f = cond (isin 34 a.title.now) (quoted_title a.title.now) (push_normalized_text a.title.now new) in
     let o₁ = owes_all a.text.now a.len (push_title a.title.now) c.requires refl in
     let e₁ = then_assoc (push (ascii " \"") (take a.len a.text.now)) f (push (ascii "\"")) in
-    owes_stop o₁ (push (ascii " \"")) (λ (t : List ℕ). and_then (cond (isin 34 a.title.now) (quoted_title a.title.now) (push_normalized_text a.title.now new) t) (push (ascii "\""))) e₁ c.in-Full.is c.push_all.ensures
+    owes_stop o₁ (push (ascii " \"")) (λ (t : List ℕ). and_then (cond (isin 34 a.title.now) (quoted_title a.title.now) (push_normalized_text a.title.now new) t) (push (ascii "\""))) e₁ c.in_err-n.was c.push_all.ensures)

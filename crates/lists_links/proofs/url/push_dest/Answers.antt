@@ -9,7 +9,7 @@ use Rattle.spec.specs.Out.{push}
 use Rattle.spec.specs.Md.TextUtils.{each_byte, html_from, html_escape, is_nbsp}
 use Rattle.lists_links.specs.Url.{url_byte, piece_of}
 use Rattle.text.proofs.Reading.{rest_part}
-use Rattle.text.proofs.Writing.{alike, owes_all, owes_step, owes_stop, owes_nothing}
+use Rattle.text.proofs.Writing.{alike, owes_all, owes_step, owes_stop, owes_nothing, stops}
 use Rattle.lists_links.proofs.Linking.{piece_turn, pieces_end, kept_pieces}
 use native.Mathlib.Omega.{arith}
 use Rattle.lists_links.proofs.url.push_dest.Goals as goal
@@ -34,19 +34,15 @@ pub push_piece-requires : goal.push_piece-requires
 push_piece-requires c =
     c.loop-i.invariant.1.reach
 
-pub shape_of-text-in-Full : goal.shape_of-text-in-Full
-shape_of-text-in-Full c =
-    c.push_piece.auto.text ∙ c.loop-i.invariant.1.long
-
-pub returns-in-Full : goal.returns-in-Full
+pub returns-in_err-n : goal.returns-in_err-n
 unfolding is_nbsp
-returns-in-Full c =
-    let a = c.args in let l = c.loop-i in
+returns-in_err-n c =
+    stops c.from_residual.ensures.0 (let a = c.args in let l = c.loop-i in
     let d = a.dest.now in
     let nb = eqb (get_or d l.i 0) 194 && c.starts_with_byte.result in
     let e = ap (λ (t : Bool). eqb (get_or d l.i 0) 194 && t) (c.starts_with_byte.ensures ∙ ap (starts_with (160 ∷ [])) (rest_part (l.i + 1) d)) in
     owes_stop l.invariant.1 (push (piece_of a.wrap l.second nb (get_or d l.i 0))) (push (each_byte (url_byte a.wrap) (html_from (not l.second && nb) (drop (l.i + 1) d))))
-    (piece_turn a.wrap l.second nb d (take l.n l.text) l.i c.loop-i-test.true e) c.in-Full.is c.push_piece.ensures
+    (piece_turn a.wrap l.second nb d (take l.n l.text) l.i c.loop-i-test.true e) c.in_err-n.was c.push_piece.ensures)
 
 pub overflow_add-i : goal.overflow_add-i
 overflow_add-i c =
@@ -61,7 +57,7 @@ loop-i-preserved c =
     let e = ap (λ (t : Bool). eqb (get_or d l.i 0) 194 && t) (c.starts_with_byte.ensures ∙ ap (starts_with (160 ∷ [])) (rest_part (l.i + 1) d)) in (
       omega (arith, c.loop-i-test.true),
       owes_step l.invariant.1 (push (piece_of a.wrap l.second nb (get_or d l.i 0))) (push (each_byte (url_byte a.wrap) (html_from (not l.second && nb) (drop (l.i + 1) d))))
-          (piece_turn a.wrap l.second nb d (take l.n l.text) l.i c.loop-i-test.true e) c.in-Done.is c.push_piece.ensures,
+          (piece_turn a.wrap l.second nb d (take l.n l.text) l.i c.loop-i-test.true e) c.in_ok-n.was c.push_piece.ensures,
     )
 
 pub shape_of-text : goal.shape_of-text

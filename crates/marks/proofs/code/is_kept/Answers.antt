@@ -6,4 +6,4 @@ use Rattle.marks.proofs.code.is_kept.Goals as goal
 pub returns : goal.returns
 unfolding is_alphanumeric isin
 returns c =
-    simp (c.is_in.ensures, or-false)
+    simp (c.has.ensures, or-false)

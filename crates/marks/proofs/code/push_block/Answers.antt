@@ -12,7 +12,7 @@ use Rattle.text.proofs.Reading.{rest_part}
 use Rattle.text.proofs.Sourcing.{lent_front}
 use Rattle.text.proofs.Lifting.{around_full, joined_reach, around_on, around_stop}
 use Rattle.marks.proofs.Spans.{block_is, ended_is}
-use Rattle.text.proofs.Writing.{alike, owes_last}
+use Rattle.text.proofs.Writing.{alike, owes_last, stops}
 use native.Mathlib.Omega.{arith}
 use Rattle.marks.proofs.code.push_block.Goals as goal
 
@@ -58,7 +58,7 @@ push_lifted-requires c =
     let y = cond s [] (ascii "\n") ++ (backticks f ++ ascii "\n") in
     let e = block_is lang (drop a.base d) t begin f s (c.fence_len-fence.ensures ∙ ap (λ (l : List ℕ). max (max_backtick_run l) 2 + 1) (rest_part a.base d)) (ended_is d a.base c.requires.1 c.ends_with_byte.ensures) in
     let w = lent_front a.base a.len d _ (λ (u : List ℕ). push (cond (ends_with (ascii "\n\n") u) [] (ascii "\n") ++ (backticks f ++ (lang ++ ascii "\n"))) u) c.requires.0 c.requires.1 c.push_block_opening.auto.text c.push_block_opening.ensures in
-    (joined_reach d a.len a.base 0 c.requires.0 b (push x) w c.in-Done.is, omega (arith, w.long))
+    (joined_reach d a.len a.base 0 c.requires.0 b (push x) w c.in_ok-n.was, omega (arith, w.long))
 
 pub push_block_closing-requires : goal.push_block_closing-requires
 push_block_closing-requires c =
@@ -74,11 +74,11 @@ push_block_closing-requires c =
     let y = cond s [] (ascii "\n") ++ (backticks f ++ ascii "\n") in
     let e = block_is lang (drop a.base d) t begin f s (c.fence_len-fence.ensures ∙ ap (λ (l : List ℕ). max (max_backtick_run l) 2 + 1) (rest_part a.base d)) (ended_is d a.base c.requires.1 c.ends_with_byte.ensures) in
     let w = lent_front a.base a.len d _ (λ (u : List ℕ). push (cond (ends_with (ascii "\n\n") u) [] (ascii "\n") ++ (backticks f ++ (lang ++ ascii "\n"))) u) c.requires.0 c.requires.1 c.push_block_opening.auto.text c.push_block_opening.ensures in
-    let o = around_on d a.len a.base 0 c.requires.0 b x y w c.in-Done.is c.push_lifted.ensures c.in-Done-push_lifted.is in
+    let o = around_on d a.len a.base 0 c.requires.0 b x y w c.in_ok-n.was c.push_lifted.ensures c.in_ok-m.was in
     o.reach
 
-pub shape_of-text-in-Done-push_lifted : goal.shape_of-text-in-Done-push_lifted
-shape_of-text-in-Done-push_lifted c =
+pub returns : goal.returns
+returns c =
     let a = c.args in
     let d = a.text.now in
     let t = take a.len d in
@@ -91,28 +91,12 @@ shape_of-text-in-Done-push_lifted c =
     let y = cond s [] (ascii "\n") ++ (backticks f ++ ascii "\n") in
     let e = block_is lang (drop a.base d) t begin f s (c.fence_len-fence.ensures ∙ ap (λ (l : List ℕ). max (max_backtick_run l) 2 + 1) (rest_part a.base d)) (ended_is d a.base c.requires.1 c.ends_with_byte.ensures) in
     let w = lent_front a.base a.len d _ (λ (u : List ℕ). push (cond (ends_with (ascii "\n\n") u) [] (ascii "\n") ++ (backticks f ++ (lang ++ ascii "\n"))) u) c.requires.0 c.requires.1 c.push_block_opening.auto.text c.push_block_opening.ensures in
-    c.push_block_closing.auto.text ∙ c.push_lifted.auto.text ∙ w.long
-
-pub returns-in-Done-push_lifted : goal.returns-in-Done-push_lifted
-returns-in-Done-push_lifted c =
-    let a = c.args in
-    let d = a.text.now in
-    let t = take a.len d in
-    let b : a.base + 0 ≤ length d = omega (arith, c.requires.1) in
-    let f = c.fence_len-fence.result in
-    let s = eqb a.base (length d) || c.ends_with_byte.result in
-    let begin = cond (ends_with (ascii "\n\n") t) [] (ascii "\n") in
-    let lang = sanitize_attr_value a.lang.now in
-    let x = begin ++ (backticks f ++ (lang ++ ascii "\n")) in
-    let y = cond s [] (ascii "\n") ++ (backticks f ++ ascii "\n") in
-    let e = block_is lang (drop a.base d) t begin f s (c.fence_len-fence.ensures ∙ ap (λ (l : List ℕ). max (max_backtick_run l) 2 + 1) (rest_part a.base d)) (ended_is d a.base c.requires.1 c.ends_with_byte.ensures) in
-    let w = lent_front a.base a.len d _ (λ (u : List ℕ). push (cond (ends_with (ascii "\n\n") u) [] (ascii "\n") ++ (backticks f ++ (lang ++ ascii "\n"))) u) c.requires.0 c.requires.1 c.push_block_opening.auto.text c.push_block_opening.ensures in
-    let o = around_on d a.len a.base 0 c.requires.0 b x y w c.in-Done.is c.push_lifted.ensures c.in-Done-push_lifted.is in
+    let o = around_on d a.len a.base 0 c.requires.0 b x y w c.in_ok-n.was c.push_lifted.ensures c.in_ok-m.was in
     alike e (owes_last o c.push_block_closing.ensures)
 
-pub shape_of-text-in-Full-push_lifted : goal.shape_of-text-in-Full-push_lifted
-shape_of-text-in-Full-push_lifted c =
-    let a = c.args in
+pub returns-in_err-m : goal.returns-in_err-m
+returns-in_err-m c =
+    stops c.from_residual-in_err-m.ensures.0 (let a = c.args in
     let d = a.text.now in
     let t = take a.len d in
     let b : a.base + 0 ≤ length d = omega (arith, c.requires.1) in
@@ -124,11 +108,11 @@ shape_of-text-in-Full-push_lifted c =
     let y = cond s [] (ascii "\n") ++ (backticks f ++ ascii "\n") in
     let e = block_is lang (drop a.base d) t begin f s (c.fence_len-fence.ensures ∙ ap (λ (l : List ℕ). max (max_backtick_run l) 2 + 1) (rest_part a.base d)) (ended_is d a.base c.requires.1 c.ends_with_byte.ensures) in
     let w = lent_front a.base a.len d _ (λ (u : List ℕ). push (cond (ends_with (ascii "\n\n") u) [] (ascii "\n") ++ (backticks f ++ (lang ++ ascii "\n"))) u) c.requires.0 c.requires.1 c.push_block_opening.auto.text c.push_block_opening.ensures in
-    c.push_lifted.auto.text ∙ w.long
+    alike e (around_stop d a.len a.base 0 c.requires.0 b x y w c.in_ok-n.was c.push_lifted.ensures c.in_err-m.was))
 
-pub returns-in-Full-push_lifted : goal.returns-in-Full-push_lifted
-returns-in-Full-push_lifted c =
-    let a = c.args in
+pub returns-in_err-n : goal.returns-in_err-n
+returns-in_err-n c =
+    stops c.from_residual.ensures.0 (let a = c.args in
     let d = a.text.now in
     let t = take a.len d in
     let b : a.base + 0 ≤ length d = omega (arith, c.requires.1) in
@@ -140,36 +124,4 @@ returns-in-Full-push_lifted c =
     let y = cond s [] (ascii "\n") ++ (backticks f ++ ascii "\n") in
     let e = block_is lang (drop a.base d) t begin f s (c.fence_len-fence.ensures ∙ ap (λ (l : List ℕ). max (max_backtick_run l) 2 + 1) (rest_part a.base d)) (ended_is d a.base c.requires.1 c.ends_with_byte.ensures) in
     let w = lent_front a.base a.len d _ (λ (u : List ℕ). push (cond (ends_with (ascii "\n\n") u) [] (ascii "\n") ++ (backticks f ++ (lang ++ ascii "\n"))) u) c.requires.0 c.requires.1 c.push_block_opening.auto.text c.push_block_opening.ensures in
-    alike e (around_stop d a.len a.base 0 c.requires.0 b x y w c.in-Done.is c.push_lifted.ensures c.in-Full-push_lifted.is)
-
-pub shape_of-text-in-Full : goal.shape_of-text-in-Full
-shape_of-text-in-Full c =
-    let a = c.args in
-    let d = a.text.now in
-    let t = take a.len d in
-    let b : a.base + 0 ≤ length d = omega (arith, c.requires.1) in
-    let f = c.fence_len-fence.result in
-    let s = eqb a.base (length d) || c.ends_with_byte.result in
-    let begin = cond (ends_with (ascii "\n\n") t) [] (ascii "\n") in
-    let lang = sanitize_attr_value a.lang.now in
-    let x = begin ++ (backticks f ++ (lang ++ ascii "\n")) in
-    let y = cond s [] (ascii "\n") ++ (backticks f ++ ascii "\n") in
-    let e = block_is lang (drop a.base d) t begin f s (c.fence_len-fence.ensures ∙ ap (λ (l : List ℕ). max (max_backtick_run l) 2 + 1) (rest_part a.base d)) (ended_is d a.base c.requires.1 c.ends_with_byte.ensures) in
-    let w = lent_front a.base a.len d _ (λ (u : List ℕ). push (cond (ends_with (ascii "\n\n") u) [] (ascii "\n") ++ (backticks f ++ (lang ++ ascii "\n"))) u) c.requires.0 c.requires.1 c.push_block_opening.auto.text c.push_block_opening.ensures in
-    w.long
-
-pub returns-in-Full : goal.returns-in-Full
-returns-in-Full c =
-    let a = c.args in
-    let d = a.text.now in
-    let t = take a.len d in
-    let b : a.base + 0 ≤ length d = omega (arith, c.requires.1) in
-    let f = c.fence_len-fence.result in
-    let s = eqb a.base (length d) || c.ends_with_byte.result in
-    let begin = cond (ends_with (ascii "\n\n") t) [] (ascii "\n") in
-    let lang = sanitize_attr_value a.lang.now in
-    let x = begin ++ (backticks f ++ (lang ++ ascii "\n")) in
-    let y = cond s [] (ascii "\n") ++ (backticks f ++ ascii "\n") in
-    let e = block_is lang (drop a.base d) t begin f s (c.fence_len-fence.ensures ∙ ap (λ (l : List ℕ). max (max_backtick_run l) 2 + 1) (rest_part a.base d)) (ended_is d a.base c.requires.1 c.ends_with_byte.ensures) in
-    let w = lent_front a.base a.len d _ (λ (u : List ℕ). push (cond (ends_with (ascii "\n\n") u) [] (ascii "\n") ++ (backticks f ++ (lang ++ ascii "\n"))) u) c.requires.0 c.requires.1 c.push_block_opening.auto.text c.push_block_opening.ensures in
-    alike e (around_full d a.len a.base 0 c.requires.0 b x y w c.in-Full.is)
+    alike e (around_full d a.len a.base 0 c.requires.0 b x y w c.in_err-n.was))

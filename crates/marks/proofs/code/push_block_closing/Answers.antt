@@ -6,7 +6,7 @@ use Rattle.spec.specs.Bytes.{ascii}
 use Rattle.spec.specs.Out.{push}
 use Rattle.spec.specs.Md.Elements.Code.{backticks}
 use Rattle.marks.proofs.Spans.{not_wanted}
-use Rattle.text.proofs.Writing.{owes_all, owes_last, push_on, push_stop}
+use Rattle.text.proofs.Writing.{owes_all, owes_last, push_on, push_stop, stops}
 use Rattle.marks.proofs.code.push_block_closing.Goals as goal
 
 pub push_repeated-requires : goal.push_repeated-requires
@@ -16,7 +16,7 @@ push_repeated-requires c =
     let y = backticks a.fence in
     let nl = ascii "\n" in
     let o₁ = owes_all a.text.now a.len (push (x ++ (y ++ nl))) c.requires (ap (λ l. push (l ++ (y ++ nl)) (take a.len a.text.now)) (not_wanted a.ended nl)) in
-    let o₂ = push_on x (y ++ nl) o₁ c.in-Done.is c.push_byte_if.ensures in
+    let o₂ = push_on x (y ++ nl) o₁ c.in_ok-n.was c.push_byte_if.ensures in
     o₂.reach
 
 pub push_byte-requires : goal.push_byte-requires
@@ -27,38 +27,38 @@ push_byte-requires c =
     let y = backticks a.fence in
     let nl = ascii "\n" in
     let o₁ = owes_all a.text.now a.len (push (x ++ (y ++ nl))) c.requires (ap (λ l. push (l ++ (y ++ nl)) (take a.len a.text.now)) (not_wanted a.ended nl)) in
-    let o₂ = push_on x (y ++ nl) o₁ c.in-Done.is c.push_byte_if.ensures in
-    let o₃ = push_on y nl o₂ c.in-Done-push_repeated.is c.push_repeated.ensures in
+    let o₂ = push_on x (y ++ nl) o₁ c.in_ok-n.was c.push_byte_if.ensures in
+    let o₃ = push_on y nl o₂ c.in_ok-m.was c.push_repeated.ensures in
     o₃.reach
 
-pub returns-in-Done-push_repeated : goal.returns-in-Done-push_repeated
+pub returns : goal.returns
 unfolding backticks
-returns-in-Done-push_repeated c =
+returns c =
     let a = c.args in
     let x = cond (not a.ended) (ascii "\n") [] in
     let y = backticks a.fence in
     let nl = ascii "\n" in
     let o₁ = owes_all a.text.now a.len (push (x ++ (y ++ nl))) c.requires (ap (λ l. push (l ++ (y ++ nl)) (take a.len a.text.now)) (not_wanted a.ended nl)) in
-    let o₂ = push_on x (y ++ nl) o₁ c.in-Done.is c.push_byte_if.ensures in
-    let o₃ = push_on y nl o₂ c.in-Done-push_repeated.is c.push_repeated.ensures in
+    let o₂ = push_on x (y ++ nl) o₁ c.in_ok-n.was c.push_byte_if.ensures in
+    let o₃ = push_on y nl o₂ c.in_ok-m.was c.push_repeated.ensures in
     owes_last o₃ c.push_byte.ensures
 
-pub returns-in-Full-push_repeated : goal.returns-in-Full-push_repeated
+pub returns-in_err-m : goal.returns-in_err-m
 unfolding backticks
-returns-in-Full-push_repeated c =
-    let a = c.args in
+returns-in_err-m c =
+    stops c.from_residual-in_err-m.ensures.0 (let a = c.args in
     let x = cond (not a.ended) (ascii "\n") [] in
     let y = backticks a.fence in
     let nl = ascii "\n" in
     let o₁ = owes_all a.text.now a.len (push (x ++ (y ++ nl))) c.requires (ap (λ l. push (l ++ (y ++ nl)) (take a.len a.text.now)) (not_wanted a.ended nl)) in
-    let o₂ = push_on x (y ++ nl) o₁ c.in-Done.is c.push_byte_if.ensures in
-    push_stop y nl o₂ c.in-Full-push_repeated.is c.push_repeated.ensures
+    let o₂ = push_on x (y ++ nl) o₁ c.in_ok-n.was c.push_byte_if.ensures in
+    push_stop y nl o₂ c.in_err-m.was c.push_repeated.ensures)
 
-pub returns-in-Full : goal.returns-in-Full
-returns-in-Full c =
-    let a = c.args in
+pub returns-in_err-n : goal.returns-in_err-n
+returns-in_err-n c =
+    stops c.from_residual.ensures.0 (let a = c.args in
     let x = cond (not a.ended) (ascii "\n") [] in
     let y = backticks a.fence in
     let nl = ascii "\n" in
     let o₁ = owes_all a.text.now a.len (push (x ++ (y ++ nl))) c.requires (ap (λ l. push (l ++ (y ++ nl)) (take a.len a.text.now)) (not_wanted a.ended nl)) in
-    push_stop x (y ++ nl) o₁ c.in-Full.is c.push_byte_if.ensures
+    push_stop x (y ++ nl) o₁ c.in_err-n.was c.push_byte_if.ensures)

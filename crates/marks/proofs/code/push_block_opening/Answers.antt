@@ -7,7 +7,7 @@ use Rattle.spec.specs.Bytes.{ascii}
 use Rattle.spec.specs.Out.{push}
 use Rattle.spec.specs.Md.Elements.Code.{backticks, sanitize_attr_value}
 use Rattle.marks.proofs.Spans.{not_wanted}
-use Rattle.text.proofs.Writing.{owes_all, owes_last, push_on, push_stop}
+use Rattle.text.proofs.Writing.{owes_all, owes_last, push_on, push_stop, stops}
 use Rattle.marks.proofs.code.push_block_opening.Goals as goal
 
 pub slice_bounds-ends_with-end-2 : goal.slice_bounds-ends_with-end-2
@@ -23,7 +23,7 @@ push_repeated-requires c =
     let z = sanitize_attr_value a.lang.now in
     let nl = ascii "\n" in
     let o₁ = owes_all a.text.now a.len (push (x ++ (y ++ (z ++ nl)))) c.requires (ap (λ (t : Bool). push (cond t [] (ascii "\n") ++ (y ++ (z ++ nl))) (take a.len a.text.now)) (sym c.ends_with-begun.ensures) ∙ ap (λ l. push (l ++ (y ++ (z ++ nl))) (take a.len a.text.now)) (not_wanted begun nl)) in
-    let o₂ = push_on x (y ++ (z ++ nl)) o₁ c.in-Done.is c.push_byte_if.ensures in
+    let o₂ = push_on x (y ++ (z ++ nl)) o₁ c.in_ok-n.was c.push_byte_if.ensures in
     o₂.reach
 
 pub push_sanitized-requires : goal.push_sanitized-requires
@@ -36,8 +36,8 @@ push_sanitized-requires c =
     let z = sanitize_attr_value a.lang.now in
     let nl = ascii "\n" in
     let o₁ = owes_all a.text.now a.len (push (x ++ (y ++ (z ++ nl)))) c.requires (ap (λ (t : Bool). push (cond t [] (ascii "\n") ++ (y ++ (z ++ nl))) (take a.len a.text.now)) (sym c.ends_with-begun.ensures) ∙ ap (λ l. push (l ++ (y ++ (z ++ nl))) (take a.len a.text.now)) (not_wanted begun nl)) in
-    let o₂ = push_on x (y ++ (z ++ nl)) o₁ c.in-Done.is c.push_byte_if.ensures in
-    let o₃ = push_on y (z ++ nl) o₂ c.in-Done-push_repeated.is c.push_repeated.ensures in
+    let o₂ = push_on x (y ++ (z ++ nl)) o₁ c.in_ok-n.was c.push_byte_if.ensures in
+    let o₃ = push_on y (z ++ nl) o₂ c.in_ok-m.was c.push_repeated.ensures in
     o₃.reach
 
 pub push_byte-requires : goal.push_byte-requires
@@ -50,14 +50,14 @@ push_byte-requires c =
     let z = sanitize_attr_value a.lang.now in
     let nl = ascii "\n" in
     let o₁ = owes_all a.text.now a.len (push (x ++ (y ++ (z ++ nl)))) c.requires (ap (λ (t : Bool). push (cond t [] (ascii "\n") ++ (y ++ (z ++ nl))) (take a.len a.text.now)) (sym c.ends_with-begun.ensures) ∙ ap (λ l. push (l ++ (y ++ (z ++ nl))) (take a.len a.text.now)) (not_wanted begun nl)) in
-    let o₂ = push_on x (y ++ (z ++ nl)) o₁ c.in-Done.is c.push_byte_if.ensures in
-    let o₃ = push_on y (z ++ nl) o₂ c.in-Done-push_repeated.is c.push_repeated.ensures in
-    let o₄ = push_on z nl o₃ c.in-Done-push_sanitized.is c.push_sanitized.ensures in
+    let o₂ = push_on x (y ++ (z ++ nl)) o₁ c.in_ok-n.was c.push_byte_if.ensures in
+    let o₃ = push_on y (z ++ nl) o₂ c.in_ok-m.was c.push_repeated.ensures in
+    let o₄ = push_on z nl o₃ c.in_ok-k.was c.push_sanitized.ensures in
     o₄.reach
 
-pub returns-in-Done-push_sanitized : goal.returns-in-Done-push_sanitized
+pub returns : goal.returns
 unfolding backticks
-returns-in-Done-push_sanitized c =
+returns c =
     let a = c.args in
     let begun = c.ends_with-begun.result in
     let x = cond (not begun) (ascii "\n") [] in
@@ -65,45 +65,45 @@ returns-in-Done-push_sanitized c =
     let z = sanitize_attr_value a.lang.now in
     let nl = ascii "\n" in
     let o₁ = owes_all a.text.now a.len (push (x ++ (y ++ (z ++ nl)))) c.requires (ap (λ (t : Bool). push (cond t [] (ascii "\n") ++ (y ++ (z ++ nl))) (take a.len a.text.now)) (sym c.ends_with-begun.ensures) ∙ ap (λ l. push (l ++ (y ++ (z ++ nl))) (take a.len a.text.now)) (not_wanted begun nl)) in
-    let o₂ = push_on x (y ++ (z ++ nl)) o₁ c.in-Done.is c.push_byte_if.ensures in
-    let o₃ = push_on y (z ++ nl) o₂ c.in-Done-push_repeated.is c.push_repeated.ensures in
-    let o₄ = push_on z nl o₃ c.in-Done-push_sanitized.is c.push_sanitized.ensures in
+    let o₂ = push_on x (y ++ (z ++ nl)) o₁ c.in_ok-n.was c.push_byte_if.ensures in
+    let o₃ = push_on y (z ++ nl) o₂ c.in_ok-m.was c.push_repeated.ensures in
+    let o₄ = push_on z nl o₃ c.in_ok-k.was c.push_sanitized.ensures in
     owes_last o₄ c.push_byte.ensures
 
-pub returns-in-Full-push_sanitized : goal.returns-in-Full-push_sanitized
+pub returns-in_err-k : goal.returns-in_err-k
 unfolding backticks
-returns-in-Full-push_sanitized c =
-    let a = c.args in
+returns-in_err-k c =
+    stops c.from_residual-in_err-k.ensures.0 (let a = c.args in
     let begun = c.ends_with-begun.result in
     let x = cond (not begun) (ascii "\n") [] in
     let y = backticks a.fence in
     let z = sanitize_attr_value a.lang.now in
     let nl = ascii "\n" in
     let o₁ = owes_all a.text.now a.len (push (x ++ (y ++ (z ++ nl)))) c.requires (ap (λ (t : Bool). push (cond t [] (ascii "\n") ++ (y ++ (z ++ nl))) (take a.len a.text.now)) (sym c.ends_with-begun.ensures) ∙ ap (λ l. push (l ++ (y ++ (z ++ nl))) (take a.len a.text.now)) (not_wanted begun nl)) in
-    let o₂ = push_on x (y ++ (z ++ nl)) o₁ c.in-Done.is c.push_byte_if.ensures in
-    let o₃ = push_on y (z ++ nl) o₂ c.in-Done-push_repeated.is c.push_repeated.ensures in
-    push_stop z nl o₃ c.in-Full-push_sanitized.is c.push_sanitized.ensures
+    let o₂ = push_on x (y ++ (z ++ nl)) o₁ c.in_ok-n.was c.push_byte_if.ensures in
+    let o₃ = push_on y (z ++ nl) o₂ c.in_ok-m.was c.push_repeated.ensures in
+    push_stop z nl o₃ c.in_err-k.was c.push_sanitized.ensures)
 
-pub returns-in-Full-push_repeated : goal.returns-in-Full-push_repeated
+pub returns-in_err-m : goal.returns-in_err-m
 unfolding backticks
-returns-in-Full-push_repeated c =
-    let a = c.args in
+returns-in_err-m c =
+    stops c.from_residual-in_err-m.ensures.0 (let a = c.args in
     let begun = c.ends_with-begun.result in
     let x = cond (not begun) (ascii "\n") [] in
     let y = backticks a.fence in
     let z = sanitize_attr_value a.lang.now in
     let nl = ascii "\n" in
     let o₁ = owes_all a.text.now a.len (push (x ++ (y ++ (z ++ nl)))) c.requires (ap (λ (t : Bool). push (cond t [] (ascii "\n") ++ (y ++ (z ++ nl))) (take a.len a.text.now)) (sym c.ends_with-begun.ensures) ∙ ap (λ l. push (l ++ (y ++ (z ++ nl))) (take a.len a.text.now)) (not_wanted begun nl)) in
-    let o₂ = push_on x (y ++ (z ++ nl)) o₁ c.in-Done.is c.push_byte_if.ensures in
-    push_stop y (z ++ nl) o₂ c.in-Full-push_repeated.is c.push_repeated.ensures
+    let o₂ = push_on x (y ++ (z ++ nl)) o₁ c.in_ok-n.was c.push_byte_if.ensures in
+    push_stop y (z ++ nl) o₂ c.in_err-m.was c.push_repeated.ensures)
 
-pub returns-in-Full : goal.returns-in-Full
-returns-in-Full c =
-    let a = c.args in
+pub returns-in_err-n : goal.returns-in_err-n
+returns-in_err-n c =
+    stops c.from_residual.ensures.0 (let a = c.args in
     let begun = c.ends_with-begun.result in
     let x = cond (not begun) (ascii "\n") [] in
     let y = backticks a.fence in
     let z = sanitize_attr_value a.lang.now in
     let nl = ascii "\n" in
     let o₁ = owes_all a.text.now a.len (push (x ++ (y ++ (z ++ nl)))) c.requires (ap (λ (t : Bool). push (cond t [] (ascii "\n") ++ (y ++ (z ++ nl))) (take a.len a.text.now)) (sym c.ends_with-begun.ensures) ∙ ap (λ l. push (l ++ (y ++ (z ++ nl))) (take a.len a.text.now)) (not_wanted begun nl)) in
-    push_stop x (y ++ (z ++ nl)) o₁ c.in-Full.is c.push_byte_if.ensures
+    push_stop x (y ++ (z ++ nl)) o₁ c.in_err-n.was c.push_byte_if.ensures)

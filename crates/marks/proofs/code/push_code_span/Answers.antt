@@ -11,7 +11,7 @@ use Rattle.text.proofs.Reading.{rest_part}
 use Rattle.text.proofs.Sourcing.{lent_front}
 use Rattle.text.proofs.Lifting.{around_full, joined_reach, around_on, around_stop}
 use Rattle.marks.proofs.Spans.{span_is, run_is_short}
-use Rattle.text.proofs.Writing.{alike, owes_last}
+use Rattle.text.proofs.Writing.{alike, owes_last, stops}
 use native.Mathlib.Omega.{arith}
 use Rattle.marks.proofs.code.push_code_span.Goals as goal
 
@@ -60,7 +60,7 @@ push_lifted-requires c =
     let y = cond s (ascii " ") [] ++ backticks f in
     let e = span_is a.in_being (drop a.base d) t f s (ap (λ (n : ℕ). n + 1) (c.max_backtick_run-fence.ensures ∙ ap max_backtick_run (rest_part a.base d))) (c.needs_space-space.ensures ∙ ap needs_space (rest_part a.base d)) in
     let w = lent_front a.base a.len d _ (λ (u : List ℕ). push (cond (ends_with (ascii "`") u) (ascii " ") [] ++ (backticks f ++ cond s (ascii " ") [])) u) c.requires.0 b c.push_opening.auto.text c.push_opening.ensures in
-    (joined_reach d a.len a.base a.in_being c.requires.0 c.requires.1 (push x) w c.in-Done.is, omega (arith, w.long))
+    (joined_reach d a.len a.base a.in_being c.requires.0 c.requires.1 (push x) w c.in_ok-n.was, omega (arith, w.long))
 
 pub push_closing-requires : goal.push_closing-requires
 push_closing-requires c =
@@ -74,11 +74,11 @@ push_closing-requires c =
     let y = cond s (ascii " ") [] ++ backticks f in
     let e = span_is a.in_being (drop a.base d) t f s (ap (λ (n : ℕ). n + 1) (c.max_backtick_run-fence.ensures ∙ ap max_backtick_run (rest_part a.base d))) (c.needs_space-space.ensures ∙ ap needs_space (rest_part a.base d)) in
     let w = lent_front a.base a.len d _ (λ (u : List ℕ). push (cond (ends_with (ascii "`") u) (ascii " ") [] ++ (backticks f ++ cond s (ascii " ") [])) u) c.requires.0 b c.push_opening.auto.text c.push_opening.ensures in
-    let o = around_on d a.len a.base a.in_being c.requires.0 c.requires.1 x y w c.in-Done.is c.push_lifted.ensures c.in-Done-push_lifted.is in
+    let o = around_on d a.len a.base a.in_being c.requires.0 c.requires.1 x y w c.in_ok-n.was c.push_lifted.ensures c.in_ok-m.was in
     o.reach
 
-pub shape_of-text-in-Done-push_lifted : goal.shape_of-text-in-Done-push_lifted
-shape_of-text-in-Done-push_lifted c =
+pub returns : goal.returns
+returns c =
     let a = c.args in
     let d = a.text.now in
     let t = take a.len d in
@@ -89,26 +89,12 @@ shape_of-text-in-Done-push_lifted c =
     let y = cond s (ascii " ") [] ++ backticks f in
     let e = span_is a.in_being (drop a.base d) t f s (ap (λ (n : ℕ). n + 1) (c.max_backtick_run-fence.ensures ∙ ap max_backtick_run (rest_part a.base d))) (c.needs_space-space.ensures ∙ ap needs_space (rest_part a.base d)) in
     let w = lent_front a.base a.len d _ (λ (u : List ℕ). push (cond (ends_with (ascii "`") u) (ascii " ") [] ++ (backticks f ++ cond s (ascii " ") [])) u) c.requires.0 b c.push_opening.auto.text c.push_opening.ensures in
-    c.push_closing.auto.text ∙ c.push_lifted.auto.text ∙ w.long
-
-pub returns-in-Done-push_lifted : goal.returns-in-Done-push_lifted
-returns-in-Done-push_lifted c =
-    let a = c.args in
-    let d = a.text.now in
-    let t = take a.len d in
-    let b : a.base ≤ length d = omega (arith, c.requires.1) in
-    let f = c.max_backtick_run-fence.result + 1 in
-    let s = c.needs_space-space.result in
-    let x = cond (ends_with (ascii "`") t) (ascii " ") [] ++ (backticks f ++ cond s (ascii " ") []) in
-    let y = cond s (ascii " ") [] ++ backticks f in
-    let e = span_is a.in_being (drop a.base d) t f s (ap (λ (n : ℕ). n + 1) (c.max_backtick_run-fence.ensures ∙ ap max_backtick_run (rest_part a.base d))) (c.needs_space-space.ensures ∙ ap needs_space (rest_part a.base d)) in
-    let w = lent_front a.base a.len d _ (λ (u : List ℕ). push (cond (ends_with (ascii "`") u) (ascii " ") [] ++ (backticks f ++ cond s (ascii " ") [])) u) c.requires.0 b c.push_opening.auto.text c.push_opening.ensures in
-    let o = around_on d a.len a.base a.in_being c.requires.0 c.requires.1 x y w c.in-Done.is c.push_lifted.ensures c.in-Done-push_lifted.is in
+    let o = around_on d a.len a.base a.in_being c.requires.0 c.requires.1 x y w c.in_ok-n.was c.push_lifted.ensures c.in_ok-m.was in
     alike e (owes_last o c.push_closing.ensures)
 
-pub shape_of-text-in-Full-push_lifted : goal.shape_of-text-in-Full-push_lifted
-shape_of-text-in-Full-push_lifted c =
-    let a = c.args in
+pub returns-in_err-m : goal.returns-in_err-m
+returns-in_err-m c =
+    stops c.from_residual-in_err-m.ensures.0 (let a = c.args in
     let d = a.text.now in
     let t = take a.len d in
     let b : a.base ≤ length d = omega (arith, c.requires.1) in
@@ -118,11 +104,11 @@ shape_of-text-in-Full-push_lifted c =
     let y = cond s (ascii " ") [] ++ backticks f in
     let e = span_is a.in_being (drop a.base d) t f s (ap (λ (n : ℕ). n + 1) (c.max_backtick_run-fence.ensures ∙ ap max_backtick_run (rest_part a.base d))) (c.needs_space-space.ensures ∙ ap needs_space (rest_part a.base d)) in
     let w = lent_front a.base a.len d _ (λ (u : List ℕ). push (cond (ends_with (ascii "`") u) (ascii " ") [] ++ (backticks f ++ cond s (ascii " ") [])) u) c.requires.0 b c.push_opening.auto.text c.push_opening.ensures in
-    c.push_lifted.auto.text ∙ w.long
+    alike e (around_stop d a.len a.base a.in_being c.requires.0 c.requires.1 x y w c.in_ok-n.was c.push_lifted.ensures c.in_err-m.was))
 
-pub returns-in-Full-push_lifted : goal.returns-in-Full-push_lifted
-returns-in-Full-push_lifted c =
-    let a = c.args in
+pub returns-in_err-n : goal.returns-in_err-n
+returns-in_err-n c =
+    stops c.from_residual.ensures.0 (let a = c.args in
     let d = a.text.now in
     let t = take a.len d in
     let b : a.base ≤ length d = omega (arith, c.requires.1) in
@@ -132,32 +118,4 @@ returns-in-Full-push_lifted c =
     let y = cond s (ascii " ") [] ++ backticks f in
     let e = span_is a.in_being (drop a.base d) t f s (ap (λ (n : ℕ). n + 1) (c.max_backtick_run-fence.ensures ∙ ap max_backtick_run (rest_part a.base d))) (c.needs_space-space.ensures ∙ ap needs_space (rest_part a.base d)) in
     let w = lent_front a.base a.len d _ (λ (u : List ℕ). push (cond (ends_with (ascii "`") u) (ascii " ") [] ++ (backticks f ++ cond s (ascii " ") [])) u) c.requires.0 b c.push_opening.auto.text c.push_opening.ensures in
-    alike e (around_stop d a.len a.base a.in_being c.requires.0 c.requires.1 x y w c.in-Done.is c.push_lifted.ensures c.in-Full-push_lifted.is)
-
-pub shape_of-text-in-Full : goal.shape_of-text-in-Full
-shape_of-text-in-Full c =
-    let a = c.args in
-    let d = a.text.now in
-    let t = take a.len d in
-    let b : a.base ≤ length d = omega (arith, c.requires.1) in
-    let f = c.max_backtick_run-fence.result + 1 in
-    let s = c.needs_space-space.result in
-    let x = cond (ends_with (ascii "`") t) (ascii " ") [] ++ (backticks f ++ cond s (ascii " ") []) in
-    let y = cond s (ascii " ") [] ++ backticks f in
-    let e = span_is a.in_being (drop a.base d) t f s (ap (λ (n : ℕ). n + 1) (c.max_backtick_run-fence.ensures ∙ ap max_backtick_run (rest_part a.base d))) (c.needs_space-space.ensures ∙ ap needs_space (rest_part a.base d)) in
-    let w = lent_front a.base a.len d _ (λ (u : List ℕ). push (cond (ends_with (ascii "`") u) (ascii " ") [] ++ (backticks f ++ cond s (ascii " ") [])) u) c.requires.0 b c.push_opening.auto.text c.push_opening.ensures in
-    w.long
-
-pub returns-in-Full : goal.returns-in-Full
-returns-in-Full c =
-    let a = c.args in
-    let d = a.text.now in
-    let t = take a.len d in
-    let b : a.base ≤ length d = omega (arith, c.requires.1) in
-    let f = c.max_backtick_run-fence.result + 1 in
-    let s = c.needs_space-space.result in
-    let x = cond (ends_with (ascii "`") t) (ascii " ") [] ++ (backticks f ++ cond s (ascii " ") []) in
-    let y = cond s (ascii " ") [] ++ backticks f in
-    let e = span_is a.in_being (drop a.base d) t f s (ap (λ (n : ℕ). n + 1) (c.max_backtick_run-fence.ensures ∙ ap max_backtick_run (rest_part a.base d))) (c.needs_space-space.ensures ∙ ap needs_space (rest_part a.base d)) in
-    let w = lent_front a.base a.len d _ (λ (u : List ℕ). push (cond (ends_with (ascii "`") u) (ascii " ") [] ++ (backticks f ++ cond s (ascii " ") [])) u) c.requires.0 b c.push_opening.auto.text c.push_opening.ensures in
-    alike e (around_full d a.len a.base a.in_being c.requires.0 c.requires.1 x y w c.in-Full.is)
+    alike e (around_full d a.len a.base a.in_being c.requires.0 c.requires.1 x y w c.in_err-n.was))

@@ -6,7 +6,7 @@ use lib.ListN.{drop, get_or, take}
 use Rattle.spec.specs.Out.{push}
 use Rattle.spec.specs.Md.Elements.Code.{filter}
 use Rattle.marks.specs.Kept.{kept_byte}
-use Rattle.text.proofs.Writing.{owes_all, owes_step, owes_stop, owes_nothing}
+use Rattle.text.proofs.Writing.{owes_all, owes_step, owes_stop, owes_nothing, stops}
 use Rattle.marks.proofs.Leaves.{filter_turn, filter_none}
 use native.Mathlib.Omega.{arith}
 use Rattle.marks.proofs.code.push_filtered.Goals as goal
@@ -20,15 +20,11 @@ pub push_kept-requires : goal.push_kept-requires
 push_kept-requires c =
     c.loop-i.invariant.1.reach
 
-pub shape_of-text-in-Full : goal.shape_of-text-in-Full
-shape_of-text-in-Full c =
-    c.push_kept.auto.text ∙ c.loop-i.invariant.1.long
-
-pub returns-in-Full : goal.returns-in-Full
-returns-in-Full c =
-    let a = c.args in let l = c.loop-i in
+pub returns-in_err-n : goal.returns-in_err-n
+returns-in_err-n c =
+    stops c.from_residual.ensures.0 (let a = c.args in let l = c.loop-i in
     owes_stop l.invariant.1 (push (cond (kept_byte (get_or a.s.now l.i 0)) (get_or a.s.now l.i 0 ∷ []) [])) (push (filter kept_byte (drop (l.i + 1) a.s.now)))
-    (filter_turn kept_byte a.s.now (take l.n l.text) l.i c.loop-i-test.true) c.in-Full.is c.push_kept.ensures
+    (filter_turn kept_byte a.s.now (take l.n l.text) l.i c.loop-i-test.true) c.in_err-n.was c.push_kept.ensures)
 
 pub overflow_add-i : goal.overflow_add-i
 overflow_add-i c =
@@ -39,7 +35,7 @@ loop-i-preserved c =
     let a = c.args in let l = c.loop-i in (
       omega (arith, c.loop-i-test.true),
       owes_step l.invariant.1 (push (cond (kept_byte (get_or a.s.now l.i 0)) (get_or a.s.now l.i 0 ∷ []) [])) (push (filter kept_byte (drop (l.i + 1) a.s.now)))
-          (filter_turn kept_byte a.s.now (take l.n l.text) l.i c.loop-i-test.true) c.in-Done.is c.push_kept.ensures,
+          (filter_turn kept_byte a.s.now (take l.n l.text) l.i c.loop-i-test.true) c.in_ok-n.was c.push_kept.ensures,
     )
 
 pub shape_of-text : goal.shape_of-text

@@ -6,7 +6,7 @@ use lib.Seq.{length-take-le}
 use Rattle.spec.specs.Bytes.{ascii}
 use Rattle.spec.specs.Out.{push}
 use Rattle.spec.specs.Md.Elements.Code.{backticks}
-use Rattle.text.proofs.Writing.{owes_all, owes_last, push_on, push_stop}
+use Rattle.text.proofs.Writing.{owes_all, owes_last, push_on, push_stop, stops}
 use Rattle.marks.proofs.code.push_opening.Goals as goal
 
 pub slice_bounds-ends_with_byte-end-2 : goal.slice_bounds-ends_with_byte-end-2
@@ -20,49 +20,49 @@ push_repeated-requires c =
     let y = backticks a.fence in
     let z = cond a.space (ascii " ") [] in
     let o₁ = owes_all a.text.now a.len (push (x ++ (y ++ z))) c.requires (ap (λ (t : Bool). push (cond t (ascii " ") [] ++ (y ++ z)) (take a.len a.text.now)) (sym c.ends_with_byte-apart.ensures)) in
-    let o₂ = push_on x (y ++ z) o₁ c.in-Done.is c.push_byte_if.ensures in
+    let o₂ = push_on x (y ++ z) o₁ c.in_ok-n.was c.push_byte_if.ensures in
     o₂.reach
 
-pub push_byte_if-requires-in-Done-push_repeated : goal.push_byte_if-requires-in-Done-push_repeated
+pub push_byte_if-requires-2 : goal.push_byte_if-requires-2
 unfolding backticks
-push_byte_if-requires-in-Done-push_repeated c =
+push_byte_if-requires-2 c =
     let a = c.args in
     let x = cond c.ends_with_byte-apart.result (ascii " ") [] in
     let y = backticks a.fence in
     let z = cond a.space (ascii " ") [] in
     let o₁ = owes_all a.text.now a.len (push (x ++ (y ++ z))) c.requires (ap (λ (t : Bool). push (cond t (ascii " ") [] ++ (y ++ z)) (take a.len a.text.now)) (sym c.ends_with_byte-apart.ensures)) in
-    let o₂ = push_on x (y ++ z) o₁ c.in-Done.is c.push_byte_if.ensures in
-    let o₃ = push_on y z o₂ c.in-Done-push_repeated.is c.push_repeated.ensures in
+    let o₂ = push_on x (y ++ z) o₁ c.in_ok-n.was c.push_byte_if.ensures in
+    let o₃ = push_on y z o₂ c.in_ok-m.was c.push_repeated.ensures in
     o₃.reach
 
-pub returns-in-Done-push_repeated : goal.returns-in-Done-push_repeated
+pub returns : goal.returns
 unfolding backticks
-returns-in-Done-push_repeated c =
+returns c =
     let a = c.args in
     let x = cond c.ends_with_byte-apart.result (ascii " ") [] in
     let y = backticks a.fence in
     let z = cond a.space (ascii " ") [] in
     let o₁ = owes_all a.text.now a.len (push (x ++ (y ++ z))) c.requires (ap (λ (t : Bool). push (cond t (ascii " ") [] ++ (y ++ z)) (take a.len a.text.now)) (sym c.ends_with_byte-apart.ensures)) in
-    let o₂ = push_on x (y ++ z) o₁ c.in-Done.is c.push_byte_if.ensures in
-    let o₃ = push_on y z o₂ c.in-Done-push_repeated.is c.push_repeated.ensures in
-    owes_last o₃ c.push_byte_if-in-Done-push_repeated.ensures
+    let o₂ = push_on x (y ++ z) o₁ c.in_ok-n.was c.push_byte_if.ensures in
+    let o₃ = push_on y z o₂ c.in_ok-m.was c.push_repeated.ensures in
+    owes_last o₃ c.push_byte_if-2.ensures
 
-pub returns-in-Full-push_repeated : goal.returns-in-Full-push_repeated
+pub returns-in_err-m : goal.returns-in_err-m
 unfolding backticks
-returns-in-Full-push_repeated c =
-    let a = c.args in
+returns-in_err-m c =
+    stops c.from_residual-in_err-m.ensures.0 (let a = c.args in
     let x = cond c.ends_with_byte-apart.result (ascii " ") [] in
     let y = backticks a.fence in
     let z = cond a.space (ascii " ") [] in
     let o₁ = owes_all a.text.now a.len (push (x ++ (y ++ z))) c.requires (ap (λ (t : Bool). push (cond t (ascii " ") [] ++ (y ++ z)) (take a.len a.text.now)) (sym c.ends_with_byte-apart.ensures)) in
-    let o₂ = push_on x (y ++ z) o₁ c.in-Done.is c.push_byte_if.ensures in
-    push_stop y z o₂ c.in-Full-push_repeated.is c.push_repeated.ensures
+    let o₂ = push_on x (y ++ z) o₁ c.in_ok-n.was c.push_byte_if.ensures in
+    push_stop y z o₂ c.in_err-m.was c.push_repeated.ensures)
 
-pub returns-in-Full : goal.returns-in-Full
-returns-in-Full c =
-    let a = c.args in
+pub returns-in_err-n : goal.returns-in_err-n
+returns-in_err-n c =
+    stops c.from_residual.ensures.0 (let a = c.args in
     let x = cond c.ends_with_byte-apart.result (ascii " ") [] in
     let y = backticks a.fence in
     let z = cond a.space (ascii " ") [] in
     let o₁ = owes_all a.text.now a.len (push (x ++ (y ++ z))) c.requires (ap (λ (t : Bool). push (cond t (ascii " ") [] ++ (y ++ z)) (take a.len a.text.now)) (sym c.ends_with_byte-apart.ensures)) in
-    push_stop x (y ++ z) o₁ c.in-Full.is c.push_byte_if.ensures
+    push_stop x (y ++ z) o₁ c.in_err-n.was c.push_byte_if.ensures)

@@ -7,7 +7,7 @@ use lib.Seq.{length-take-le}
 use Rattle.spec.specs.Bytes.{ascii}
 use Rattle.marks.specs.Marked.{marked_with}
 use Rattle.marks.proofs.Marking.{one_small, closed_full, end_long, end_reach, end_fits, end_writes, end_size}
-use Rattle.text.proofs.Writing.{done, full}
+use Rattle.text.proofs.Writing.{done, full, stops}
 use native.Mathlib.Omega.{arith}
 use Rattle.marks.proofs.emphasis.push_closed.Goals as goal
 
@@ -116,11 +116,11 @@ push_done-requires c =
     let b = ap (λ (k : ℕ). length d - k) s in
     let h : a.len ≤ length d - (a.n + length a.marker.now + c.one_if.result) = omega (arith, c.if-text-len.false, c.requires.0.0, c.requires.1.0) in
     let g : a.from ≤ length d - (a.n + length a.marker.now + c.one_if.result) = omega (arith, c.if-text-len.false, c.requires.0.0, c.requires.0.1, c.requires.1.0) in
-    let w = done c.in-Done.is c.push_end.ensures in
+    let w = done c.in_ok-push_end.was c.push_end.ensures in
     (h, omega (arith, end_long end i b h g c.lift.ensures w, i, s))
 
-pub shape_of-text-in-Done : goal.shape_of-text-in-Done
-shape_of-text-in-Done c =
+pub returns : goal.returns
+returns c =
     let a = c.args in
     let d = a.text.now in
     let end = a.marker.now ++ cond a.trail (ascii " ") [] in
@@ -129,25 +129,12 @@ shape_of-text-in-Done c =
     let b = ap (λ (k : ℕ). length d - k) s in
     let h : a.len ≤ length d - (a.n + length a.marker.now + c.one_if.result) = omega (arith, c.if-text-len.false, c.requires.0.0, c.requires.1.0) in
     let g : a.from ≤ length d - (a.n + length a.marker.now + c.one_if.result) = omega (arith, c.if-text-len.false, c.requires.0.0, c.requires.0.1, c.requires.1.0) in
-    let w = done c.in-Done.is c.push_end.ensures in
-    c.push_done.auto.text ∙ end_long end i b h g c.lift.ensures w
-
-pub returns-in-Done : goal.returns-in-Done
-returns-in-Done c =
-    let a = c.args in
-    let d = a.text.now in
-    let end = a.marker.now ++ cond a.trail (ascii " ") [] in
-    let s : a.n + length a.marker.now + c.one_if.result ≡ a.n + length end = end_size a.marker.now a.n a.trail c.one_if.ensures in
-    let i : a.n + length end ≤ length d = omega (arith, c.if-text-len.false, c.requires.0.0, c.requires.1.0) in
-    let b = ap (λ (k : ℕ). length d - k) s in
-    let h : a.len ≤ length d - (a.n + length a.marker.now + c.one_if.result) = omega (arith, c.if-text-len.false, c.requires.0.0, c.requires.1.0) in
-    let g : a.from ≤ length d - (a.n + length a.marker.now + c.one_if.result) = omega (arith, c.if-text-len.false, c.requires.0.0, c.requires.0.1, c.requires.1.0) in
-    let w = done c.in-Done.is c.push_end.ensures in
+    let w = done c.in_ok-push_end.was c.push_end.ensures in
     end_writes end i b h g c.lift.ensures w (marked_with a.marker.now a.lead) c.push_done.ensures
 
-pub shape_of-text-in-Full : goal.shape_of-text-in-Full
-shape_of-text-in-Full c =
-    let a = c.args in
+pub returns-in_err-push_end : goal.returns-in_err-push_end
+returns-in_err-push_end c =
+    stops c.from_residual.ensures.0 (let a = c.args in
     let d = a.text.now in
     let end = a.marker.now ++ cond a.trail (ascii " ") [] in
     let s : a.n + length a.marker.now + c.one_if.result ≡ a.n + length end = end_size a.marker.now a.n a.trail c.one_if.ensures in
@@ -155,16 +142,4 @@ shape_of-text-in-Full c =
     let b = ap (λ (k : ℕ). length d - k) s in
     let h : a.len ≤ length d - (a.n + length a.marker.now + c.one_if.result) = omega (arith, c.if-text-len.false, c.requires.0.0, c.requires.1.0) in
     let g : a.from ≤ length d - (a.n + length a.marker.now + c.one_if.result) = omega (arith, c.if-text-len.false, c.requires.0.0, c.requires.0.1, c.requires.1.0) in
-    absurd (end_fits end i b h g c.lift.ensures (full c.in-Full.is c.push_end.ensures))
-
-pub returns-in-Full : goal.returns-in-Full
-returns-in-Full c =
-    let a = c.args in
-    let d = a.text.now in
-    let end = a.marker.now ++ cond a.trail (ascii " ") [] in
-    let s : a.n + length a.marker.now + c.one_if.result ≡ a.n + length end = end_size a.marker.now a.n a.trail c.one_if.ensures in
-    let i : a.n + length end ≤ length d = omega (arith, c.if-text-len.false, c.requires.0.0, c.requires.1.0) in
-    let b = ap (λ (k : ℕ). length d - k) s in
-    let h : a.len ≤ length d - (a.n + length a.marker.now + c.one_if.result) = omega (arith, c.if-text-len.false, c.requires.0.0, c.requires.1.0) in
-    let g : a.from ≤ length d - (a.n + length a.marker.now + c.one_if.result) = omega (arith, c.if-text-len.false, c.requires.0.0, c.requires.0.1, c.requires.1.0) in
-    absurd (end_fits end i b h g c.lift.ensures (full c.in-Full.is c.push_end.ensures))
+    absurd (end_fits end i b h g c.lift.ensures (full c.in_err-push_end.was c.push_end.ensures)))

@@ -3,7 +3,7 @@ use mathlib.Core.Bool.{cond}
 use mathlib.Core.List.{[], ◌++◌}
 use Rattle.spec.specs.Bytes.{ascii}
 use Rattle.spec.specs.Out.{push}
-use Rattle.text.proofs.Writing.{owes_all, owes_last, push_on, push_stop}
+use Rattle.text.proofs.Writing.{owes_all, owes_last, push_on, push_stop, stops}
 use Rattle.marks.proofs.emphasis.push_end.Goals as goal
 
 pub push_byte_if-requires : goal.push_byte_if-requires
@@ -12,22 +12,22 @@ push_byte_if-requires c =
     let x = a.marker.now in
     let y = cond a.trail (ascii " ") [] in
     let o₁ = owes_all a.text.now a.len (push (x ++ y)) c.requires refl in
-    let o₂ = push_on x y o₁ c.in-Done.is c.push_all.ensures in
+    let o₂ = push_on x y o₁ c.in_ok-n.was c.push_all.ensures in
     o₂.reach
 
-pub returns-in-Done : goal.returns-in-Done
-returns-in-Done c =
+pub returns : goal.returns
+returns c =
     let a = c.args in
     let x = a.marker.now in
     let y = cond a.trail (ascii " ") [] in
     let o₁ = owes_all a.text.now a.len (push (x ++ y)) c.requires refl in
-    let o₂ = push_on x y o₁ c.in-Done.is c.push_all.ensures in
+    let o₂ = push_on x y o₁ c.in_ok-n.was c.push_all.ensures in
     owes_last o₂ c.push_byte_if.ensures
 
-pub returns-in-Full : goal.returns-in-Full
-returns-in-Full c =
-    let a = c.args in
+pub returns-in_err-n : goal.returns-in_err-n
+returns-in_err-n c =
+    stops c.from_residual.ensures.0 (let a = c.args in
     let x = a.marker.now in
     let y = cond a.trail (ascii " ") [] in
     let o₁ = owes_all a.text.now a.len (push (x ++ y)) c.requires refl in
-    push_stop x y o₁ c.in-Full.is c.push_all.ensures
+    push_stop x y o₁ c.in_err-n.was c.push_all.ensures)

@@ -1,3 +1,4 @@
+use Rattle.text.proofs.Writing.{stops}
 use mathlib.Core.Path.{refl}
 use Rattle.spec.specs.Bytes.{Bytes}
 use Rattle.nodes.proofs.Appending.{Spells, appends_all, appends_node, appends_on, appends_stop, appends_end}
@@ -28,13 +29,13 @@ pub push_all-requires : goal.push_all-requires
 push_all-requires c =
     c.loop-i.invariant.owes.reach
 
-pub returns-in-Full : goal.returns-in-Full
-returns-in-Full c =
-    appends_stop c.loop-i.invariant spells c.loop-i-test.true c.node_place-place.ensures c.text_at-part.ensures.bytes_are c.in-Full.is c.push_all.ensures
+pub returns-in_err-n : goal.returns-in_err-n
+returns-in_err-n c =
+    λ parent f k. stops c.from_residual.ensures.0 (appends_stop c.loop-i.invariant spells c.loop-i-test.true c.node_place-place.ensures c.text_at-part.ensures.bytes_are c.in_err-n.was c.push_all.ensures parent f k)
 
 pub loop-i-preserved : goal.loop-i-preserved
 loop-i-preserved c =
-    appends_on c.loop-i.invariant spells c.loop-i-test.true c.node_place-place.ensures c.text_at-part.ensures.bytes_are refl c.in-Done.is c.push_all.ensures
+    appends_on c.loop-i.invariant spells c.loop-i-test.true c.node_place-place.ensures c.text_at-part.ensures.bytes_are refl c.in_ok-n.was c.push_all.ensures
 
 pub returns : goal.returns
 returns c =

@@ -5,7 +5,7 @@ use Rattle.spec.specs.Call.{tags_to_skip}
 use Rattle.spec.specs.Out.{and_then}
 use Rattle.spec.specs.Md.Elements.Code.{write_skip_md, close_skip_md}
 use Rattle.input.specs.Scans.{skip_list}
-use Rattle.text.proofs.Writing.{alike}
+use Rattle.text.proofs.Writing.{alike, stops}
 use Rattle.nodes.proofs.Interrupts.{element_name}
 use Rattle.nodes.proofs.Spots.{inside_node, going_start, going_inside, going_on, going_stop, going_end, going_less}
 use native.Mathlib.Omega.{arith}
@@ -32,11 +32,11 @@ next_spot-next-requires c =
     let k = going_inside (c.loop-open.invariant x.2 x.3.kids_are) c.loop-open-test.true in
     (k.this.node, inside_node k)
 
-pub returns-in-Full : goal.returns-in-Full
-returns-in-Full c =
+pub returns-in_err-n : goal.returns-in_err-n
+returns-in_err-n c =
     let t = take c.args.len c.args.text.now in
-    λ name attrs kids x. alike (ap (λ (k : ℕ). and_then (write_skip_md (tags_to_skip (skip_list c.args.own c.args.run.now)) c.args.opts kids t) (close_skip_md k)) (sym (element_name x)))
-    (going_stop (c.loop-open.invariant kids x.kids_are) c.loop-open-test.true c.write_spot.ensures c.in-Full.is)
+    λ name attrs kids x. stops c.from_residual.ensures.0 (alike (ap (λ (k : ℕ). and_then (write_skip_md (tags_to_skip (skip_list c.args.own c.args.run.now)) c.args.opts kids t) (close_skip_md k)) (sym (element_name x)))
+    (going_stop (c.loop-open.invariant kids x.kids_are) c.loop-open-test.true c.write_spot.ensures c.in_err-n.was))
 
 pub loop-open-smaller : goal.loop-open-smaller
 loop-open-smaller c =
@@ -45,12 +45,7 @@ loop-open-smaller c =
 
 pub loop-open-preserved : goal.loop-open-preserved
 loop-open-preserved c =
-    λ kids h. going_on (c.loop-open.invariant kids h) c.loop-open-test.true c.write_spot.ensures c.in-Done.is c.next_spot-next.ensures
-
-pub shape_of-text-in-Full : goal.shape_of-text-in-Full
-shape_of-text-in-Full c =
-    let x = c.requires.0 in
-    c.write_spot.auto.text ∙ (c.loop-open.invariant x.2 x.3.kids_are).owes.long
+    λ kids h. going_on (c.loop-open.invariant kids h) c.loop-open-test.true c.write_spot.ensures c.in_ok-n.was c.next_spot-next.ensures
 
 pub shape_of-text : goal.shape_of-text
 shape_of-text c =
