@@ -11,7 +11,7 @@ use Rattle.spec.specs.Out.{Step, push, and_then, beside}
 use Rattle.spec.specs.Md.Elements.Code.{backticks, needs_space, code_span, fenced_block, pre_in_link, max_backtick_run, push_code_text}
 use Rattle.spec.specs.Md.TextUtils.{push_block_space}
 use Rattle.text.specs.Writes.{Written, Refused, Writes}
-use Rattle.text.specs.declared.buffer.Wrote.{Wrote}
+use Rattle.text.specs.Writes.{Wrote}
 use Rattle.text.proofs.Reading.{drop_take}
 use Rattle.text.proofs.Writing.{reaches, then_assoc}
 

@@ -2,7 +2,7 @@
 use Prim.Native.Nat.{ℕ, ◌+◌, ◌≤◌, ◌<◌}
 use native.Mathlib.Numerals.{add-one}
 use mathlib.Core.Path.{◌≡◌, refl, ap, ◌∙◌, sym, subst}
-use mathlib.Core.Bool.{Bool, true, false, cond, not, ◌&&◌, ◌||◌}
+use mathlib.Core.Bool.{Bool, true, false, cond, not, ◌&&◌, ◌||◌, false≢true}
 use mathlib.Core.List.{[], ◌∷◌, ◌++◌, append_assoc}
 use lib.ListN.{length, drop, get_or, drop_of_length-le}
 use lib.Seq.{drop-cons}
@@ -12,6 +12,10 @@ use Rattle.spec.specs.Tree.{Forest, text_of}
 use Rattle.text.proofs.Writing.{push_both}
 use Rattle.elements.specs.JoinedWords.{word_byte, words_on, some_after, gap_after, Joins}
 use Rattle.elements.specs.declared.pre.Joined.{Joined}
+use Rattle.std.specs.Prelude.{Result, Ok, Err}
+use Rattle.std.specs.Result.{IsErr}
+use Rattle.text.specs.Writes.{Writes, no_room}
+use Rattle.text.specs.declared.buffer.Full.{Full}
 use Rattle.nodes.proofs.Appending.{Spells}
 
 -- ---- all pieces together
@@ -52,8 +56,8 @@ words_all f t = ap (λ (x : Bytes). push x t) (sym (on_none false (text_of f)))
 -- ---- from piece to piece
 
 -- what is known in the arm of a `match` on an answer
-pub joins_as : {room : ℕ} {after : Bytes} {r z : Joined} {some gap : Bool} {s t : Bytes} → r ≡ z → Joins room after r some gap s t → Joins room after z some gap s t
-joins_as {room} {after} {r} {z} {some} {gap} {s} {t} e w = subst (λ (x : Joined). Joins room after x some gap s t) e w
+pub joins_as : {room : ℕ} {after : Bytes} {r z : Result Joined Full} {some gap : Bool} {s t : Bytes} → r ≡ z → Joins room after r some gap s t → Joins room after z some gap s t
+joins_as {room} {after} {r} {z} {some} {gap} {s} {t} e w = subst (λ (x : Result Joined Full). Joins room after x some gap s t) e w
 
 on_both : (some gap : Bool) (s u : Bytes) → words_on some gap (s ++ u) ≡ words_on some gap s ++ words_on (some_after some s) (gap_after gap s) u
 unfolding words_on some_after gap_after
@@ -105,3 +109,11 @@ module _ (s : Bytes) (i : ℕ) where
     pub gap_end : gap_after gap (drop i s) ≡ gap
     unfolding gap_after
     gap_end = ap (gap_after gap) (drop_of_length-le s l)
+
+-- where `?` returns early
+pub joins_not : {room : ℕ} {after : Bytes} {r : Result Joined Full} {some gap : Bool} {s t : Bytes} → IsErr r → Writes room after no_room (push (words_on some gap s) t) → Joins room after r some gap s t
+joins_not {room} {after} {r} {some} {gap} {s} {t} h w = go r h
+  where
+    go : (r : Result Joined Full) → IsErr r → Joins room after r some gap s t
+    go (Ok j) h = absurd (false≢true h)
+    go (Err e) h = record { writes = w; state = tt }

@@ -17,8 +17,8 @@ use Rattle.spec.specs.Md.Elements.Link.{link_of, blank_link, text_link}
 use Rattle.spec.specs.declared.ctx.FormatOpts.{FormatOpts}
 use Rattle.text.specs.Source.{WritesIn}
 use Rattle.text.specs.Writes.{Written, Refused, Says, Writes}
-use Rattle.text.specs.declared.buffer.Wrote.{Wrote}
-use Rattle.text.specs.declared.buffer.Wrote.TheVariants.{Done, Full}
+use Rattle.text.specs.Writes.{Wrote, no_room}
+use Rattle.std.specs.Prelude.{Ok, Err}
 use Rattle.text.proofs.Reading.{null_some}
 use Rattle.text.proofs.Writing.{yes, no, done, full, reaches}
 use Rattle.elements.specs.EmphasisStep.{emphasis_step}
@@ -32,18 +32,18 @@ unfolding beside
 before_temp {d} {final} {base} {r} {o} g w = record { says = go r w.writes.says }
   where
     go : (r : Wrote) → Says base (take base final) r o → Says (length d) final r (beside (length (drop base d)) o)
-    go (Done m) y =
+    go (Ok m) y =
         record {
           long = w.long;
           fits = omega (arith, y.fits, length-drop base d);
           count = y.count;
           text_is = sym (take-take m base final (omega (arith, reaches y, y.long))) ∙ y.text_is;
         }
-    go Full y = record { over = omega (arith, y.over, length-drop base d) }
+    go (Err _) y = record { over = omega (arith, y.over, length-drop base d) }
 
 -- f of the text before it, and then g of it
 module _ (d : List ℕ) (len base : ℕ) (h : base ≤ length d) (f : Step) {mid : List ℕ} {r : Wrote} (w : WritesIn base d mid r (f (take len d))) where
-  module _ {m : ℕ} (e : r ≡ Done m) where
+  module _ {m : ℕ} (e : r ≡ Ok m) where
     front : Written base (take base mid) m (f (take len d))
     front = done e w.writes
 
@@ -64,10 +64,10 @@ module _ (d : List ℕ) (len base : ℕ) (h : base ≤ length d) (f : Step) {mid
       where
         go : (s : Wrote) → Says (length d) after s (beside (length (drop base d)) (g (drop base d) (f (take len d)).text))
             → Says (length d) after s (beside (length (drop base d)) (and_then (f (take len d)) (g (drop base d))))
-        go (Done j) u = record { long = u.long; fits = omega (arith, u.fits, front.fits, length-drop base d); count = u.count; text_is = u.text_is }
-        go Full u = record { over = omega (arith, u.over) }
+        go (Ok j) u = record { long = u.long; fits = omega (arith, u.fits, front.fits, length-drop base d); count = u.count; text_is = u.text_is }
+        go (Err _) u = record { over = omega (arith, u.over) }
 
-  pub front_full : r ≡ Full → (g : Step) {z : List ℕ} → Writes (length d) z Full (beside (length (drop base d)) (and_then (f (take len d)) g))
+  pub front_full : r ≡ no_room → (g : Step) {z : List ℕ} → Writes (length d) z no_room (beside (length (drop base d)) (and_then (f (take len d)) g))
   unfolding and_then beside
   front_full e g =
       let v : Refused base (f (take len d)) = full e w.writes in

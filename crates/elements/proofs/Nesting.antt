@@ -7,8 +7,8 @@ use lib.ListN.{length, take, drop, length-drop}
 use lib.Seq.{length-take-le, take_at, drop_at, take-append-le}
 use Rattle.spec.specs.Out.{Out, Step, nested, inside}
 use Rattle.text.specs.Writes.{Written, Says, Writes}
-use Rattle.text.specs.declared.buffer.Wrote.{Wrote}
-use Rattle.text.specs.declared.buffer.Wrote.TheVariants.{Done, Full}
+use Rattle.text.specs.Writes.{Wrote}
+use Rattle.std.specs.Prelude.{Ok, Err}
 use Rattle.text.proofs.Temporary.{lent, back, back_length}
 use Rattle.text.proofs.Writing.{reaches}
 
@@ -34,11 +34,11 @@ module _ (xs : List ℕ) (len : ℕ) (h : len ≤ length xs) (o : Out) {ys : Lis
       room = length-take-le (length xs - len) (drop len xs) (omega (arith, length-drop len xs))
 
       go : (r : Wrote) → Says (length (back xs len ys)) final r (g o.text (take len xs)) → Says (length xs) final r (nested o (g o.text) (take len xs))
-      go (Done m) y =
+      go (Ok m) y =
           record {
             long = y.long ∙ back_length xs len h o w;
             fits = omega (arith, y.fits, w.fits, room, back_length xs len h o w, length-take-le len xs h);
             count = y.count;
             text_is = y.text_is;
           }
-      go Full y = record { over = omega (arith, y.over, back_length xs len h o w) }
+      go (Err _) y = record { over = omega (arith, y.over, back_length xs len h o w) }

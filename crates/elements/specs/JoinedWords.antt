@@ -1,12 +1,10 @@
 -- The words of a text that comes in pieces, with a blank between two. Assumes nothing.
-use Rattle.std.specs.Prelude.{ℕ, ◌≡◌, Bool, cond, not, ◌&&◌, ◌||◌, [], ◌∷◌, ◌++◌}
+use Rattle.std.specs.Prelude.{ℕ, ◌≡◌, Bool, cond, not, ◌&&◌, ◌||◌, [], ◌∷◌, ◌++◌, Result, Ok, Err}
 use Rattle.spec.specs.Bytes.{Bytes, ascii, white}
 use Rattle.spec.specs.Out.{push}
-use Rattle.text.specs.Writes.{Writes}
-use Rattle.text.specs.declared.buffer.Wrote.{Wrote}
-use Rattle.text.specs.declared.buffer.Wrote.TheVariants as wrote
+use Rattle.text.specs.Writes.{Writes, Wrote}
+use Rattle.text.specs.declared.buffer.Full.{Full}
 use Rattle.elements.specs.declared.pre.Joined.{Joined}
-use Rattle.elements.specs.declared.pre.Joined.TheVariants.{Words, Full}
 
 -- what a byte appends: white bytes nothing, any other itself, behind a blank if it leads a word that is not the first
 abbrev pub word_byte : Bool → ℕ → Bytes
@@ -26,15 +24,15 @@ unfoldable pub gap_after : Bool → Bytes → Bool
 gap_after gap [] = gap
 gap_after gap (b ∷ s) = gap_after (white b) s
 
-abbrev pub wrote_of : Joined → Wrote
-wrote_of (Words n some gap) = wrote.Done n
-wrote_of Full = wrote.Full
+abbrev pub wrote_of : Result Joined Full → Wrote
+wrote_of (Ok j) = Ok j.len
+wrote_of (Err e) = Err e
 
-abbrev pub StateIs : Joined → Bool → Bool → Type 0
-StateIs (Words n some gap) a b = (some ≡ a) × (gap ≡ b)
-StateIs Full a b = Unit {0}
+abbrev pub StateIs : Result Joined Full → Bool → Bool → Type 0
+StateIs (Ok j) a b = (j.some ≡ a) × (j.gap ≡ b)
+StateIs (Err _) a b = Unit {0}
 
 -- the answer for a piece that is appended to t
-pub record Joins (room : ℕ) (after : Bytes) (r : Joined) (some gap : Bool) (s t : Bytes) : Type 0 where
+pub record Joins (room : ℕ) (after : Bytes) (r : Result Joined Full) (some gap : Bool) (s t : Bytes) : Type 0 where
   pub writes : Writes room after (wrote_of r) (push (words_on some gap s) t)
   pub state : StateIs r (some_after some s) (gap_after gap s)

@@ -18,7 +18,7 @@ use lists_links::list_number::Parsed;
 use marks::heading::{escape_closing_hashes, is_heading, push_md_prefix};
 use normalized::text_utils::{add_linebreaks, push_linebreak};
 use spec::ctx::{FormatOpts, ListContext, ListKind};
-use text::buffer::{Wrote};
+use text::buffer::Wrote;
 
 // A blank line behind a list.
 pub fn end_list(text: &mut [u8], len: usize, opts: FormatOpts) -> Wrote

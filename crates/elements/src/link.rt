@@ -10,7 +10,7 @@ use normalized::normalize_own::push_normalized_own;
 use normalized::text_utils::escape_trailing_bang;
 use spec::ctx::FormatOpts;
 use text::buffer::{Wrote, all_in, lift, push_byte};
-use text::class::{White};
+use text::class::White;
 use text::lifted::push_lifted;
 
 // The opening bracket.
@@ -19,7 +19,7 @@ fn push_bracket(text: &mut [u8], len: usize) -> Wrote
     ensures { Writes (length text.old) text.new result (bracket (take len text.old)) }
 {
     let n = escape_trailing_bang(text, len)?;
-push_byte(text, n, 91)
+    push_byte(text, n, 91)
 }
 
 // The words of what stands from base on, escaped.
@@ -48,7 +48,7 @@ fn push_link_text(text: &mut [u8], base: usize, len: usize, plain: bool, opts: F
     ensures { Writes (length text.old) text.new result (link_front (drop base text.old) (append_by plain opts) (take len text.old)) }
 {
     let n = push_bracket(&mut text[..base], len)?;
-push_by(text, base, n, plain, opts)
+    push_by(text, base, n, plain, opts)
 }
 
 // The link whose text stands from base on.
@@ -67,7 +67,7 @@ fn push_shown(
     ensures { Writes (length text.old) text.new result (link_shown (attrs_behind sheet.now place) (take (to - from) (drop from sheet.now)) (drop base text.old) (append_by plain opts) (take len text.old)) }
 {
     let m = push_link_text(text, base, len, plain, opts)?;
-push_link_end(text, m, sheet, place, from, to)
+    push_link_end(text, m, sheet, place, from, to)
 }
 
 // The link, from its text, the n bytes behind the text; the destination stands from `from` to `to` in the sheet.

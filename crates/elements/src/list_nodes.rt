@@ -15,8 +15,8 @@ ghost use Rattle.nodes.specs.Stands.{Siblings, SomeNode, NodeAt, ElementAt, Some
 use lists_links::list_number::{Parsed, parse_list_number};
 use nodes::nodes::{is_white_space, node_name};
 use spec::ctx::ListKind;
-use text::buffer::{all_in};
-use text::class::{White};
+use text::buffer::all_in;
+use text::class::White;
 use tree::attributes::{Value, attribute};
 use tree::nodes::{node_end, node_place, tag_at, text_at};
 

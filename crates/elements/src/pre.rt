@@ -23,9 +23,10 @@ use tree::nodes::{node_end, node_place, text_at};
 
 // How long a text is behind the words of a piece, whether a word stands there, and whether a white byte came last.
 #[derive(Clone, Copy)]
-pub enum Joined {
-    Words(usize, bool, bool),
-    Full,
+pub struct Joined {
+    pub len: usize,
+    pub some: bool,
+    pub gap: bool,
 }
 
 // Appends a byte of a word, behind a blank if it leads the word.
@@ -37,32 +38,27 @@ fn push_word_byte(text: &mut [u8], len: usize, b: u8, lead: bool) -> Wrote
         return Ok(len);
     }
     let n = push_byte_if(text, len, 32, lead)?;
-push_byte(text, n, b)
+    push_byte(text, n, b)
 }
 
 // Appends the words of a piece, with one blank between two.
-fn join_words(text: &mut [u8], len: usize, s: &[u8], some: bool, gap: bool) -> Joined
-    requires { len ≤ length text.old }
-    ensures { Joins (length text.old) text.new result some gap s.now (take len text.old) }
+fn join_words(text: &mut [u8], from: Joined, s: &[u8]) -> Result<Joined, Full>
+    requires { from.len ≤ length text.old }
+    ensures { Joins (length text.old) text.new result from.some from.gap s.now (take from.len text.old) }
 {
-    let mut n = len;
-    let mut any = some;
-    let mut white = gap;
-    let mut i = 0;
-    while i < s.len() {
-        match push_word_byte(text, n, s[i], any & white) {
-            Ok(m) => {
-                n = m;
-            }
-            Err(Full) => {
-                return Joined::Full;
-            }
-        }
-        white = White::has(s[i]);
-        any = any | !white;
-        i += 1;
+    let mut n = from.len;
+    let mut any = from.some;
+    let mut white = from.gap;
+    for b in s {
+        n = push_word_byte(text, n, *b, any & white)?;
+        white = White::has(*b);
+        any |= !white;
     }
-    Joined::Words(n, any, white)
+    Ok(Joined {
+        len: n,
+        some: any,
+        gap: white,
+    })
 }
 
 // Appends the words of the texts of the nodes from number `from` up to `to`: no more than they is held.
@@ -77,28 +73,17 @@ fn push_words(
     requires { Siblings sheet.now nodes.now from to × (len ≤ length text.old) }
     ensures { (parent : ℕ) (f : Forest) → Rep sheet.now nodes.now parent from to f → Writes (length text.old) text.new result (push (join (ascii " ") (words (text_of f))) (take len text.old)) }
 {
-    let mut n = len;
-    let mut some = false;
-    let mut gap = false;
-    let mut i = from;
-    while i < to {
+    let mut state = Joined {
+        len: len,
+        some: false,
+        gap: false,
+    };
+    for i in from..to {
         let place = node_place(nodes, i);
         let part = text_at(sheet, place);
-        let start = part.start;
-        let end = part.end;
-        match join_words(text, n, &sheet[start..end], some, gap) {
-            Joined::Words(m, any, white) => {
-                n = m;
-                some = any;
-                gap = white;
-            }
-            Joined::Full => {
-                return Err(Full);
-            }
-        }
-        i += 1;
+        state = join_words(text, state, &sheet[part.start..part.end])?;
     }
-    Ok(n)
+    Ok(state.len)
 }
 
 // The words as a code span.
@@ -114,7 +99,7 @@ fn push_word_span(
     ensures { (parent : ℕ) (f : Forest) → Rep sheet.now nodes.now parent from to f → Writes (length text.old) text.new result (def.push_code_text 0 (join (ascii " ") (words (text_of f))) (take len text.old)) }
 {
     let m = push_words(sheet, nodes, text, len, from, to)?;
-push_code_text(text, len, len, m - len, 0)
+    push_code_text(text, len, len, m - len, 0)
 }
 
 // In a link's text.
@@ -130,8 +115,8 @@ fn pre_in_link(
     ensures { (parent : ℕ) (f : Forest) → Rep sheet.now nodes.now parent from to f → Writes (length text.old) text.new result (def.pre_in_link (text_of f) (take len text.old)) }
 {
     let n = push_block_space(text, len)?;
-let m = push_word_span(sheet, nodes, text, n, from, to)?;
-push_block_space(text, m)
+    let m = push_word_span(sheet, nodes, text, n, from, to)?;
+    push_block_space(text, m)
 }
 
 // The block of the n bytes behind the text.
@@ -152,7 +137,7 @@ fn pre_block(sheet: &[u8], nodes: &[u8], text: &mut [u8], len: usize, i: usize) 
 {
     let to = node_end(nodes, i);
     let m = push_text_of(sheet, nodes, text, len, i + 1, to)?;
-push_pre(sheet, nodes, text, len, m - len, i)
+    push_pre(sheet, nodes, text, len, m - len, i)
 }
 
 pub fn write_pre(

@@ -131,7 +131,7 @@ pub fn opened(
     }
     let name = node_name(sheet, nodes, i);
     let n = open_break(sheet, nodes, text, len, i, name, opts)?;
-push_opening(text, n, name, opts)
+    push_opening(text, n, name, opts)
 }
 
 fn close_block(text: &mut [u8], len: usize, opts: FormatOpts) -> Wrote
@@ -194,7 +194,7 @@ fn close_md(text: &mut [u8], len: usize, name: usize, opts: FormatOpts) -> Wrote
     ensures { Writes (length text.old) text.new result (def.close_md opts name (take len text.old)) }
 {
     let n = escape_heading(text, len, name)?;
-close_by(text, n, name, opts)
+    close_by(text, n, name, opts)
 }
 
 // SerializeOp::Close.

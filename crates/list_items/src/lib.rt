@@ -9,7 +9,7 @@ ghost use Rattle.text.specs.Writes.{Writes};
 
 use lists_links::list::begin_item;
 use spec::ctx::ListContext;
-use text::buffer::{Wrote};
+use text::buffer::Wrote;
 
 // The context behind an item: the next number, and the offset of that number.
 fn advanced(ctx: ListContext) -> ListContext

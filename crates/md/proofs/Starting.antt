@@ -24,8 +24,8 @@ use Rattle.tree.specs.Represents.{Rep, Around}
 use Rattle.tree.proofs.Ancestry.{FoundAt, around_in, start_at_lem}
 use Rattle.tree.proofs.Ranges.{rep_size}
 use Rattle.text.specs.Writes.{Written, Writes}
-use Rattle.text.specs.declared.buffer.Wrote.{Wrote}
-use Rattle.text.specs.declared.buffer.Wrote.TheVariants.{Done, Full}
+use Rattle.text.specs.Writes.{Wrote, no_room}
+use Rattle.std.specs.Prelude.{Ok, Err}
 use Rattle.text.proofs.Writing.{yes, no, done, reaches, alike}
 use Rattle.nodes.specs.Stands.{Placeds}
 use Rattle.serializer.specs.Writers.{WritesForest}
@@ -143,14 +143,14 @@ module _ (skips : SkipList) (sh ns : Bytes) (start d : ℕ) (s : Started sh ns s
       subst (λ (o : FormatOpts). Writes (length memory) mid r (write_at (tags_to_skip skips) 101 p.at.anc o p.at.forest [])) e
       (w.for p.at.parent p.at.forest p.at.anc p.at.rep p.at.around)
 
-  pub inside_reaches : {n : ℕ} → r ≡ Done n → n ≤ length mid
+  pub inside_reaches : {n : ℕ} → r ≡ Ok n → n ≤ length mid
   inside_reaches z = reaches (done z inside_wrote)
 
-  pub inside_done : {n m : ℕ} {after : Bytes} → r ≡ Done n → Written (length mid) after m (trim_space (take n mid)) → Writes (length memory) after (Done m) (written sh skips start false)
+  pub inside_done : {n m : ℕ} {after : Bytes} → r ≡ Ok n → Written (length mid) after m (trim_space (take n mid)) → Writes (length memory) after (Ok m) (written sh skips start false)
   inside_done z x =
       both-done memory 0 (omega arith) (λ t. written sh skips start false) (write_at (tags_to_skip skips) 101 p.at.anc new p.at.forest) trim_space p.is inside_wrote z (record { says = x })
 
-  pub inside_full : {after : Bytes} → r ≡ Full → Writes (length memory) after Full (written sh skips start false)
+  pub inside_full : {after : Bytes} → r ≡ no_room → Writes (length memory) after no_room (written sh skips start false)
   inside_full z =
       both-full memory 0 (omega arith) (λ t. written sh skips start false) (write_at (tags_to_skip skips) 101 p.at.anc new p.at.forest) trim_space p.is inside_wrote z
 

@@ -52,7 +52,7 @@ fn write_inside(
         packed(opts),
         101,
     )?;
-Ok(trim_space(text, n))
+    Ok(trim_space(text, n))
 }
 
 // The start node with itself; the fragment has no text of its own.

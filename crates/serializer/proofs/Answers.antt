@@ -15,8 +15,8 @@ use Rattle.tree.specs.Memory.{end_at, parent_at}
 use Rattle.tree.specs.Represents.{Around}
 use Rattle.input.specs.Scans.{skip_list}
 use Rattle.text.specs.Writes.{Writes}
-use Rattle.text.specs.declared.buffer.Wrote.{Wrote}
-use Rattle.text.specs.declared.buffer.Wrote.TheVariants.{Done, Full}
+use Rattle.text.specs.Writes.{Wrote, no_room}
+use Rattle.std.specs.Prelude.{Ok, Err}
 use Rattle.text.proofs.Temporary.{lent, back, temp_full, temp_fits}
 use Rattle.text.proofs.Writing.{done, full, reaches, owes_all, owes_step, owes_stop, owes_last}
 use Rattle.nodes.specs.Stands.{ElementAt, Placed, Placeds}
@@ -27,7 +27,7 @@ use Rattle.elements.proofs.Languages.{around_it}
 
 -- the text that is written stands in the memory, which is as long as before
 module _ {sh ns : Bytes} {i e : ℕ} {step : Ancestors → Forest → Step} {t : Bytes} {room : ℕ} {after : Bytes} {r : Wrote} {m : ℕ}
-    (w : WritesForest sh ns i e step t room after r) (p : Placeds sh ns i e) (q : r ≡ Done m) where
+    (w : WritesForest sh ns i e step t room after r) (p : Placeds sh ns i e) (q : r ≡ Ok m) where
   pub forest-reaches : m ≤ length after
   forest-reaches = reaches (done q (w.for p.parent p.forest p.anc p.rep p.around))
 
@@ -35,7 +35,7 @@ module _ {sh ns : Bytes} {i e : ℕ} {step : Ancestors → Forest → Step} {t :
   forest-long = (done q (w.for p.parent p.forest p.anc p.rep p.around)).long
 
 module _ {sh ns : Bytes} {i : ℕ} {step : Ancestors → Bytes → List Attr → Forest → Step} {t : Bytes} {room : ℕ} {after : Bytes} {r : Wrote} {m : ℕ}
-    (w : WritesElement sh ns i step t room after r) (p : Placed sh ns i) (q : r ≡ Done m) where
+    (w : WritesElement sh ns i step t room after r) (p : Placed sh ns i) (q : r ≡ Ok m) where
   pub written-reaches : m ≤ length after
   written-reaches = reaches (done q (w.for p.0.0 p.0.1 p.0.2 p.1.0 p.0.3 p.1.1))
 
@@ -50,21 +50,21 @@ below-wrote own run levels opts {sh} {ns} {i} {name = name} {attrs} {kids} anc x
 -- two steps one after the other
 module _ (text : Bytes) (len : ℕ) (h : len ≤ length text) (whole f g : Step) (e : whole (take len text) ≡ and_then (f (take len text)) g)
     {mid : Bytes} {r : Wrote} (w : Writes (length text) mid r (f (take len text))) where
-  pub both-done : {n : ℕ} {after : Bytes} {x : Wrote} → r ≡ Done n → Writes (length mid) after x (g (take n mid)) → Writes (length text) after x (whole (take len text))
+  pub both-done : {n : ℕ} {after : Bytes} {x : Wrote} → r ≡ Ok n → Writes (length mid) after x (g (take n mid)) → Writes (length text) after x (whole (take len text))
   both-done q v = owes_last (owes_step (owes_all text len whole h refl) f g e q w) v
 
-  pub both-full : {z : Bytes} → r ≡ Full → Writes (length text) z Full (whole (take len text))
+  pub both-full : {z : Bytes} → r ≡ no_room → Writes (length text) z no_room (whole (take len text))
   both-full q = owes_stop (owes_all text len whole h refl) f g e q w
 
 -- ---- a text of its own behind the text
 
 module _ (text : Bytes) (len : ℕ) (h : len ≤ length text) {o : Out} {mid : Bytes} {r : Wrote} (w : Writes (length (lent text len)) mid r o) where
-  pub nest-done : {n : ℕ} (g : Bytes → Step) {after : Bytes} {x : Wrote} → r ≡ Done n
+  pub nest-done : {n : ℕ} (g : Bytes → Step) {after : Bytes} {x : Wrote} → r ≡ Ok n
       → Writes (length (back text len mid)) after x (g (take n (drop len (back text len mid))) (take len (back text len mid))) → Writes (length text) after x (nested o (g o.text) (take len text))
   nest-done g q v = nest_writes text len h o (done q w) g v
 
-  pub nest-full : (f : Step) {z : Bytes} → r ≡ Full → Writes (length text) z Full (nested o f (take len text))
+  pub nest-full : (f : Step) {z : Bytes} → r ≡ no_room → Writes (length text) z no_room (nested o f (take len text))
   nest-full f q = record { says = temp_full text len h o f (full q w) }
 
-  pub nest-fits : {n : ℕ} → r ≡ Done n → len + n ≤ length (back text len mid)
+  pub nest-fits : {n : ℕ} → r ≡ Ok n → len + n ≤ length (back text len mid)
   nest-fits q = temp_fits text len h o (done q w)

@@ -9,8 +9,8 @@ use Rattle.spec.specs.Bytes.{Bytes}
 use Rattle.spec.specs.Out.{Out, Step, and_then, keep, inside, inside_all, nested_all}
 use Rattle.spec.specs.Md.Elements.Table.{texts, concat}
 use Rattle.text.specs.Writes.{Written, Refused, Says, Writes}
-use Rattle.text.specs.declared.buffer.Wrote.{Wrote}
-use Rattle.text.specs.declared.buffer.Wrote.TheVariants.{Done, Full}
+use Rattle.text.specs.Writes.{Wrote}
+use Rattle.std.specs.Prelude.{Ok, Err}
 use Rattle.text.proofs.Writing.{same_out, reaches}
 use Rattle.text.proofs.Reading.{drop_take}
 use Rattle.text.proofs.Temporary.{lent, back, back_length}
@@ -82,8 +82,8 @@ module _ {room : ℕ} {mid : List ℕ} {m : ℕ} (d : List ℕ) (len : ℕ) (os 
       record { says = go r (subst (λ (k : ℕ). Says k after r (f (take len d))) w.long (subst (λ (t : Bytes). Says (length mid) after r (f t)) behind_front x.says)) }
     where
       go : (r : Wrote) → Says room after r (f (take len d)) → Says room after r (nested_all os f (take len d))
-      go (Done k) y = record { long = y.long; fits = omega (arith, y.fits, w.fits); count = y.count; text_is = y.text_is }
-      go Full y = record { over = omega (arith, y.over) }
+      go (Ok k) y = record { long = y.long; fits = omega (arith, y.fits, w.fits); count = y.count; text_is = y.text_is }
+      go (Err _) y = record { over = omega (arith, y.over) }
 
 pub behind_refused : {room : ℕ} (os : List Out) (f : Step) (t : Bytes) → Refused room (behind os t) → Refused room (nested_all os f t)
 unfolding nested_all behind

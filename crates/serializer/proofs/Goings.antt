@@ -15,9 +15,9 @@ use Rattle.tree.specs.Represents.{Rep, Around, head_of, rest_of}
 use Rattle.tree.proofs.Firsts.{first, ended}
 use Rattle.lists_links.specs.Items.{rule_step}
 use Rattle.text.specs.Writes.{Written, Refused, Says, Writes}
-use Rattle.text.specs.declared.buffer.Wrote.{Wrote}
+use Rattle.text.specs.Writes.{Wrote}
 use Rattle.text.specs.declared.buffer.Wrote.TheVariants as wrote
-use Rattle.text.specs.declared.buffer.Wrote.TheVariants.{Done}
+use Rattle.std.specs.Prelude.{Ok, Err}
 use Rattle.text.proofs.Writing.{alike, keeps, keep_then, then_done, then_full, refused, reaches, yes, no}
 use Rattle.serializer.specs.Writers.{progress_at, SaysGoing, going_of, Goes, GoesForest}
 use Rattle.serializer.specs.declared.progress.Going.{Going}

@@ -23,8 +23,8 @@ use Rattle.tree.specs.Represents.{Rep, Around}
 use Rattle.tree.proofs.Kin.{first_name}
 use Rattle.lists_links.specs.Items.{indented_block, inline_lead}
 use Rattle.text.specs.Writes.{Writes}
-use Rattle.text.specs.declared.buffer.Wrote.{Wrote}
-use Rattle.text.specs.declared.buffer.Wrote.TheVariants.{Done, Full}
+use Rattle.text.specs.Writes.{Wrote, no_room}
+use Rattle.std.specs.Prelude.{Ok, Err}
 use Rattle.text.proofs.Temporary.{lent, back, temp_full, temp_fits}
 use Rattle.text.proofs.Writing.{Owes, owes_all, owes_step, owes_stop, owes_last, alike, done, full, reaches, then_assoc, yes, no}
 use Rattle.elements.specs.ItemStep.{child_opts, flow_prefix, ended_flow}
@@ -62,7 +62,7 @@ named q x = sym (q ∙ element_name x)
 
 -- what is written of an element stands in the memory
 pub element_reaches : {sh ns : Bytes} {i : ℕ} {step : Ancestors → Bytes → List Attr → Forest → Step} {t : Bytes} {room : ℕ} {after : Bytes} {r : Wrote} {n : ℕ} → Placed sh ns i
-    → WritesElement sh ns i step t room after r → r ≡ Done n → n ≤ length after
+    → WritesElement sh ns i step t room after r → r ≡ Ok n → n ≤ length after
 element_reaches p w q = reaches (done q (w.for p.0.0 p.0.1 p.0.2 p.1.0 p.0.3 p.1.1))
 
 -- ---- a code block
@@ -85,10 +85,10 @@ module _ (skips : List Bytes) (levels : ℕ) (item : Item) where
         subst (λ (p : FormatOpts). Writes (length (lent xs len)) ys r (write_at skips levels anc p f [])) o
         (w.for (parent_at ns c) f anc (subst (λ (k : ℕ). Rep sh ns (parent_at ns c) c k f) (sym e) (element_alone x)) a)
 
-    pub indented_fits : {n : ℕ} → Placed sh ns c → r ≡ Done n → len + n ≤ length (back xs len ys)
+    pub indented_fits : {n : ℕ} → Placed sh ns c → r ≡ Ok n → len + n ≤ length (back xs len ys)
     indented_fits p q = temp_fits xs len l (itself p.1.0 (element p.0.0 p.0.1 p.0.2 nothing)) (done q (itself_writes p.1.0 p.0.3 p.1.1))
 
-    pub indented_done : {n : ℕ} {final : Bytes} {z : Wrote} → r ≡ Done n → Writes (length (back xs len ys)) final z (indented_block item (take n (drop len (back xs len ys))) (take len (back xs len ys)))
+    pub indented_done : {n : ℕ} {final : Bytes} {z : Wrote} → r ≡ Ok n → Writes (length (back xs len ys)) final z (indented_block item (take n (drop len (back xs len ys))) (take len (back xs len ys)))
         → WritesElement sh ns c (λ anc name attrs kids. write_list_item_indented (serializer skips levels) anc (element name attrs kids nothing) item) (take len xs) (length xs) final z
     indented_done q v =
         record {
@@ -97,8 +97,8 @@ module _ (skips : List Bytes) (levels : ℕ) (item : Item) where
               alike (indented_is anc f (take len xs)) (nest_writes xs len l (itself anc f) (done q (itself_writes anc x a)) (indented_block item) v);
         }
 
-    pub indented_full : {z : Bytes} → r ≡ Full
-        → WritesElement sh ns c (λ anc name attrs kids. write_list_item_indented (serializer skips levels) anc (element name attrs kids nothing) item) (take len xs) (length xs) z Full
+    pub indented_full : {z : Bytes} → r ≡ no_room
+        → WritesElement sh ns c (λ anc name attrs kids. write_list_item_indented (serializer skips levels) anc (element name attrs kids nothing) item) (take len xs) (length xs) z no_room
     indented_full q =
         record {
           for = λ name attrs kids anc x a.
@@ -128,13 +128,13 @@ module _ (sh ns : Bytes) (c : ℕ) {name : ℕ} (q : name ≡ name_at sh (place_
       ∙ ap (λ (k : ℕ). and_then (push (flow_prefix k) t) (λ u. and_then (write_kids self anc (list_item item.ctx.opts) node u) (ended_flow k item.ctx))) e
 
   module _ (d : name ≡ 23 → ⊥) (xs : Bytes) (len : ℕ) (l : len ≤ length xs) {ys : Bytes} {r : Wrote} (w : Writes (length xs) ys r (push (flow_prefix name) (take len xs))) where
-    flow_owes : (anc : Ancestors) (node : Forest) → name_of node ≡ name → {n : ℕ} → r ≡ Done n
+    flow_owes : (anc : Ancestors) (node : Forest) → name_of node ≡ name → {n : ℕ} → r ≡ Ok n
         → Owes (length xs) ys n (λ u. and_then (write_kids self anc (list_item item.ctx.opts) node u) (ended_flow name item.ctx)) (body_step self anc node item (take len xs))
     flow_owes anc node e u =
         owes_step (owes_all xs len (body_step self anc node item) l refl) (push (flow_prefix name)) (λ u. and_then (write_kids self anc (list_item item.ctx.opts) node u) (ended_flow name item.ctx))
         (body_flow anc node (take len xs) d e) u w
 
-    pub flow_none : {z : Bytes} → r ≡ Full → WritesElement sh ns c (λ anc nm attrs kids. body_step self anc (element nm attrs kids nothing) item) (take len xs) (length xs) z Full
+    pub flow_none : {z : Bytes} → r ≡ no_room → WritesElement sh ns c (λ anc nm attrs kids. body_step self anc (element nm attrs kids nothing) item) (take len xs) (length xs) z no_room
     flow_none u =
         record {
           for = λ nm attrs kids anc x a.
@@ -143,14 +143,14 @@ module _ (sh ns : Bytes) (c : ℕ) {name : ℕ} (q : name ≡ name_at sh (place_
               (body_flow anc f (take len xs) d (named q x)) u w;
         }
 
-    module _ {n : ℕ} (u : r ≡ Done n) {opts : FormatOpts} (o : opts ≡ list_item item.ctx.opts) {zs : Bytes} {s : Wrote}
+    module _ {n : ℕ} (u : r ≡ Ok n) {opts : FormatOpts} (o : opts ≡ list_item item.ctx.opts) {zs : Bytes} {s : Wrote}
         (v : WritesElement sh ns c (λ anc nm attrs kids. write_kids self anc opts (element nm attrs kids nothing)) (take n ys) (length ys) zs s) where
       kids_written : {nm : Bytes} {attrs : List Attr} {kids : Forest} (anc : Ancestors) → ElementAt sh ns c nm attrs kids → Around sh ns (parent_at ns c) anc
           → Writes (length ys) zs s (write_kids self anc (list_item item.ctx.opts) (element nm attrs kids nothing) (take n ys))
       kids_written {nm} {attrs} {kids} anc x a =
           subst (λ (p : FormatOpts). Writes (length ys) zs s (write_kids self anc p (element nm attrs kids nothing) (take n ys))) o (v.for nm attrs kids anc x a)
 
-      pub flow_full : {z : Bytes} → s ≡ Full → WritesElement sh ns c (λ anc nm attrs kids. body_step self anc (element nm attrs kids nothing) item) (take len xs) (length xs) z Full
+      pub flow_full : {z : Bytes} → s ≡ no_room → WritesElement sh ns c (λ anc nm attrs kids. body_step self anc (element nm attrs kids nothing) item) (take len xs) (length xs) z no_room
       flow_full k =
           record {
             for = λ nm attrs kids anc x a.
@@ -158,7 +158,7 @@ module _ (sh ns : Bytes) (c : ℕ) {name : ℕ} (q : name ≡ name_at sh (place_
                 owes_stop (flow_owes anc f (named q x) u) (write_kids self anc (list_item item.ctx.opts) f) (ended_flow name item.ctx) refl k (kids_written anc x a);
           }
 
-      pub flow_done : {m : ℕ} {final : Bytes} {z : Wrote} → s ≡ Done m → Writes (length zs) final z (ended_flow name item.ctx (take m zs))
+      pub flow_done : {m : ℕ} {final : Bytes} {z : Wrote} → s ≡ Ok m → Writes (length zs) final z (ended_flow name item.ctx (take m zs))
           → WritesElement sh ns c (λ anc nm attrs kids. body_step self anc (element nm attrs kids nothing) item) (take len xs) (length xs) final z
       flow_done k y =
           record {
@@ -181,13 +181,13 @@ module _ (sh ns : Bytes) (c : ℕ) {name : ℕ} (q : name ≡ name_at sh (place_
     abbrev lead : Step
     lead t = push (block_lead item isFirst (eqb name 23) t) t
 
-    led_owes : (anc : Ancestors) (node : Forest) → name_of node ≡ name → {n : ℕ} → r ≡ Done n
+    led_owes : (anc : Ancestors) (node : Forest) → name_of node ≡ name → {n : ℕ} → r ≡ Ok n
         → Owes (length xs) ys n (λ u. and_then (body_step self anc node item u) (push (break_of item.ctx))) (led_step self anc node item isFirst (take len xs))
     led_owes anc node e u =
         owes_step (owes_all xs len (led_step self anc node item isFirst) l refl) lead (λ u. and_then (body_step self anc node item u) (push (break_of item.ctx)))
         (led_is isFirst anc node (take len xs) e) u w
 
-    pub led_none : {z : Bytes} → r ≡ Full → WritesElement sh ns c (λ anc nm attrs kids. led_step self anc (element nm attrs kids nothing) item isFirst) (take len xs) (length xs) z Full
+    pub led_none : {z : Bytes} → r ≡ no_room → WritesElement sh ns c (λ anc nm attrs kids. led_step self anc (element nm attrs kids nothing) item isFirst) (take len xs) (length xs) z no_room
     led_none u =
         record {
           for = λ nm attrs kids anc x a.
@@ -196,8 +196,8 @@ module _ (sh ns : Bytes) (c : ℕ) {name : ℕ} (q : name ≡ name_at sh (place_
               (led_is isFirst anc f (take len xs) (named q x)) u w;
         }
 
-    module _ {n : ℕ} (u : r ≡ Done n) {zs : Bytes} {s : Wrote} (v : WritesElement sh ns c (λ anc nm attrs kids. body_step self anc (element nm attrs kids nothing) item) (take n ys) (length ys) zs s) where
-      pub led_full : {z : Bytes} → s ≡ Full → WritesElement sh ns c (λ anc nm attrs kids. led_step self anc (element nm attrs kids nothing) item isFirst) (take len xs) (length xs) z Full
+    module _ {n : ℕ} (u : r ≡ Ok n) {zs : Bytes} {s : Wrote} (v : WritesElement sh ns c (λ anc nm attrs kids. body_step self anc (element nm attrs kids nothing) item) (take n ys) (length ys) zs s) where
+      pub led_full : {z : Bytes} → s ≡ no_room → WritesElement sh ns c (λ anc nm attrs kids. led_step self anc (element nm attrs kids nothing) item isFirst) (take len xs) (length xs) z no_room
       led_full k =
           record {
             for = λ nm attrs kids anc x a.
@@ -205,7 +205,7 @@ module _ (sh ns : Bytes) (c : ℕ) {name : ℕ} (q : name ≡ name_at sh (place_
                 owes_stop (led_owes anc f (named q x) u) (body_step self anc f item) (push (break_of item.ctx)) refl k (v.for nm attrs kids anc x a);
           }
 
-      pub led_done : {m : ℕ} {final : Bytes} {z : Wrote} → s ≡ Done m → Writes (length zs) final z (push (linebreak item.ctx.opts.table_cell) (take m zs))
+      pub led_done : {m : ℕ} {final : Bytes} {z : Wrote} → s ≡ Ok m → Writes (length zs) final z (push (linebreak item.ctx.opts.table_cell) (take m zs))
           → WritesElement sh ns c (λ anc nm attrs kids. led_step self anc (element nm attrs kids nothing) item isFirst) (take len xs) (length xs) final z
       led_done k y =
           record {
@@ -253,14 +253,14 @@ module _ (sh ns : Bytes) (c : ℕ) {name : ℕ} (q : name ≡ name_at sh (place_
   inline_steps parent f anc h =
       ap (λ (k : ℕ). and_then (inlined (take len xs)) (write_at skips levels anc (child_opts k item.ctx.opts) f)) (sym (q ∙ first_name sh ns parent c (end_at ns c) f h p))
 
-  pub inline_none : {z : Bytes} → r ≡ Full → WritesForest sh ns c (end_at ns c) wanted (take len xs) (length xs) z Full
+  pub inline_none : {z : Bytes} → r ≡ no_room → WritesForest sh ns c (end_at ns c) wanted (take len xs) (length xs) z no_room
   inline_none u =
       record {
         for = λ parent f anc h a.
             owes_stop (owes_all xs len (wanted anc f) l refl) inlined (write_at skips levels anc (child_opts name item.ctx.opts) f) (inline_steps parent f anc h) u w;
       }
 
-  pub inline_done : {n : ℕ} → r ≡ Done n → {to : ℕ} → to ≡ end_at ns c → {opts : FormatOpts} → opts ≡ child_opts name item.ctx.opts → {final : Bytes} {s : Wrote}
+  pub inline_done : {n : ℕ} → r ≡ Ok n → {to : ℕ} → to ≡ end_at ns c → {opts : FormatOpts} → opts ≡ child_opts name item.ctx.opts → {final : Bytes} {s : Wrote}
       → WritesForest sh ns c to (λ anc f. write_at skips levels anc opts f) (take n ys) (length ys) final s → WritesForest sh ns c (end_at ns c) wanted (take len xs) (length xs) final s
   inline_done {n} u {to} e {opts} o {final} {s} v =
       record {

@@ -38,9 +38,9 @@ use Rattle.tree.proofs.Firsts.{first, ended, its_tag, its_body}
 use Rattle.tree.proofs.Frames.{rep_kept, around_kept, end_kept}
 use Rattle.tree.proofs.Kin.{first_name, first_skipped}
 use Rattle.text.specs.Writes.{Writes}
-use Rattle.text.specs.declared.buffer.Wrote.{Wrote}
+use Rattle.text.specs.Writes.{Wrote}
 use Rattle.text.specs.declared.buffer.Wrote.TheVariants as wrote
-use Rattle.text.specs.declared.buffer.Wrote.TheVariants.{Done}
+use Rattle.std.specs.Prelude.{Ok, Err}
 use Rattle.text.proofs.Writing.{keeps, keep_then, done, full, yes, no}
 use Rattle.elements.specs.ItemStep.{line_if}
 use Rattle.serializer.specs.ListStep.{inline_step}

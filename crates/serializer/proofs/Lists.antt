@@ -31,7 +31,7 @@ use Rattle.tree.proofs.Firsts.{first, ended}
 use Rattle.tree.proofs.Kin.{first_name}
 use Rattle.lists_links.specs.Items.{item_of, ended_item}
 use Rattle.lists_links.specs.declared.list.Item as text
-use Rattle.text.specs.declared.buffer.Wrote.{Wrote}
+use Rattle.text.specs.Writes.{Wrote}
 use Rattle.elements.specs.ItemStep.{ended_list}
 use Rattle.nodes.specs.Stands.{ElementAt, Placed, PlacedNode}
 use Rattle.serializer.specs.ListStep.{list_head}

@@ -14,7 +14,7 @@ use Rattle.tree.specs.Represents.{attrs_behind, Rep, Around, head_of, rest_of}
 use Rattle.tree.proofs.Firsts.{First, first, rep_le}
 use Rattle.tree.proofs.Frames.{rep_kept, around_kept, end_kept}
 use Rattle.text.specs.Writes.{Writes}
-use Rattle.text.specs.declared.buffer.Wrote.{Wrote}
+use Rattle.text.specs.Writes.{Wrote}
 use Rattle.nodes.specs.Stands.{ElementAt, Placed, Placeds, PlacedNode, NodeAt}
 use Rattle.serializer.specs.Writers.{WritesForest, WritesElement}
 use Rattle.nodes.proofs.Numbers.{node_first}

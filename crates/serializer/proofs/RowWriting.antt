@@ -17,8 +17,8 @@ use Rattle.tree.specs.Represents.{Rep, Around, rest_of}
 use Rattle.tree.proofs.Firsts.{First, first, rep_le}
 use Rattle.tree.proofs.Frames.{kept_none, kept_then, kept_in, place_kept, end_kept, rep_kept, around_kept}
 use Rattle.text.specs.Writes.{Written, Writes}
-use Rattle.text.specs.declared.buffer.Wrote.{Wrote}
-use Rattle.text.specs.declared.buffer.Wrote.TheVariants.{Done, Full}
+use Rattle.text.specs.Writes.{Wrote}
+use Rattle.std.specs.Prelude.{Ok, Err}
 use Rattle.text.proofs.Writing.{done, full, Owes, owes_all, owes_on, owes_over, owes_none}
 use Rattle.text.proofs.Temporary.{lent, back}
 use Rattle.nodes.specs.Stands.{Siblings, ElementAt, Placed}

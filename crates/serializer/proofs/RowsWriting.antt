@@ -11,8 +11,8 @@ use Rattle.spec.specs.Md.Elements.Table.{Cell, row_texts, concat}
 use Rattle.spec.specs.declared.ctx.FormatOpts.{FormatOpts}
 use Rattle.tree.specs.Memory.{end_at, Kept}
 use Rattle.tree.proofs.Frames.{kept_none, kept_then, kept_in, end_kept}
-use Rattle.text.specs.declared.buffer.Wrote.{Wrote}
-use Rattle.text.specs.declared.buffer.Wrote.TheVariants.{Done, Full}
+use Rattle.text.specs.Writes.{Wrote}
+use Rattle.std.specs.Prelude.{Ok, Err}
 use Rattle.text.proofs.Writing.{Owes, owes_all, owes_step, owes_stop, owes_none}
 use Rattle.tables.specs.Rows.{RowAt, Rows, RowsAt, SomeRows}
 use Rattle.tables.specs.Spans.{row_lengths, row_if, table_lengths}

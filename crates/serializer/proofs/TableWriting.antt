@@ -20,7 +20,7 @@ use Rattle.tree.proofs.Firsts.{first, rep_le}
 use Rattle.spec.proofs.Order.{le_or_lt}
 use Rattle.tree.proofs.Ranges.{rep_size}
 use Rattle.text.specs.Writes.{Written, Refused, Writes}
-use Rattle.text.specs.declared.buffer.Wrote.{Wrote}
+use Rattle.text.specs.Writes.{Wrote}
 use Rattle.text.proofs.Writing.{alike}
 use Rattle.tables.specs.Rows.{RowsAt}
 use Rattle.tables.specs.Spans.{row_lengths, sum}

@@ -10,8 +10,8 @@ use Rattle.tree.specs.Memory.{end_at}
 use Rattle.tree.specs.Represents.{Rep, Around, head_of, rest_of}
 use Rattle.tree.proofs.Firsts.{first, ended}
 use Rattle.text.specs.Writes.{Writes}
-use Rattle.text.specs.declared.buffer.Wrote.{Wrote}
-use Rattle.text.specs.declared.buffer.Wrote.TheVariants.{Done, Full}
+use Rattle.text.specs.Writes.{Wrote}
+use Rattle.std.specs.Prelude.{Ok, Err}
 use Rattle.text.proofs.Writing.{Owes, owes_all, owes_step, owes_stop, owes_none}
 use Rattle.serializer.specs.Writers.{WritesForest}
 

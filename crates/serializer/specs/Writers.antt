@@ -13,9 +13,9 @@ use Rattle.tree.specs.Memory.{parent_at}
 use Rattle.input.specs.Scans.{skip_list}
 use Rattle.tree.specs.Represents.{Rep, Around}
 use Rattle.text.specs.Writes.{Written, Refused, Writes}
-use Rattle.text.specs.declared.buffer.Wrote.{Wrote}
+use Rattle.text.specs.Writes.{Wrote}
 use Rattle.text.specs.declared.buffer.Wrote.TheVariants as wrote
-use Rattle.text.specs.declared.buffer.Wrote.TheVariants.{Done}
+use Rattle.std.specs.Prelude.{Ok, Err}
 use Rattle.nodes.specs.Stands.{ElementAt}
 use Rattle.serializer.specs.declared.progress.Going.{Going}
 use Rattle.serializer.specs.declared.progress.Going.TheVariants.{On, Full}

@@ -142,7 +142,7 @@ fn node(
     }
     let opts = unpacked(bits);
     let n = opened(sheet, nodes, text, len, at, opts)?;
-inside(sheet, own, run, nodes, text, n, at, bits, levels)
+    inside(sheet, own, run, nodes, text, n, at, bits, levels)
 }
 
 // What stands in an element that is opened, and its close.
@@ -174,7 +174,7 @@ fn inside(
     }
     let to = node_end(nodes, at);
     let n = siblings(sheet, own, run, nodes, text, len, at + 1, to, bits, levels)?;
-closed(text, n, name, unpacked(bits))
+    closed(text, n, name, unpacked(bits))
 }
 
 // An element that has a writer of its own.
@@ -241,7 +241,7 @@ fn kids(
         return trim_behind_text(sheet, nodes, text, len, at + 1, opts);
     }
     let n = write(sheet, own, run, nodes, text, len, at + 1, to, bits, levels)?;
-Ok(trim_space(text, n))
+    Ok(trim_space(text, n))
 }
 
 // elements/emphasis.rs.
@@ -276,7 +276,7 @@ fn write_emphasis(
         packed(inner),
         levels,
     )?;
-push_emphasis_by(text, len, n, name, opts)
+    push_emphasis_by(text, len, n, name, opts)
 }
 
 // elements/link.rs.
@@ -347,14 +347,14 @@ fn link(
     }
     let plain = fresh.include_node().skip_escape();
     let n = write_text(sheet, nodes, &mut text[len..], 0, at + 1, end, plain)?;
-if n == 0 {
-                body(
-                    sheet, own, run, nodes, text, len, at, from, to, fresh, levels,
-                )
-            } else {
-                let place = node_place(nodes, at);
-                push_text_link(sheet, text, len, n, place, from, to, opts)
-            }
+    if n == 0 {
+        body(
+            sheet, own, run, nodes, text, len, at, from, to, fresh, levels,
+        )
+    } else {
+        let place = node_place(nodes, at);
+        push_text_link(sheet, text, len, n, place, from, to, opts)
+    }
 }
 
 // A link that shows what `write` gives for its content.
@@ -389,7 +389,7 @@ fn body(
         bits,
         levels,
     )?;
-push_link(sheet, text, len, n, place, from, to, false, opts)
+    push_link(sheet, text, len, n, place, from, to, false, opts)
 }
 
 // elements/list.rs.
@@ -415,7 +415,7 @@ fn write_list(
     let to = node_end(nodes, at);
     let ctx = ListContext::new(opts, kind);
     let n = items(sheet, own, run, nodes, text, len, at + 1, to, ctx, levels)?;
-end_list(text, n, opts)
+    end_list(text, n, opts)
 }
 
 // The children of a list.
@@ -770,18 +770,18 @@ fn inline(
     let opts = item.ctx.opts;
     let inner = child_opts(name, opts);
     let n = push_inline_lead(text, len, item, blank)?;
-write(
-            sheet,
-            own,
-            run,
-            nodes,
-            text,
-            n,
-            c,
-            to,
-            packed(inner),
-            levels,
-        )
+    write(
+        sheet,
+        own,
+        run,
+        nodes,
+        text,
+        n,
+        c,
+        to,
+        packed(inner),
+        levels,
+    )
 }
 
 // A block of an item.
@@ -836,8 +836,8 @@ fn led(
     ensures writes_element { WritesElement sheet.now nodes.old c (λ anc name attrs kids. led_step (self_at own run.now levels) anc (element name attrs kids nothing) (item_of item) first) (take len text.old) (length text.old) text.new result }
 {
     let n = push_block_lead(text, len, item, first, name == 23)?;
-let m = flow(sheet, own, run, nodes, text, n, c, name, item, levels)?;
-push_linebreak(text, m, item.ctx.opts.table_cell)
+    let m = flow(sheet, own, run, nodes, text, n, c, name, item, levels)?;
+    push_linebreak(text, m, item.ctx.opts.table_cell)
 }
 
 // A code block, or any other block without its own node.
@@ -863,10 +863,10 @@ fn flow(
     }
     let opts = item.ctx.opts;
     let n = push_heading_prefix(text, len, name)?;
-let inner = opts.list_item();
-            let bits = packed(inner);
-            let m = kids(sheet, own, run, nodes, text, n, c, bits, levels)?;
-end_flow(text, m, name, item)
+    let inner = opts.list_item();
+    let bits = packed(inner);
+    let m = kids(sheet, own, run, nodes, text, n, c, bits, levels)?;
+    end_flow(text, m, name, item)
 }
 
 // A code block of an item: `write_list_item_indented` of elements/list.rs.
@@ -901,7 +901,7 @@ fn indented(
         packed(inner),
         levels,
     )?;
-push_indented(text, len, n, item)
+    push_indented(text, len, n, item)
 }
 
 // elements/table.rs.
@@ -929,7 +929,7 @@ fn write_table(
         return kids(sheet, own, run, nodes, text, len, at, bits, levels);
     }
     let end = cells(sheet, own, run, nodes, text, len, first, to, opts, levels)?;
-push_table(sheet, nodes, text, len, end - len, first, to)
+    push_table(sheet, nodes, text, len, end - len, first, to)
 }
 
 // The cells of the rows from number `from` on, each a text of its own behind the others.
@@ -981,8 +981,8 @@ fn row(
     let mut c = next_cell(sheet, nodes, tr + 1, to);
     while c < to {
         let n = cell(sheet, own, run, nodes, &mut text[end..], c, opts, levels)?;
-store_span(nodes, c, end, n);
-                end += n;
+        store_span(nodes, c, end, n);
+        end += n;
         let after = node_end(nodes, c);
         c = next_cell(sheet, nodes, after, to);
     }
@@ -1008,6 +1008,6 @@ fn cell(
     let inner = opts.fresh().table_cell();
     let bits = packed(inner);
     let n = kids(sheet, own, run, nodes, text, 0, c, bits, levels)?;
-let k = trim_trailing_cell_break(&text[..n]);
-            escape_table_cell_inplace(text, k)
+    let k = trim_trailing_cell_break(&text[..n]);
+    escape_table_cell_inplace(text, k)
 }

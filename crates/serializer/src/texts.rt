@@ -13,7 +13,7 @@ use nodes::nodes::write_text_node;
 use normalized::text_utils::trim_space;
 use spec::ctx::FormatOpts;
 use text::buffer::{Wrote, all_in};
-use text::class::{White};
+use text::class::White;
 use tree::nodes::{node_place, tag_at, text_at};
 
 // Whether the nodes from number `from` up to `to` are one text.
@@ -41,7 +41,7 @@ pub fn trim_behind_text(
     ensures { Writes (length text.old) text.new result (and_then (text_step opts sheet.now (place_at nodes.now i) (take len text.old)) trim_space) }
 {
     let n = write_text_node(sheet, nodes, text, len, i, opts)?;
-Ok(trim_space(text, n))
+    Ok(trim_space(text, n))
 }
 
 // Whether the node whose field stands at `place` is a text of white bytes.

@@ -11,7 +11,7 @@ use Rattle.spec.specs.Md.Elements.Table.{concat}
 use Rattle.text.specs.Lifted.{Lifted}
 use Rattle.text.specs.Writes.{Written, Refused, Writes}
 use Rattle.text.proofs.Writing.{then}
-use Rattle.text.specs.declared.buffer.Wrote.{Wrote}
+use Rattle.text.specs.Writes.{Wrote}
 use Rattle.tables.specs.Puts.{Puts, bar_line, bar_lines}
 use Rattle.tables.specs.Spans.{sum, zeros, cuts, cut_rows, unders, marks, width, table_bytes}
 use Rattle.tables.specs.TableSteps.{table_sized}

@@ -6,8 +6,8 @@ use Rattle.spec.specs.Md.MDSerializer.{MDSerializer}
 use Rattle.spec.specs.Md.Elements.Table.{Cell, row_texts, texts, concat, width_of, filled_up, line, dashes, lines}
 use Rattle.spec.specs.declared.ctx.FormatOpts.{FormatOpts}
 use Rattle.text.specs.Writes.{Writes}
-use Rattle.text.specs.declared.buffer.Wrote.{Wrote}
-use Rattle.text.specs.declared.buffer.Wrote.TheVariants.{Done}
+use Rattle.text.specs.Writes.{Wrote}
+use Rattle.std.specs.Prelude.{Ok, Err}
 use Rattle.tables.specs.Rows.{RowsAt}
 use Rattle.tables.specs.Spans.{row_lengths, table_lengths, sum, width, table_bytes}
 
@@ -53,9 +53,9 @@ pub record TableAt (sh ns : Bytes) (first to : ℕ) : Type 0 where
 -- what writing the cells of a row answers: their texts stand behind t, and where there was room for them their lengths are stored
 pub record RowWrites (room : ℕ) (after : List ℕ) (stored : List ℕ) (r : Wrote) (os : List Out) (t : Bytes) : Type 0 where
   pub writes : Writes room after r (behind os t)
-  pub lengths_are : (e : ℕ) → r ≡ Done e → stored ≡ lengths_of os
+  pub lengths_are : (e : ℕ) → r ≡ Ok e → stored ≡ lengths_of os
 
 -- the same of rows
 pub record RowsWrites (room : ℕ) (after : List ℕ) (stored : List (List ℕ)) (r : Wrote) (rows : List (List Out)) (t : Bytes) : Type 0 where
   pub writes : Writes room after r (behind (concat rows) t)
-  pub lengths_are : (e : ℕ) → r ≡ Done e → stored ≡ rows_lengths rows
+  pub lengths_are : (e : ℕ) → r ≡ Ok e → stored ≡ rows_lengths rows

@@ -6,6 +6,9 @@ use Rattle.text.specs.declared.buffer.Full.{Full}
 abbrev pub Wrote : Type 0
 Wrote = Result ℕ Full
 
+abbrev pub no_room : Wrote
+no_room = Err (record {})
+
 -- o fits the room, and stands at the front of `after`, n bytes long. The bytes behind the text are left to the program:
 -- nothing is said of `drop n after` but its length
 pub record Written (room : ℕ) (after : List ℕ) (n : ℕ) (o : Out) : Type 0 where

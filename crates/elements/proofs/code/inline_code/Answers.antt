@@ -8,7 +8,7 @@ use Rattle.spec.specs.Md.Serializer.{serializer}
 use Rattle.spec.specs.Md.Elements.Code.{code_opts, write_skip_md, trim_edges, inline_code, push_code_text}
 use Rattle.spec.specs.declared.ctx.FormatOpts.{FormatOpts}
 use Rattle.input.specs.Scans.{skip_list}
-use Rattle.text.proofs.Writing.{alike, done, full}
+use Rattle.text.proofs.Writing.{alike, done, full, stops}
 use Rattle.text.proofs.Temporary.{temp_full, temp_fits}
 use Rattle.elements.proofs.Nesting.{nest_writes}
 use Rattle.elements.proofs.code.inline_code.Goals as goal
@@ -17,25 +17,24 @@ pub push_trimmed_code-requires : goal.push_trimmed_code-requires
 push_trimmed_code-requires c =
     let x = c.requires.0 in
     let o = write_skip_md (tags_to_skip (skip_list c.args.own c.args.run.now)) c.code_opts-inner.result (element x.0 x.1 x.2 nothing) [] in
-    (x, temp_fits c.args.text.now c.args.len c.requires.1 o (done c.in-Done.is (c.write_skip_md.ensures x.0 x.1 x.2 x.3)))
+    (x, temp_fits c.args.text.now c.args.len c.requires.1 o (done c.in_ok-n.was (c.write_skip_md.ensures x.0 x.1 x.2 x.3)))
 
-pub returns-in-Done : goal.returns-in-Done
+pub returns : goal.returns
 unfolding inline_code serializer
-returns-in-Done c =
+returns c =
     let skips = tags_to_skip (skip_list c.args.own c.args.run.now) in
     λ levels name attrs kids x.
     let o = write_skip_md skips (code_opts c.args.opts) (element name attrs kids nothing) [] in
     let v = alike (sym (ap (λ (q : FormatOpts). write_skip_md skips q (element name attrs kids nothing) []) c.code_opts-inner.ensures)) (c.write_skip_md.ensures name attrs kids x) in
-    let w = done c.in-Done.is v in
+    let w = done c.in_ok-n.was v in
     nest_writes c.args.text.now c.args.len c.requires.1 o w (λ (z : Bytes). push_code_text (length (trim_edges (text_of kids) z)) (trim_edges (text_of kids) z))
     (c.push_trimmed_code.ensures name attrs kids x)
 
-pub returns-in-Full : goal.returns-in-Full
+pub returns-in_err-n : goal.returns-in_err-n
 unfolding inline_code serializer
-returns-in-Full c =
+returns-in_err-n c =
     let skips = tags_to_skip (skip_list c.args.own c.args.run.now) in
-    λ levels name attrs kids x.
-    let o = write_skip_md skips (code_opts c.args.opts) (element name attrs kids nothing) [] in
+    λ levels name attrs kids x. stops c.from_residual.ensures.0 (let o = write_skip_md skips (code_opts c.args.opts) (element name attrs kids nothing) [] in
     let v = alike (sym (ap (λ (q : FormatOpts). write_skip_md skips q (element name attrs kids nothing) []) c.code_opts-inner.ensures)) (c.write_skip_md.ensures name attrs kids x) in
     let code = trim_edges (text_of kids) o.text in
-    record { says = temp_full c.args.text.now c.args.len c.requires.1 o (push_code_text (length code) code) (full c.in-Full.is v) }
+    record { says = temp_full c.args.text.now c.args.len c.requires.1 o (push_code_text (length code) code) (full c.in_err-n.was v) })

@@ -1,3 +1,4 @@
+use Rattle.text.proofs.Writing.{stops}
 use mathlib.Core.Path.{sym}
 use lib.ListN.{drop}
 use lib.Seq.{length-take-le}
@@ -19,18 +20,18 @@ pub push_by-requires : goal.push_by-requires
 push_by-requires c =
     let a = c.args in
     let w = lent_front a.base a.len a.text.now _ bracket c.requires.0 c.requires.1 c.push_bracket.auto.text c.push_bracket.ensures in
-    (front_reach a.text.now a.len a.base c.requires.1 bracket w c.in-Done.is, omega (arith, w.long, c.requires.1))
+    (front_reach a.text.now a.len a.base c.requires.1 bracket w c.in_ok-n.was, omega (arith, w.long, c.requires.1))
 
-pub returns-in-Done : goal.returns-in-Done
+pub returns : goal.returns
 unfolding link_front
-returns-in-Done c =
+returns c =
     let a = c.args in
     let w = lent_front a.base a.len a.text.now _ bracket c.requires.0 c.requires.1 c.push_bracket.auto.text c.push_bracket.ensures in
-    front_then a.text.now a.len a.base c.requires.1 bracket w c.in-Done.is (append_by a.plain a.opts) c.push_by.ensures
+    front_then a.text.now a.len a.base c.requires.1 bracket w c.in_ok-n.was (append_by a.plain a.opts) c.push_by.ensures
 
-pub returns-in-Full : goal.returns-in-Full
+pub returns-in_err-n : goal.returns-in_err-n
 unfolding link_front
-returns-in-Full c =
-    let a = c.args in
+returns-in_err-n c =
+    stops c.from_residual.ensures.0 (let a = c.args in
     let w = lent_front a.base a.len a.text.now _ bracket c.requires.0 c.requires.1 c.push_bracket.auto.text c.push_bracket.ensures in
-    front_full a.text.now a.len a.base c.requires.1 bracket w c.in-Full.is (append_by a.plain a.opts (drop a.base a.text.now))
+    front_full a.text.now a.len a.base c.requires.1 bracket w c.in_err-n.was (append_by a.plain a.opts (drop a.base a.text.now)))

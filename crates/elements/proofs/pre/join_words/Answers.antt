@@ -1,69 +1,46 @@
-use Prim.Native.Nat.{◌+◌, zero-le}
-use mathlib.Core.Path.{refl, sym, ◌∙◌}
-use mathlib.Core.Bool.{not, ◌&&◌, ◌||◌}
-use lib.ListN.{drop, get_or, take}
+use Rattle.std.proofs.Common.{◌+◌, not, ◌&&◌, ◌||◌, refl, sym, ◌∙◌, drop, get_or, take}
 use Rattle.spec.specs.Out.{push}
 use Rattle.text.proofs.Writing.{owes_all, owes_step, owes_stop, owes_nothing}
 use Rattle.elements.specs.JoinedWords.{word_byte, words_on}
-use Rattle.elements.proofs.Joining.{byte_turn, some_turn, gap_turn, bytes_end, some_end, gap_end}
-use native.Mathlib.Omega.{arith}
+use Rattle.elements.proofs.Joining.{joins_not, byte_turn, some_turn, gap_turn, bytes_end, some_end, gap_end}
 use Rattle.elements.proofs.pre.join_words.Goals as goal
 
-pub loop-i-init : goal.loop-i-init
-loop-i-init c =
+pub loop-b-init : goal.loop-b-init
+loop-b-init c =
     let a = c.args in
-    (zero-le, owes_all a.text.now a.len (push (words_on a.some a.gap a.s.now)) c.requires refl, refl, refl)
+    record { owes = owes_all a.text.now a.from.len (push (words_on a.from.some a.from.gap a.s.now)) c.requires refl; some = refl; gap = refl }
 
 pub push_word_byte-requires : goal.push_word_byte-requires
-push_word_byte-requires c =
-    c.loop-i.invariant.1.reach
+push_word_byte-requires c = c.loop-b.invariant.owes.reach
 
-pub shape_of-text-in-Full : goal.shape_of-text-in-Full
-shape_of-text-in-Full c =
-    c.push_word_byte.auto.text ∙ c.loop-i.invariant.1.long
+pub returns-in_err-n : goal.returns-in_err-n
+returns-in_err-n c =
+    let s = c.args.s.now in
+    let l = c.loop-b in
+    joins_not c.from_residual.ensures.0
+    (owes_stop l.invariant.owes (push (word_byte (l.any && l.white) (get_or s l.b-index 0))) (push (words_on _ _ (drop (l.b-index + 1) s)))
+        (byte_turn s l.b-index c.loop-b-test.true l.any l.white refl (take l.n l.text)) c.in_err-n.was c.push_word_byte.ensures)
 
-pub returns-in-Full : goal.returns-in-Full
-returns-in-Full c =
-    let a = c.args in
-    let l = c.loop-i in
+pub loop-b-preserved : goal.loop-b-preserved
+loop-b-preserved c =
+    let s = c.args.s.now in
+    let l = c.loop-b in
+    let w = c.has-white.result in
     record {
-      writes = owes_stop l.invariant.1 (push (word_byte (l.any && l.white) (get_or a.s.now l.i 0))) (push (words_on _ _ (drop (l.i + 1) a.s.now)))
-          (byte_turn a.s.now l.i c.loop-i-test.true l.any l.white refl (take l.n l.text)) c.in-Full.is c.push_word_byte.ensures;
-      state = tt;
+      owes = owes_step l.invariant.owes (push (word_byte (l.any && l.white) (get_or s l.b-index 0))) (push (words_on (l.any || not w) w (drop (l.b-index + 1) s)))
+          (byte_turn s l.b-index c.loop-b-test.true l.any l.white c.has-white.ensures (take l.n l.text)) c.in_ok-n.was c.push_word_byte.ensures;
+      some = l.invariant.some ∙ some_turn s l.b-index c.loop-b-test.true l.any l.white c.has-white.ensures;
+      gap = l.invariant.gap ∙ gap_turn s l.b-index c.loop-b-test.true l.any l.white c.has-white.ensures;
     }
-
-pub bounds-s-i-in-loop-i : goal.bounds-s-i-in-loop-i
-bounds-s-i-in-loop-i c =
-    c.loop-i-test.true
-
-pub overflow_add-i : goal.overflow_add-i
-overflow_add-i c =
-    omega (arith, c.loop-i-test.true)
-
-pub loop-i-preserved : goal.loop-i-preserved
-loop-i-preserved c =
-    let a = c.args in
-    let l = c.loop-i in
-    let w = c.is_in-white.result in (
-      omega (arith, c.loop-i-test.true),
-      owes_step l.invariant.1 (push (word_byte (l.any && l.white) (get_or a.s.now l.i 0))) (push (words_on (l.any || not w) w (drop (l.i + 1) a.s.now)))
-          (byte_turn a.s.now l.i c.loop-i-test.true l.any l.white c.is_in-white.ensures (take l.n l.text)) c.in-Done.is c.push_word_byte.ensures,
-      l.invariant.2 ∙ some_turn a.s.now l.i c.loop-i-test.true l.any l.white c.is_in-white.ensures,
-      l.invariant.3 ∙ gap_turn a.s.now l.i c.loop-i-test.true l.any l.white c.is_in-white.ensures,
-    )
-
-pub shape_of-text : goal.shape_of-text
-shape_of-text c =
-    c.loop-i.invariant.1.long
 
 pub returns : goal.returns
 returns c =
-    let a = c.args in
-    let l = c.loop-i in
+    let s = c.args.s.now in
+    let l = c.loop-b in
     record {
-      writes = owes_nothing l.invariant.1 (bytes_end a.s.now l.i c.loop-i-test.false l.any l.white (take l.n l.text));
+      writes = owes_nothing l.invariant.owes (bytes_end s l.b-index c.loop-b-test.false l.any l.white (take l.n l.text));
       state = (
-        sym (l.invariant.2 ∙ some_end a.s.now l.i c.loop-i-test.false l.any l.white),
-        sym (l.invariant.3 ∙ gap_end a.s.now l.i c.loop-i-test.false l.any l.white),
+        sym (l.invariant.some ∙ some_end s l.b-index c.loop-b-test.false l.any l.white),
+        sym (l.invariant.gap ∙ gap_end s l.b-index c.loop-b-test.false l.any l.white),
       );
     }

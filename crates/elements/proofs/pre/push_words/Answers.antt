@@ -1,9 +1,9 @@
 use mathlib.Core.Path.{refl, ap, ap₂}
 use mathlib.Core.Bool.{Bool, false}
-use Rattle.text.proofs.Writing.{alike}
+use Rattle.text.proofs.Writing.{alike, stops}
 use Rattle.elements.specs.JoinedWords.{wrote_of}
 use Rattle.nodes.proofs.Appending.{appends_all, appends_node, appends_on, appends_stop, appends_end}
-use Rattle.elements.proofs.Joining.{joins_as, words_in, words_spell, words_all}
+use Rattle.elements.proofs.Joining.{words_in, words_spell, words_all}
 use native.Mathlib.Omega.{arith}
 use Rattle.elements.proofs.pre.push_words.Goals as goal
 
@@ -24,14 +24,14 @@ pub join_words-requires : goal.join_words-requires
 join_words-requires c =
     c.loop-i.invariant.owes.reach
 
-pub returns-in-Full : goal.returns-in-Full
-returns-in-Full c =
-    λ parent f h. alike (words_all f _)
-    (appends_stop c.loop-i.invariant words_spell c.loop-i-test.true c.node_place-place.ensures c.text_at-part.ensures.bytes_are (ap wrote_of c.in-Full.is) c.join_words.ensures.writes parent f h)
+pub returns-in_err-state : goal.returns-in_err-state
+returns-in_err-state c =
+    λ parent f h. stops c.from_residual.ensures.0 (alike (words_all f _)
+    (appends_stop c.loop-i.invariant words_spell c.loop-i-test.true c.node_place-place.ensures c.text_at-part.ensures.bytes_are (ap wrote_of c.in_err-state.was) c.join_words.ensures.writes parent f h))
 
 pub loop-i-preserved : goal.loop-i-preserved
 loop-i-preserved c =
-    let j = joins_as c.in-Words.is c.join_words.ensures in
+    let j = c.in_ok-state.ensures in
     appends_on c.loop-i.invariant words_spell c.loop-i-test.true c.node_place-place.ensures c.text_at-part.ensures.bytes_are (ap₂ (λ (x y : Bool). (x, y)) j.state.0 j.state.1) refl j.writes
 
 pub returns : goal.returns

@@ -1,4 +1,3 @@
-use Prim.Native.Nat.{◌-◌}
 use mathlib.Core.Bool.{false}
 use lib.ListN.{length, take}
 use Rattle.nodes.proofs.Appending.{Appends}
@@ -6,7 +5,5 @@ use Rattle.elements.proofs.Joining.{words_in}
 use Rattle.elements.proofs.pre.push_words.Given as goal
 
 abbrev pub invariant-loop-i : goal.invariant-loop-i
-invariant-loop-i l = Appends words_in l.sheet l.nodes l.from l.to (false, false) (take l.len l.initial.text) (length l.initial.text) l.text l.n l.i (l.some, l.gap)
-
-abbrev pub decreases-loop-i : goal.decreases-loop-i
-decreases-loop-i l = l.to - l.i
+invariant-loop-i l =
+    Appends words_in l.sheet l.nodes l.from l.to (false, false) (take l.len l.initial.text) (length l.initial.text) l.text l.state.len l.i (l.state.some, l.state.gap)

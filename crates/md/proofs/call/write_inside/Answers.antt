@@ -1,3 +1,4 @@
+use Rattle.text.proofs.Writing.{stops}
 use Prim.Native.Nat.{◌<◌, ◌^◌}
 use mathlib.Core.Path.{sym, subst, ◌∙◌}
 use lib.Dec.{lit<}
@@ -8,15 +9,15 @@ use Rattle.serializer.specs.Writers.{Fits}
 use Rattle.md.proofs.Starting.{without, inside_reaches, inside_done, inside_full}
 use Rattle.md.proofs.call.write_inside.Goals as goal
 
-pub returns-in-Done : goal.returns-in-Done
-returns-in-Done c =
+pub returns : goal.returns
+returns c =
     let a = c.args in
-    inside_done (skip_list a.own a.run.now) a.sheet.now a.nodes.now a.start _ c.requires c.node_end-end.ensures a.text.now (c.packed.ensures ∙ c.new-opts.ensures) c.write.ensures.writes_forest c.in-Done.is c.trim_space.ensures
+    inside_done (skip_list a.own a.run.now) a.sheet.now a.nodes.now a.start _ c.requires c.node_end-end.ensures a.text.now (c.packed.ensures ∙ c.new-opts.ensures) c.write.ensures.writes_forest c.in_ok-n.was c.trim_space.ensures
 
-pub returns-in-Full : goal.returns-in-Full
-returns-in-Full c =
-    let a = c.args in
-    inside_full (skip_list a.own a.run.now) a.sheet.now a.nodes.now a.start _ c.requires c.node_end-end.ensures a.text.now (c.packed.ensures ∙ c.new-opts.ensures) c.write.ensures.writes_forest c.in-Full.is
+pub returns-in_err-n : goal.returns-in_err-n
+returns-in_err-n c =
+    stops c.from_residual.ensures.0 (let a = c.args in
+    inside_full (skip_list a.own a.run.now) a.sheet.now a.nodes.now a.start _ c.requires c.node_end-end.ensures a.text.now (c.packed.ensures ∙ c.new-opts.ensures) c.write.ensures.writes_forest c.in_err-n.was)
 
 pub packed-requires : goal.packed-requires
 packed-requires c =
@@ -33,4 +34,4 @@ write-requires c =
 pub trim_space-requires : goal.trim_space-requires
 trim_space-requires c =
     let a = c.args in
-    inside_reaches (skip_list a.own a.run.now) a.sheet.now a.nodes.now a.start _ c.requires c.node_end-end.ensures a.text.now (c.packed.ensures ∙ c.new-opts.ensures) c.write.ensures.writes_forest c.in-Done.is
+    inside_reaches (skip_list a.own a.run.now) a.sheet.now a.nodes.now a.start _ c.requires c.node_end-end.ensures a.text.now (c.packed.ensures ∙ c.new-opts.ensures) c.write.ensures.writes_forest c.in_ok-n.was

@@ -1,5 +1,5 @@
 use mathlib.Core.Path.{ap, sym}
-use Rattle.text.specs.declared.buffer.Wrote.{Wrote}
+use Rattle.text.specs.Writes.{Wrote}
 use Rattle.serializer.specs.Writers.{going_of}
 use Rattle.serializer.proofs.progress.going_on.Goals as goal
 
