@@ -38,30 +38,3 @@ pub fn write_list_item_blocks(text: &mut [u8], len: usize, ctx: &mut ListContext
     *ctx = advanced(c);
     begin_item(text, len, true, c)
 }
-
-// What a writer of an item answers: whether there was room, and the context with which the list goes on.
-#[derive(Clone, Copy)]
-pub struct ItemWrote {
-    pub wrote: Wrote,
-    pub ctx: ListContext,
-}
-
-// `write_list_item` with the context by value, for the call cycle.
-pub fn start_item(text: &mut [u8], len: usize, ctx: ListContext) -> ItemWrote
-    requires { (len ≤ length text.old) × (ctx.list_indent + 12 < 2 ^ 64) }
-    ensures { Writes (length text.old) text.new result.wrote (begin_item false ctx (take len text.old)) × (result.ctx ≡ advance_ol_number ctx) }
-{
-    let mut c = ctx;
-    let w = write_list_item(text, len, &mut c);
-    ItemWrote { wrote: w, ctx: c }
-}
-
-// `write_list_item_blocks` with the context by value, for the call cycle.
-pub fn start_item_blocks(text: &mut [u8], len: usize, ctx: ListContext) -> ItemWrote
-    requires { (len ≤ length text.old) × (ctx.list_indent + 12 < 2 ^ 64) }
-    ensures { Writes (length text.old) text.new result.wrote (begin_item true ctx (take len text.old)) × (result.ctx ≡ advance_ol_number ctx) }
-{
-    let mut c = ctx;
-    let w = write_list_item_blocks(text, len, &mut c);
-    ItemWrote { wrote: w, ctx: c }
-}

@@ -1,7 +1,7 @@
 -- What a writer's answer gives its caller. Assumes nothing.
 use Prim.Native.Nat.{ℕ, ◌+◌, ◌≤◌}
-use mathlib.Core.Path.{◌≡◌, refl}
-use mathlib.Core.Bool.{Bool}
+use mathlib.Core.Path.{◌≡◌, refl, sym, subst}
+use mathlib.Core.Bool.{Bool, false≢true}
 use mathlib.Core.List.{List, ◌∷◌}
 use lib.ListN.{length, take, drop}
 use Rattle.spec.specs.Bytes.{Bytes}
@@ -17,8 +17,10 @@ use Rattle.input.specs.Scans.{skip_list}
 use Rattle.text.specs.Writes.{Writes}
 use Rattle.text.specs.Writes.{Wrote, no_room}
 use Rattle.std.specs.Prelude.{Ok, Err}
+use Rattle.std.specs.Result.{IsErr}
 use Rattle.text.proofs.Temporary.{lent, back, temp_full, temp_fits}
-use Rattle.text.proofs.Writing.{done, full, reaches, owes_all, owes_step, owes_stop, owes_last}
+use Rattle.text.proofs.Writing.{done, full, reaches, owes_all, owes_step, owes_stop, owes_last, stops}
+use Rattle.tables.specs.TableSteps.{RowWrites, RowsWrites}
 use Rattle.nodes.specs.Stands.{ElementAt, Placed, Placeds}
 use Rattle.serializer.specs.Writers.{self_at, WritesForest, WritesElement}
 use Rattle.nodes.proofs.Interrupts.{element_kids}
@@ -68,3 +70,25 @@ module _ (text : Bytes) (len : ℕ) (h : len ≤ length text) {o : Out} {mid : B
 
   pub nest-fits : {n : ℕ} → r ≡ Ok n → len + n ≤ length (back text len mid)
   nest-fits q = temp_fits text len h o (done q w)
+
+-- where `?` returns early
+pub stops_element : {sh ns : Bytes} {i : ℕ} {step : Ancestors → Bytes → List Attr → Forest → Step} {t : Bytes} {room : ℕ} {after : Bytes} {r : Wrote} → IsErr r
+    → WritesElement sh ns i step t room after no_room → WritesElement sh ns i step t room after r
+stops_element h w = record { for = λ name attrs kids anc x a. stops h (w.for name attrs kids anc x a) }
+
+pub stops_forest : {sh ns : Bytes} {i e : ℕ} {step : Ancestors → Forest → Step} {t : Bytes} {room : ℕ} {after : Bytes} {r : Wrote} → IsErr r
+    → WritesForest sh ns i e step t room after no_room → WritesForest sh ns i e step t room after r
+stops_forest h w = record { for = λ parent f anc k a. stops h (w.for parent f anc k a) }
+
+no_room_is : {r : Wrote} → IsErr r → r ≡ no_room
+no_room_is {r} h = go r h
+  where
+    go : (r : Wrote) → IsErr r → r ≡ no_room
+    go (Ok n) h = absurd (false≢true h)
+    go (Err e) h = refl
+
+pub stops_row : {room : ℕ} {after : Bytes} {stored : List ℕ} {r : Wrote} {os : List Out} {t : Bytes} → IsErr r → RowWrites room after stored no_room os t → RowWrites room after stored r os t
+stops_row {room} {after} {stored} {r} {os} {t} h w = subst (λ (x : Wrote). RowWrites room after stored x os t) (sym (no_room_is h)) w
+
+pub stops_rows : {room : ℕ} {after : Bytes} {stored : List (List ℕ)} {r : Wrote} {os : List (List Out)} {t : Bytes} → IsErr r → RowsWrites room after stored no_room os t → RowsWrites room after stored r os t
+stops_rows {room} {after} {stored} {r} {os} {t} h w = subst (λ (x : Wrote). RowsWrites room after stored x os t) (sym (no_room_is h)) w

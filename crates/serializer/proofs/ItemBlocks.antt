@@ -24,14 +24,13 @@ use Rattle.tree.proofs.Kin.{first_name}
 use Rattle.lists_links.specs.Items.{indented_block, inline_lead}
 use Rattle.text.specs.Writes.{Writes}
 use Rattle.text.specs.Writes.{Wrote, no_room}
-use Rattle.std.specs.Prelude.{Ok, Err}
+use Rattle.std.specs.Prelude.{Ok}
 use Rattle.text.proofs.Temporary.{lent, back, temp_full, temp_fits}
 use Rattle.text.proofs.Writing.{Owes, owes_all, owes_step, owes_stop, owes_last, alike, done, full, reaches, then_assoc, yes, no}
 use Rattle.elements.specs.ItemStep.{child_opts, flow_prefix, ended_flow}
 use Rattle.serializer.specs.ListStep.{inline_step, body_step, led_step}
 use Rattle.nodes.specs.Stands.{ElementAt, Placed, Placeds, PlacedNode}
-use Rattle.serializer.specs.Writers.{Fits, WritesForest, WritesElement, progress_at, going_of, Goes, GoesElement}
-use Rattle.serializer.specs.declared.progress.Going.{Going}
+use Rattle.serializer.specs.Writers.{Fits, WritesForest, WritesElement, progress_at, going_of, Went, Goes, GoesElement}
 use Rattle.serializer.proofs.Goings.{goes_alike, goes_going}
 use Rattle.nodes.proofs.Interrupts.{element_name}
 use Rattle.elements.proofs.Nesting.{nest_writes}
@@ -215,7 +214,7 @@ module _ (sh ns : Bytes) (c : ℕ) {name : ℕ} (q : name ≡ name_at sh (place_
           }
 
   -- a rule, or any other block
-  module _ (isFirst due : Bool) (t : Bytes) {room : ℕ} {after : Bytes} {r : Going} where
+  module _ (isFirst due : Bool) (t : Bytes) {room : ℕ} {after : Bytes} {r : Went} where
     pub block_rule : name ≡ 15 → Goes room after r (rule_block item (progress_at isFirst due t))
         → GoesElement sh ns c (λ anc nm attrs kids. block_child self anc (element nm attrs kids nothing) item (progress_at isFirst due t)) room after r
     block_rule e w =

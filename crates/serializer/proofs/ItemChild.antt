@@ -38,16 +38,13 @@ use Rattle.tree.proofs.Firsts.{first, ended, its_tag, its_body}
 use Rattle.tree.proofs.Frames.{rep_kept, around_kept, end_kept}
 use Rattle.tree.proofs.Kin.{first_name, first_skipped}
 use Rattle.text.specs.Writes.{Writes}
-use Rattle.text.specs.Writes.{Wrote}
-use Rattle.text.specs.declared.buffer.Wrote.TheVariants as wrote
+use Rattle.text.specs.Writes.{Wrote, no_room}
 use Rattle.std.specs.Prelude.{Ok, Err}
 use Rattle.text.proofs.Writing.{keeps, keep_then, done, full, yes, no}
 use Rattle.elements.specs.ItemStep.{line_if}
 use Rattle.serializer.specs.ListStep.{inline_step}
 use Rattle.nodes.specs.Stands.{Placeds, PlacedNode}
-use Rattle.serializer.specs.Writers.{progress_at, going_of, Goes, GoesForest, GoesElement, WritesForest}
-use Rattle.serializer.specs.declared.progress.Going.{Going}
-use Rattle.serializer.specs.declared.progress.Going.TheVariants.{On, Full}
+use Rattle.serializer.specs.Writers.{progress_at, going_of, Went, Goes, GoesForest, GoesElement, WritesForest}
 use Rattle.serializer.proofs.Goings.{goes_alike, goes_going, goes_from, goes_none}
 use Rattle.serializer.proofs.Onward.{inline_is, onward_block, onward_inline}
 use Rattle.serializer.proofs.Placing.{node_element}
@@ -120,7 +117,7 @@ module _ (sh ns : Bytes) (c : ℕ) {name : ℕ} (q : name ≡ name_at sh (place_
   name_is : (parent : ℕ) (f : Forest) → Rep sh ns parent c (end_at ns c) f → name_of f ≡ name
   name_is parent f h = sym (q ∙ first_name sh ns parent c (end_at ns c) f h p)
 
-  pub alone_none : {z : Bytes} → r ≡ wrote.Full → GoesForest sh ns c (end_at ns c) wanted (length xs) z Full
+  pub alone_none : {z : Bytes} → r ≡ no_room → GoesForest sh ns c (end_at ns c) wanted (length xs) z (Err (record {}))
   alone_none {z} u =
       record {
         for = λ parent f anc h a. go parent f anc h (either (node_is_list_item_block name));
@@ -131,11 +128,11 @@ module _ (sh ns : Bytes) (c : ℕ) {name : ℕ} (q : name ≡ name_at sh (place_
       either false = inr refl
 
       go : (parent : ℕ) (f : Forest) (anc : Ancestors) → Rep sh ns parent c (end_at ns c) f → (node_is_list_item_block name ≡ true) ⊎ (node_is_list_item_block name ≡ false)
-          → Goes (length xs) z Full (wanted anc f)
+          → Goes (length xs) z (Err (record {})) (wanted anc f)
       go parent f anc h (inl b) = goes_alike (child_block anc f (name_is parent f h) b) (goes_none (block_child self anc f item) (onward_block self item anc f) before (full u w))
       go parent f anc h (inr b) = goes_alike (child_inline anc f (name_is parent f h) b) (goes_none (inline_child self anc f blank item) (onward_inline self item anc f blank) before (full u w))
 
-  module _ {n : ℕ} (u : r ≡ Done n) {final : Bytes} {z : Going} where
+  module _ {n : ℕ} (u : r ≡ Ok n) {final : Bytes} {z : Went} where
     -- the room is that of the text before the line
     there : {x : Progress} → Goes (length ys) final z x → Goes (length xs) final z x
     there {x} y = subst (λ (k : ℕ). Goes k final z x) (done u w).long y
@@ -243,16 +240,16 @@ module _ (sh ns : Bytes) (c : ℕ) {place : ℕ} (at : place ≡ place_at ns c) 
     one_is : (parent : ℕ) (f : Forest) (anc : Ancestors) → Rep sh ns parent c (end_at ns c) f → children anc f ≡ children anc (head_of f)
     one_is parent f anc h = ap (children anc) (single sh ns parent c f h)
 
-    stays : len ≤ length xs → Goes (length xs) xs (On len isFirst due) start
+    stays : len ≤ length xs → Goes (length xs) xs (going_of (Ok len) isFirst due) start
     stays l = record { says = (keeps xs len l, refl, refl) }
 
-    pub child_comment : {tag : ℕ} → len ≤ length xs → tag ≡ get_or sh place 0 → (not (eqb tag 4) && not (eqb tag 1)) ≡ true → GoesForest sh ns c (end_at ns c) children (length xs) xs (On len isFirst due)
+    pub child_comment : {tag : ℕ} → len ≤ length xs → tag ≡ get_or sh place 0 → (not (eqb tag 4) && not (eqb tag 1)) ≡ true → GoesForest sh ns c (end_at ns c) children (length xs) xs (going_of (Ok len) isFirst due)
     child_comment {tag} l t b =
         let e : tag ≡ get_or sh (place_at ns c) 0 = t ∙ ap (λ (k : ℕ). get_or sh k 0) at in
         let d = subst (λ (k : ℕ). (not (eqb k 4) && not (eqb k 1)) ≡ true) e b in
         record { for = λ parent f anc h a. goes_alike (one_is parent f anc h ∙ of_comment sh ns parent c (serializer skips levels) anc item start f h d) (stays l) }
 
-    pub child_skipped : {b : Bool} → len ≤ length xs → b ≡ skipped_at skips sh (place_at ns c) → b ≡ true → GoesForest sh ns c (end_at ns c) children (length xs) xs (On len isFirst due)
+    pub child_skipped : {b : Bool} → len ≤ length xs → b ≡ skipped_at skips sh (place_at ns c) → b ≡ true → GoesForest sh ns c (end_at ns c) children (length xs) xs (going_of (Ok len) isFirst due)
     unfolding serializer
     child_skipped l k b =
         record { for = λ parent f anc h a. goes_alike (one_is parent f anc h ∙ of_skipped sh ns parent c (serializer skips levels) anc item start f h (sym k ∙ b)) (stays l) }
@@ -262,7 +259,7 @@ module _ (sh ns : Bytes) (c : ℕ) {place : ℕ} (at : place ≡ place_at ns c) 
       left_in : skipped_at skips sh (place_at ns c) ≡ false
       left_in = sym k ∙ b-no
 
-      pub child_wrapper : {end : ℕ} {final : Bytes} {r : Going} → end ≡ end_at ns c → w ≡ true → 0 < c → GoesForest sh ns (c + 1) end children (length xs) final r → GoesForest sh ns c (end_at ns c) children (length xs) final r
+      pub child_wrapper : {end : ℕ} {final : Bytes} {r : Went} → end ≡ end_at ns c → w ≡ true → 0 < c → GoesForest sh ns (c + 1) end children (length xs) final r → GoesForest sh ns c (end_at ns c) children (length xs) final r
       unfolding serializer
       child_wrapper {end} q t o v =
           record {
@@ -273,7 +270,7 @@ module _ (sh ns : Bytes) (c : ℕ) {place : ℕ} (at : place ≡ place_at ns c) 
                 (v.for c (kids_of f) (attrs_of f ∷ anc) (subst (λ (j : ℕ). Rep sh ns c (c + 1) j (kids_of f)) (sym q) in_it) (wrapper_around sh ns parent c f anc h a o d));
           }
 
-      pub child_alone : {tag : ℕ} {final : Bytes} {r : Going} → tag ≡ get_or sh place 0 → (not (eqb tag 4) && not (eqb tag 1)) ≡ false → w ≡ false → {blank : Bool} → blank ≡ (eqb (get_or sh place 0) 4 && is_blank (body_at sh place))
+      pub child_alone : {tag : ℕ} {final : Bytes} {r : Went} → tag ≡ get_or sh place 0 → (not (eqb tag 4) && not (eqb tag 1)) ≡ false → w ≡ false → {blank : Bool} → blank ≡ (eqb (get_or sh place 0) 4 && is_blank (body_at sh place))
           → GoesForest sh ns c (end_at ns c) (λ anc f. item_child (serializer skips levels) anc f blank item start) (length xs) final r → GoesForest sh ns c (end_at ns c) children (length xs) final r
       unfolding serializer
       child_alone {tag} t n u {blank} z v =
@@ -317,7 +314,7 @@ pub child_falls : {t from to c : ℕ} (n : ℕ) → n * 147573952589676412928 + 
 child_falls n q l p = omega (arith, q, l, p)
 
 -- how it goes with the nodes as they stand now is how it goes with the nodes as they were
-pub goes_before : {from to : ℕ} {a b : Bytes} → Kept from to a b → {sh : Bytes} {i : ℕ} {step : Ancestors → Forest → Progress} {room : ℕ} {after : Bytes} {r : Going}
+pub goes_before : {from to : ℕ} {a b : Bytes} → Kept from to a b → {sh : Bytes} {i : ℕ} {step : Ancestors → Forest → Progress} {room : ℕ} {after : Bytes} {r : Went}
     → GoesForest sh b i (end_at b i) step room after r → GoesForest sh a i (end_at a i) step room after r
 goes_before {from} {to} {a} {b} k {sh} {i} w =
     record {

@@ -17,8 +17,8 @@ use Rattle.tree.specs.Represents.{Rep, Around, rest_of}
 use Rattle.tree.proofs.Firsts.{First, first, rep_le}
 use Rattle.tree.proofs.Frames.{kept_none, kept_then, kept_in, place_kept, end_kept, rep_kept, around_kept}
 use Rattle.text.specs.Writes.{Written, Writes}
-use Rattle.text.specs.Writes.{Wrote}
-use Rattle.std.specs.Prelude.{Ok, Err}
+use Rattle.text.specs.Writes.{Wrote, no_room}
+use Rattle.std.specs.Prelude.{Ok}
 use Rattle.text.proofs.Writing.{done, full, Owes, owes_all, owes_on, owes_over, owes_none}
 use Rattle.text.proofs.Temporary.{lent, back}
 use Rattle.nodes.specs.Stands.{Siblings, ElementAt, Placed}
@@ -111,7 +111,7 @@ module _ (self : MDSerializer) (opts : FormatOpts) where
   unfolding row_texts
   behind_first_lem x xs t = behind_both (cell_text self opts x ∷ []) (row_texts self opts xs) t
 
-pub never : {e : ℕ} → ◌≡◌ {A = Wrote} Full (Done e) → ⊥
+pub never : {e : ℕ} → ◌≡◌ {A = Wrote} no_room (Ok e) → ⊥
 never s = let z : ◌≡◌ {A = ℕ} 0 1 = cc in omega arith
 
 -- ---- the loop. Node memory is a at its beginning and b now, the text memory d and `text`; c is the next cell, up to number `to`
@@ -168,7 +168,7 @@ module _ {self : MDSerializer} {opts : FormatOpts} {sh a b : Bytes} {row to c : 
   its_end = p.to_is ∙ sym (end_kept p.kept row)
 
   -- no cell is left
-  pub row_end : to ≤ c → (cells : List Cell) → RowAt sh a row cells → RowWrites (length d) text (row_lengths sh b row) (Done end) (row_texts self opts cells) (take len d)
+  pub row_end : to ≤ c → (cells : List Cell) → RowAt sh a row cells → RowWrites (length d) text (row_lengths sh b row) (Ok end) (row_texts self opts cells) (take len d)
   row_end l cells x =
       let g : RowGoing self opts sh b row c d text len end cells = p.goes cells x in
       let z : g.left ≡ [] = cells_none g.at (omega (arith, its_end)) in
@@ -232,7 +232,7 @@ module _ {self : MDSerializer} {opts : FormatOpts} {sh a b : Bytes} {row to c : 
           ∙ behind_first_lem self opts (row_cell x).cell (row_cell x).more (take end text)
 
       -- the cell had no room
-      pub row_stop : r ≡ Full → (z : List ℕ) (lengths : List ℕ) (cells : List Cell) → RowAt sh a row cells → RowWrites (length d) z lengths Full (row_texts self opts cells) (take len d)
+      pub row_stop : r ≡ no_room → (z : List ℕ) (lengths : List ℕ) (cells : List Cell) → RowAt sh a row cells → RowWrites (length d) z lengths no_room (row_texts self opts cells) (take len d)
       row_stop q z lengths cells x =
           let o : Out = cell_text self opts (row_cell x).cell in
           record {
@@ -241,7 +241,7 @@ module _ {self : MDSerializer} {opts : FormatOpts} {sh a b : Bytes} {row to c : 
           }
 
       -- the cell is written, its span stored, and c' is the next
-      pub row_on : {n : ℕ} → r ≡ Done n → {b₁ b₂ : Bytes} → Kept c (end_at b c) b b₁ → Kept c (c + 1) b₁ b₂ → length_at b₂ c ≡ n → {e c' : ℕ} → e ≡ end_at b₂ c → e ≤ c' → NextCell sh b₂ e to c'
+      pub row_on : {n : ℕ} → r ≡ Ok n → {b₁ b₂ : Bytes} → Kept c (end_at b c) b b₁ → Kept c (c + 1) b₁ b₂ → length_at b₂ c ≡ n → {e c' : ℕ} → e ≡ end_at b₂ c → e ≤ c' → NextCell sh b₂ e to c'
           → RowProgress self opts sh a b₂ row to c' d (back text end ys) len (end + n)
       row_on {n} q {b₁} {b₂} k₁ k₂ v {e} {c'} u m nx =
           let t : First sh b row c to p.here.rest = first sh b row c to p.here.rest p.here.rep l in

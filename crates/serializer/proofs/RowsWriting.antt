@@ -11,8 +11,8 @@ use Rattle.spec.specs.Md.Elements.Table.{Cell, row_texts, concat}
 use Rattle.spec.specs.declared.ctx.FormatOpts.{FormatOpts}
 use Rattle.tree.specs.Memory.{end_at, Kept}
 use Rattle.tree.proofs.Frames.{kept_none, kept_then, kept_in, end_kept}
-use Rattle.text.specs.Writes.{Wrote}
-use Rattle.std.specs.Prelude.{Ok, Err}
+use Rattle.text.specs.Writes.{Wrote, no_room}
+use Rattle.std.specs.Prelude.{Ok}
 use Rattle.text.proofs.Writing.{Owes, owes_all, owes_step, owes_stop, owes_none}
 use Rattle.tables.specs.Rows.{RowAt, Rows, RowsAt, SomeRows}
 use Rattle.tables.specs.Spans.{row_lengths, row_if, table_lengths}
@@ -122,7 +122,7 @@ module _ {self : MDSerializer} {opts : FormatOpts} {sh a b : Bytes} {from to r :
 
   -- no row is left
   pub rows_end : to ≤ r → (rows : List (List Cell)) → Rows sh a from to rows
-      → RowsWrites (length d) text (table_lengths sh b from to) (Done end) (rows_texts self opts rows) (take len d)
+      → RowsWrites (length d) text (table_lengths sh b from to) (Ok end) (rows_texts self opts rows) (take len d)
   rows_end l rows x =
       let g : RowsGoing self opts sh b from to r d text len end rows = p.goes rows x in
       let z : g.left ≡ [] = no_rows sh b r to g.left g.at l in
@@ -164,8 +164,8 @@ module _ {self : MDSerializer} {opts : FormatOpts} {sh a b : Bytes} {from to r :
 
     module _ {text' : List ℕ} (b' : Bytes) {w : Wrote} (x : (row : List Cell) → RowAt sh b r row → RowWrites (length text) text' (row_lengths sh b' r) w (row_texts self opts row) (take end text)) where
       -- the row had no room
-      pub rows_stop : w ≡ Full → (z : List ℕ) (lengths : List (List ℕ)) (rows : List (List Cell)) → Rows sh a from to rows
-          → RowsWrites (length d) z lengths Full (rows_texts self opts rows) (take len d)
+      pub rows_stop : w ≡ no_room → (z : List ℕ) (lengths : List (List ℕ)) (rows : List (List Cell)) → Rows sh a from to rows
+          → RowsWrites (length d) z lengths no_room (rows_texts self opts rows) (take len d)
       rows_stop q z lengths rows y =
           let f : Next sh b r to (p.goes rows y).left = first_left rows y in
           record {
@@ -174,7 +174,7 @@ module _ {self : MDSerializer} {opts : FormatOpts} {sh a b : Bytes} {from to r :
           }
 
       -- the row is written, and r' is the next
-      pub rows_on : {m : ℕ} → w ≡ Done m → Kept (r + 1) (end_at b r) b b' → (r' : ℕ) → r + 1 ≤ r' → ((rows : List (List Cell)) → Rows sh b' (r + 1) to rows → RowsAt sh b' r' to rows)
+      pub rows_on : {m : ℕ} → w ≡ Ok m → Kept (r + 1) (end_at b r) b b' → (r' : ℕ) → r + 1 ≤ r' → ((rows : List (List Cell)) → Rows sh b' (r + 1) to rows → RowsAt sh b' r' to rows)
           → RowsProgress self opts sh a b' from to r' d text' len m
       rows_on {m} q k r' o n =
           record {

@@ -10,8 +10,8 @@ use Rattle.tree.specs.Memory.{end_at}
 use Rattle.tree.specs.Represents.{Rep, Around, head_of, rest_of}
 use Rattle.tree.proofs.Firsts.{first, ended}
 use Rattle.text.specs.Writes.{Writes}
-use Rattle.text.specs.Writes.{Wrote}
-use Rattle.std.specs.Prelude.{Ok, Err}
+use Rattle.text.specs.Writes.{Wrote, no_room}
+use Rattle.std.specs.Prelude.{Ok}
 use Rattle.text.proofs.Writing.{Owes, owes_all, owes_step, owes_stop, owes_none}
 use Rattle.serializer.specs.Writers.{WritesForest}
 
@@ -31,7 +31,7 @@ module _ {sh ns : Bytes} {from to : ℕ} {whole : Ancestors → Forest → Out} 
   -- the first of those that are left is written by `head`, the others by `next`
   module _ (head next : Ancestors → Forest → Step) (e : (parent : ℕ) (anc : Ancestors) (g : Forest) → Rep sh ns parent at to g → (t : Bytes) → step anc g t ≡ and_then (head anc (head_of g) t) (next anc (rest_of g)))
       (l : at < to) {r : Wrote} {after : Bytes} (w : WritesForest sh ns at (end_at ns at) head (take n text) (length text) after r) where
-    pub turn_on : {d m : ℕ} → d ≡ end_at ns at → r ≡ Done m → Turn sh ns from to whole room next after d m
+    pub turn_on : {d m : ℕ} → d ≡ end_at ns at → r ≡ Ok m → Turn sh ns from to whole room next after d m
     turn_on {d} {m} q u =
         record {
           goes = λ parent f anc h a.
@@ -43,7 +43,7 @@ module _ {sh ns : Bytes} {from to : ℕ} {whole : Ancestors → Forest → Out} 
               );
         }
 
-    pub turn_stop : {z : Bytes} → r ≡ Full → (parent : ℕ) (f : Forest) (anc : Ancestors) → Rep sh ns parent from to f → Around sh ns parent anc → Writes room z Full (whole anc f)
+    pub turn_stop : {z : Bytes} → r ≡ no_room → (parent : ℕ) (f : Forest) (anc : Ancestors) → Rep sh ns parent from to f → Around sh ns parent anc → Writes room z no_room (whole anc f)
     turn_stop {z} u parent f anc h a =
         let s = p.goes parent f anc h a in
         let k = first sh ns parent at to s.0 s.1 l in
@@ -51,7 +51,7 @@ module _ {sh ns : Bytes} {from to : ℕ} {whole : Ancestors → Forest → Out} 
 
   -- none is left
   pub turn_last : to ≤ at → ((anc : Ancestors) (t : Bytes) → step anc nothing t ≡ keep t)
-      → (parent : ℕ) (f : Forest) (anc : Ancestors) → Rep sh ns parent from to f → Around sh ns parent anc → Writes room text (Done n) (whole anc f)
+      → (parent : ℕ) (f : Forest) (anc : Ancestors) → Rep sh ns parent from to f → Around sh ns parent anc → Writes room text (Ok n) (whole anc f)
   turn_last l e parent f anc h a =
       let s = p.goes parent f anc h a in
       owes_none s.2 (ap (λ (g : Forest). step anc g (take n text)) (ended sh ns parent at to s.0 s.1 l) ∙ e anc (take n text))

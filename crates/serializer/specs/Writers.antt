@@ -1,5 +1,5 @@
 -- What the writers are given, and what they answer. Assumes nothing.
-use Rattle.std.specs.Prelude.{ℕ, ◌+◌, ◌*◌, ◌≤◌, ◌<◌, ◌^◌, ◌≡◌, Bool, List, length}
+use Rattle.std.specs.Prelude.{ℕ, ◌+◌, ◌*◌, ◌≤◌, ◌<◌, ◌^◌, ◌≡◌, Bool, List, length, take}
 use Rattle.spec.specs.Bytes.{Bytes}
 use Rattle.spec.specs.Tree.{Attr, Forest}
 use Rattle.spec.specs.Out.{Step, keep}
@@ -14,11 +14,10 @@ use Rattle.input.specs.Scans.{skip_list}
 use Rattle.tree.specs.Represents.{Rep, Around}
 use Rattle.text.specs.Writes.{Written, Refused, Writes}
 use Rattle.text.specs.Writes.{Wrote}
-use Rattle.text.specs.declared.buffer.Wrote.TheVariants as wrote
-use Rattle.std.specs.Prelude.{Ok, Err}
+use Rattle.std.specs.Prelude.{Result, Ok, Err}
+use Rattle.text.specs.declared.buffer.Full.{Full}
 use Rattle.nodes.specs.Stands.{ElementAt}
 use Rattle.serializer.specs.declared.progress.Going.{Going}
-use Rattle.serializer.specs.declared.progress.Going.TheVariants.{On, Full}
 
 -- the serializer of a call, with so many levels below
 abbrev pub self_at : Bool → Bytes → ℕ → MDSerializer
@@ -50,22 +49,29 @@ pub record WritesElement (sh ns : Bytes) (i : ℕ) (step : Ancestors → Bytes �
 abbrev pub progress_at : Bool → Bool → Bytes → Progress
 progress_at first due t = record { is_first_block = first; blank_line_due = due; out = keep t }
 
-abbrev pub SaysGoing : ℕ → Bytes → Going → Progress → Type 0
-SaysGoing room after (On n first due) p = Written room after n p.out × (first ≡ p.is_first_block) × (due ≡ p.blank_line_due)
-SaysGoing room after Full p = Refused room p.out
+-- so far, where the text stands at the front of d
+abbrev pub progress_of : Going → Bytes → Progress
+progress_of g d = progress_at g.first g.due (take g.len d)
+
+abbrev pub Went : Type 0
+Went = Result Going Full
 
 -- what a step's answer gives, with what is known behind it
-abbrev pub going_of : Wrote → Bool → Bool → Going
-going_of (Done n) first due = On n first due
-going_of wrote.Full first due = Full
+abbrev pub going_of : Wrote → Bool → Bool → Went
+going_of (Ok n) first due = Ok (record { len = n; first = first; due = due })
+going_of (Err e) first due = Err e
+
+abbrev pub SaysGoing : ℕ → Bytes → Went → Progress → Type 0
+SaysGoing room after (Ok g) p = Written room after g.len p.out × (g.first ≡ p.is_first_block) × (g.due ≡ p.blank_line_due)
+SaysGoing room after (Err _) p = Refused room p.out
 
 -- a record, so that antt reads its arguments off its type
-pub record Goes (room : ℕ) (after : Bytes) (r : Going) (p : Progress) : Type 0 where
+pub record Goes (room : ℕ) (after : Bytes) (r : Went) (p : Progress) : Type 0 where
   pub says : SaysGoing room after r p
 
-pub record GoesForest (sh ns : Bytes) (i e : ℕ) (step : Ancestors → Forest → Progress) (room : ℕ) (after : Bytes) (r : Going) : Type 0 where
+pub record GoesForest (sh ns : Bytes) (i e : ℕ) (step : Ancestors → Forest → Progress) (room : ℕ) (after : Bytes) (r : Went) : Type 0 where
   pub for : (parent : ℕ) (f : Forest) (anc : Ancestors) → Rep sh ns parent i e f → Around sh ns parent anc → Goes room after r (step anc f)
 
-pub record GoesElement (sh ns : Bytes) (i : ℕ) (step : Ancestors → Bytes → List Attr → Forest → Progress) (room : ℕ) (after : Bytes) (r : Going) : Type 0 where
+pub record GoesElement (sh ns : Bytes) (i : ℕ) (step : Ancestors → Bytes → List Attr → Forest → Progress) (room : ℕ) (after : Bytes) (r : Went) : Type 0 where
   pub for : (name : Bytes) (attrs : List Attr) (kids : Forest) (anc : Ancestors) → ElementAt sh ns i name attrs kids
       → Around sh ns (parent_at ns i) anc → Goes room after r (step anc name attrs kids)

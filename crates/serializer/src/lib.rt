@@ -27,7 +27,7 @@ ghost use Rattle.tables.specs.Spans.{row_lengths, table_lengths};
 ghost use Rattle.nodes.specs.Stands.{ElementAt, Placed, PlacedNode, Placeds};
 ghost use Rattle.tables.specs.TableSteps.{rows_texts, RowWrites, RowsWrites};
 ghost use Rattle.serializer.specs.Options as def;
-ghost use Rattle.serializer.specs.Writers.{self_at, Ready, Fits, FitsIn, WritesForest, WritesElement, progress_at, GoesForest, GoesElement};
+ghost use Rattle.serializer.specs.Writers.{self_at, Ready, Fits, FitsIn, WritesForest, WritesElement, progress_of, GoesForest, GoesElement};
 
 use elements::code::write_code;
 use elements::item_steps::{
@@ -39,7 +39,7 @@ use elements::list_nodes::{
 };
 use elements::pre::write_pre;
 use elements::steps::{closed, emphasis_opts, has_writer, opened, push_emphasis_by};
-use list_items::{ItemWrote, start_item, start_item_blocks};
+use list_items::{write_list_item, write_list_item_blocks};
 use lists_links::image::write_img;
 use lists_links::list::{Item, end_item, item_from, push_block_lead, push_inline_lead};
 use lists_links::list_indented::push_indented;
@@ -47,7 +47,7 @@ use marks::table::{escape_table_cell_inplace, trim_trailing_cell_break};
 use nodes::nodes::{has_element, node_is_skipped, node_name, write_text, write_text_node};
 use normalized::text_utils::{push_linebreak, trim_space};
 use options::{packed, unpacked};
-use progress::{Going, going_on, rule_block};
+use progress::{Going, rule_block};
 use spec::ctx::{FormatOpts, ListContext};
 use tables::rows::{is_table_node_writable, next_filled_row, next_row};
 use tables::table::{next_cell, push_table, store_span};
@@ -442,11 +442,8 @@ fn items(
     while c < to {
         let place = node_place(nodes, c);
         let li = node_name(sheet, nodes, c) == 16;
-        let numbered = renumbered(sheet, place, li, ctx);
-        let written = item(sheet, own, run, nodes, text, end, c, li, numbered, levels);
-        let wrote = written.wrote;
-        end = wrote?;
-        ctx = written.ctx;
+        ctx = renumbered(sheet, place, li, ctx);
+        end = item(sheet, own, run, nodes, text, end, c, li, &mut ctx, levels)?;
         c = node_end(nodes, c);
     }
     Ok(end)
@@ -463,19 +460,19 @@ fn item(
     len: usize,
     c: usize,
     li: bool,
-    ctx: ListContext,
+    ctx: &mut ListContext,
     levels: usize,
-) -> ItemWrote
-    requires { PlacedNode sheet.now nodes.old c × (li ≡ eqb (name_at sheet.now (place_at nodes.old c)) 16) × Ready sheet.now text.old len × FitsIn ctx levels }
+) -> Wrote
+    requires { PlacedNode sheet.now nodes.old c × (li ≡ eqb (name_at sheet.now (place_at nodes.old c)) 16) × Ready sheet.now text.old len × FitsIn ctx.old levels }
     ensures kept { Kept c (end_at nodes.old c) nodes.old nodes.new }
-    ensures writes_forest { WritesForest sheet.now nodes.old c (end_at nodes.old c) (λ anc f. list_head (self_at own run.now levels) anc f ctx) (take len text.old) (length text.old) text.new result.wrote }
-    ensures ctx_value { result.ctx ≡ cond li (advance_ol_number ctx) ctx }
+    ensures writes_forest { WritesForest sheet.now nodes.old c (end_at nodes.old c) (λ anc f. list_head (self_at own run.now levels) anc f ctx.old) (take len text.old) (length text.old) text.new result }
+    ensures ctx_value { ctx.new ≡ cond li (advance_ol_number ctx.old) ctx.old }
 {
     let to = node_end(nodes, c);
     let opts = ctx.opts;
     if !li {
         let inner = opts.fresh().include_node();
-        let w = write(
+        return write(
             sheet,
             own,
             run,
@@ -487,7 +484,6 @@ fn item(
             packed(inner),
             levels,
         );
-        return ItemWrote { wrote: w, ctx: ctx };
     }
     if has_blocks(sheet, nodes, c + 1, to) {
         return blocks(sheet, own, run, nodes, text, len, c, ctx, levels);
@@ -505,41 +501,20 @@ fn flat(
     text: &mut [u8],
     len: usize,
     c: usize,
-    ctx: ListContext,
+    ctx: &mut ListContext,
     levels: usize,
-) -> ItemWrote
-    requires { Placed sheet.now nodes.old c × Ready sheet.now text.old len × FitsIn ctx levels }
+) -> Wrote
+    requires { Placed sheet.now nodes.old c × Ready sheet.now text.old len × FitsIn ctx.old levels }
     ensures kept { Kept c (end_at nodes.old c) nodes.old nodes.new }
-    ensures writes_element { WritesElement sheet.now nodes.old c (λ anc name attrs kids. write_list_item (self_at own run.now levels) anc (element name attrs kids nothing) ctx) (take len text.old) (length text.old) text.new result.wrote }
-    ensures ctx_value { result.ctx ≡ advance_ol_number ctx }
+    ensures writes_element { WritesElement sheet.now nodes.old c (λ anc name attrs kids. write_list_item (self_at own run.now levels) anc (element name attrs kids nothing) ctx.old) (take len text.old) (length text.old) text.new result }
+    ensures ctx_value { ctx.new ≡ advance_ol_number ctx.old }
 {
-    let begun = start_item(text, len, ctx);
-    let wrote = begun.wrote;
-    let next = begun.ctx;
-    let opts = next.opts;
-    match wrote {
-        Ok(n) => {
-            let inner = opts.list_item();
-            let bits = packed(inner);
-            match kids(sheet, own, run, nodes, text, n, c, bits, levels) {
-                Ok(m) => {
-                    let w = push_linebreak(text, m, opts.table_cell);
-                    ItemWrote {
-                        wrote: w,
-                        ctx: next,
-                    }
-                }
-                Err(Full) => ItemWrote {
-                    wrote: Err(Full),
-                    ctx: next,
-                },
-            }
-        }
-        Err(Full) => ItemWrote {
-            wrote: Err(Full),
-            ctx: next,
-        },
-    }
+    let n = write_list_item(text, len, ctx)?;
+    let opts = ctx.opts;
+    let inner = opts.list_item();
+    let bits = packed(inner);
+    let m = kids(sheet, own, run, nodes, text, n, c, bits, levels)?;
+    push_linebreak(text, m, opts.table_cell)
 }
 
 // An item with blocks: `write_list_item_blocks` of elements/list.rs.
@@ -552,53 +527,25 @@ fn blocks(
     text: &mut [u8],
     len: usize,
     c: usize,
-    ctx: ListContext,
+    ctx: &mut ListContext,
     levels: usize,
-) -> ItemWrote
-    requires { Placed sheet.now nodes.old c × Ready sheet.now text.old len × FitsIn ctx levels }
+) -> Wrote
+    requires { Placed sheet.now nodes.old c × Ready sheet.now text.old len × FitsIn ctx.old levels }
     ensures kept { Kept c (end_at nodes.old c) nodes.old nodes.new }
-    ensures writes_element { WritesElement sheet.now nodes.old c (λ anc name attrs kids. write_list_item_blocks (self_at own run.now levels) anc attrs kids ctx) (take len text.old) (length text.old) text.new result.wrote }
-    ensures ctx_value { result.ctx ≡ advance_ol_number ctx }
+    ensures writes_element { WritesElement sheet.now nodes.old c (λ anc name attrs kids. write_list_item_blocks (self_at own run.now levels) anc attrs kids ctx.old) (take len text.old) (length text.old) text.new result }
+    ensures ctx_value { ctx.new ≡ advance_ol_number ctx.old }
 {
     let to = node_end(nodes, c);
-    let begun = start_item_blocks(text, len, ctx);
-    let wrote = begun.wrote;
-    let next = begun.ctx;
-    match wrote {
-        Ok(n) => {
-            let item = item_from(ctx, next, n);
-            match children(
-                sheet,
-                own,
-                run,
-                nodes,
-                text,
-                n,
-                c + 1,
-                to,
-                item,
-                true,
-                false,
-                levels,
-            ) {
-                Going::On(m, _, _) => {
-                    let w = end_item(text, m, item);
-                    ItemWrote {
-                        wrote: w,
-                        ctx: next,
-                    }
-                }
-                Going::Full => ItemWrote {
-                    wrote: Err(Full),
-                    ctx: next,
-                },
-            }
-        }
-        Err(Full) => ItemWrote {
-            wrote: Err(Full),
-            ctx: next,
-        },
-    }
+    let first = *ctx;
+    let n = write_list_item_blocks(text, len, ctx)?;
+    let item = item_from(first, *ctx, n);
+    let begun = Going {
+        len: n,
+        first: true,
+        due: false,
+    };
+    let end = children(sheet, own, run, nodes, text, c + 1, to, item, begun, levels)?;
+    end_item(text, end.len, item)
 }
 
 // The children of an item; those of a wrapper take its place.
@@ -609,38 +556,23 @@ fn children(
     run: &[u8],
     nodes: &mut [u8],
     text: &mut [u8],
-    len: usize,
     from: usize,
     to: usize,
     item: Item,
-    first: bool,
-    due: bool,
+    before: Going,
     levels: usize,
-) -> Going
-    requires { Placeds sheet.now nodes.old from to × Ready sheet.now text.old len × FitsIn item.ctx levels }
+) -> Result<Going, Full>
+    requires { Placeds sheet.now nodes.old from to × Ready sheet.now text.old before.len × FitsIn item.ctx levels }
     ensures kept { Kept from to nodes.old nodes.new }
-    ensures goes_forest { GoesForest sheet.now nodes.old from to (λ anc f. item_children (self_at own run.now levels) anc f (item_of item) (progress_at first due (take len text.old))) (length text.old) text.new result }
+    ensures goes_forest { GoesForest sheet.now nodes.old from to (λ anc f. item_children (self_at own run.now levels) anc f (item_of item) (progress_of before text.old)) (length text.old) text.new result }
 {
-    let mut end = len;
-    let mut is_first = first;
-    let mut is_due = due;
+    let mut going = before;
     let mut c = from;
     while c < to {
-        match child(
-            sheet, own, run, nodes, text, end, c, to, item, is_first, is_due, levels,
-        ) {
-            Going::On(n, f, d) => {
-                end = n;
-                is_first = f;
-                is_due = d;
-            }
-            Going::Full => {
-                return Going::Full;
-            }
-        }
+        going = child(sheet, own, run, nodes, text, c, to, item, going, levels)?;
         c = node_end(nodes, c);
     }
-    Going::On(end, is_first, is_due)
+    Ok(going)
 }
 
 // A child of an item; it and its siblings end at `to`.
@@ -651,25 +583,23 @@ fn child(
     run: &[u8],
     nodes: &mut [u8],
     text: &mut [u8],
-    len: usize,
     c: usize,
     to: usize,
     item: Item,
-    first: bool,
-    due: bool,
+    before: Going,
     levels: usize,
-) -> Going
-    requires { PlacedNode sheet.now nodes.old c × (end_at nodes.old c ≤ to) × Ready sheet.now text.old len × FitsIn item.ctx levels }
+) -> Result<Going, Full>
+    requires { PlacedNode sheet.now nodes.old c × (end_at nodes.old c ≤ to) × Ready sheet.now text.old before.len × FitsIn item.ctx levels }
     ensures kept { Kept c (end_at nodes.old c) nodes.old nodes.new }
-    ensures goes_forest { GoesForest sheet.now nodes.old c (end_at nodes.old c) (λ anc f. item_children (self_at own run.now levels) anc f (item_of item) (progress_at first due (take len text.old))) (length text.old) text.new result }
+    ensures goes_forest { GoesForest sheet.now nodes.old c (end_at nodes.old c) (λ anc f. item_children (self_at own run.now levels) anc f (item_of item) (progress_of before text.old)) (length text.old) text.new result }
 {
     let place = node_place(nodes, c);
     let tag = tag_at(sheet, place);
     if (tag != 4) & (tag != 1) {
-        return Going::On(len, first, due);
+        return Ok(before);
     }
     if node_is_skipped(sheet, own, run, nodes, c) {
-        return Going::On(len, first, due);
+        return Ok(before);
     }
     if node_is_block_wrapper(sheet, nodes, c) {
         let end = node_end(nodes, c);
@@ -679,19 +609,15 @@ fn child(
             run,
             nodes,
             text,
-            len,
             c + 1,
             end,
             item,
-            first,
-            due,
+            before,
             levels,
         );
     }
     let blank = is_blank_text(sheet, place);
-    alone(
-        sheet, own, run, nodes, text, len, c, blank, item, first, due, levels,
-    )
+    alone(sheet, own, run, nodes, text, c, blank, item, before, levels)
 }
 
 // A child of an item that is no wrapper; `blank` says that it is a blank text.
@@ -702,49 +628,31 @@ fn alone(
     run: &[u8],
     nodes: &mut [u8],
     text: &mut [u8],
-    len: usize,
     c: usize,
     blank: bool,
     item: Item,
-    first: bool,
-    due: bool,
+    before: Going,
     levels: usize,
-) -> Going
-    requires { PlacedNode sheet.now nodes.old c × Ready sheet.now text.old len × FitsIn item.ctx levels }
+) -> Result<Going, Full>
+    requires { PlacedNode sheet.now nodes.old c × Ready sheet.now text.old before.len × FitsIn item.ctx levels }
     ensures kept { Kept c (end_at nodes.old c) nodes.old nodes.new }
-    ensures goes_forest { GoesForest sheet.now nodes.old c (end_at nodes.old c) (λ anc f. item_child (self_at own run.now levels) anc f blank (item_of item) (progress_at first due (take len text.old))) (length text.old) text.new result }
+    ensures goes_forest { GoesForest sheet.now nodes.old c (end_at nodes.old c) (λ anc f. item_child (self_at own run.now levels) anc f blank (item_of item) (progress_of before text.old)) (length text.old) text.new result }
 {
     let name = node_name(sheet, nodes, c);
-    let line = due & !((name == 23) | blank);
-    match due_line(text, len, line, item) {
-        Ok(n) => {
-            if node_is_list_item_block(name) {
-                block(
-                    sheet,
-                    own,
-                    run,
-                    nodes,
-                    text,
-                    n,
-                    c,
-                    name,
-                    item,
-                    first,
-                    due & !line,
-                    levels,
-                )
-            } else {
-                going_on(
-                    inline(
-                        sheet, own, run, nodes, text, n, c, name, blank, item, levels,
-                    ),
-                    first,
-                    due & !line,
-                )
-            }
-        }
-        Err(Full) => Going::Full,
+    let line = before.due & !((name == 23) | blank);
+    let n = due_line(text, before.len, line, item)?;
+    let going = Going {
+        len: n,
+        first: before.first,
+        due: before.due & !line,
+    };
+    if node_is_list_item_block(name) {
+        return block(sheet, own, run, nodes, text, c, name, item, going, levels);
     }
+    let m = inline(
+        sheet, own, run, nodes, text, n, c, name, blank, item, levels,
+    )?;
+    Ok(Going { len: m, ..going })
 }
 
 // A child of an item that is no block.
@@ -792,28 +700,37 @@ fn block(
     run: &[u8],
     nodes: &mut [u8],
     text: &mut [u8],
-    len: usize,
     c: usize,
     name: usize,
     item: Item,
-    first: bool,
-    due: bool,
+    before: Going,
     levels: usize,
-) -> Going
-    requires { Placed sheet.now nodes.old c × (name ≡ name_at sheet.now (place_at nodes.old c)) × Ready sheet.now text.old len × FitsIn item.ctx levels }
+) -> Result<Going, Full>
+    requires { Placed sheet.now nodes.old c × (name ≡ name_at sheet.now (place_at nodes.old c)) × Ready sheet.now text.old before.len × FitsIn item.ctx levels }
     ensures kept { Kept c (end_at nodes.old c) nodes.old nodes.new }
-    ensures goes_element { GoesElement sheet.now nodes.old c (λ anc name attrs kids. block_child (self_at own run.now levels) anc (element name attrs kids nothing) (item_of item) (progress_at first due (take len text.old))) (length text.old) text.new result }
+    ensures goes_element { GoesElement sheet.now nodes.old c (λ anc name attrs kids. block_child (self_at own run.now levels) anc (element name attrs kids nothing) (item_of item) (progress_of before text.old)) (length text.old) text.new result }
 {
     if name == 15 {
-        return rule_block(text, len, item, first, due);
+        return rule_block(text, item, before);
     }
-    going_on(
-        led(
-            sheet, own, run, nodes, text, len, c, name, item, first, levels,
-        ),
-        false,
-        (name == 23) | due,
-    )
+    let n = led(
+        sheet,
+        own,
+        run,
+        nodes,
+        text,
+        before.len,
+        c,
+        name,
+        item,
+        before.first,
+        levels,
+    )?;
+    Ok(Going {
+        len: n,
+        first: false,
+        due: (name == 23) | before.due,
+    })
 }
 
 // A block of an item that is no rule, with what stands before and behind it.

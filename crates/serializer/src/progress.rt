@@ -1,35 +1,36 @@
 // What changes from child to child of an item.
-ghost use Rattle.std.specs.Prelude.{◌≡◌, ◌≤◌, length, take};
+ghost use Rattle.std.specs.Prelude.{◌≤◌, length};
 ghost use Rattle.spec.specs.Md.Elements.List as def;
 ghost use Rattle.lists_links.specs.Items.{item_of};
-ghost use Rattle.serializer.specs.Writers.{progress_at, Goes, going_of};
+ghost use Rattle.serializer.specs.Writers.{progress_of, Goes};
 
 use lists_links::list::{Item, push_rule};
-use text::buffer::{Full, Wrote};
+use text::buffer::Full;
 
 // The length of the text, whether no block stood before, whether a blank line is due.
 #[derive(Clone, Copy)]
-pub enum Going {
-    On(usize, bool, bool),
-    Full,
-}
-
-pub fn going_on(wrote: Wrote, first: bool, due: bool) -> Going
-    ensures { result ≡ going_of wrote first due }
-{
-    match wrote {
-        Ok(n) => Going::On(n, first, due),
-        Err(Full) => Going::Full,
-    }
+pub struct Going {
+    pub len: usize,
+    pub first: bool,
+    pub due: bool,
 }
 
 // A rule stands on a line of its own; a cell has no line for one.
-pub fn rule_block(text: &mut [u8], len: usize, item: Item, first: bool, due: bool) -> Going
-    requires { len ≤ length text.old }
-    ensures { Goes (length text.old) text.new result (def.rule_block (item_of item) (progress_at first due (take len text.old))) }
+pub fn rule_block(text: &mut [u8], item: Item, before: Going) -> Result<Going, Full>
+    requires { before.len ≤ length text.old }
+    ensures { Goes (length text.old) text.new result (def.rule_block (item_of item) (progress_of before text.old)) }
 {
     if item.ctx.opts.table_cell {
-        return Going::On(len, first, due | (item.start < len));
+        return Ok(Going {
+            len: before.len,
+            first: before.first,
+            due: before.due | (item.start < before.len),
+        });
     }
-    going_on(push_rule(text, len, item), false, due)
+    let n = push_rule(text, before.len, item)?;
+    Ok(Going {
+        len: n,
+        first: false,
+        due: before.due,
+    })
 }

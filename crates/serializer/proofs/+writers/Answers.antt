@@ -10,11 +10,11 @@ use Rattle.lists_links.proofs.Values.{value_as}
 use Rattle.lists_links.specs.Items.{item_of, ended_item}
 use Rattle.nodes.proofs.Interrupts.{element_kids, element_name}
 use Rattle.nodes.specs.Stands.{Placeds, ElementAt, NodeAt, Placed, PlacedNode}
-use Rattle.serializer.proofs.Answers.{both-full, nest-done, nest-full, nest-fits, written-reaches, forest-reaches, below-wrote, both-done, forest-long}
+use Rattle.serializer.proofs.Answers.{stops_element, stops_forest, stops_row, stops_rows, both-full, nest-done, nest-full, nest-fits, written-reaches, forest-reaches, below-wrote, both-done, forest-long}
 use Rattle.serializer.proofs.Dispatch.{by_list, by_link, by_img, by_pre, by_table, by_code, by_emphasis}
 use Rattle.serializer.proofs.Falls.{falls_in, falls_out}
 use Rattle.serializer.proofs.Gathered.{behind_count, behind_bytes}
-use Rattle.serializer.proofs.Goings.{went, went_full, going_first, going_on, going_stop, going_last}
+use Rattle.serializer.proofs.Goings.{stops_forest as stops_going, err_is, went, went_full, going_first, going_on, going_stop, going_last}
 use Rattle.serializer.proofs.ItemBlocks.{block_rule, block_led, fits_alike, element_reaches, body_pre, flow_none, flow_full, flow_done, node_range, indented_fits, indented_done, indented_full, child_offset, inline_none, inline_done, led_none, led_full, led_done}
 use Rattle.serializer.proofs.ItemChild.{block_tag_lem, alone_none, alone_inline, alone_block, child_comment, child_skipped, child_wrapper, child_alone, wrapper_kids, kids_fall, alone_falls, child_falls, goes_before}
 use Rattle.serializer.proofs.Levels.{write_some, write_none, nodes_first, nodes_none}
@@ -29,7 +29,7 @@ use Rattle.serializer.proofs.TableWriting.{table_at, table_full, table_done, tab
 use Rattle.serializer.proofs.Turns.{turn_first, turn_on, turn_stop, turn_last}
 use Rattle.serializer.specs.ListStep.{list_head}
 use Rattle.serializer.specs.Options.{unpacked}
-use Rattle.serializer.specs.Writers.{self_at, progress_at, Fits, GoesForest, FitsIn, WritesForest}
+use Rattle.serializer.specs.Writers.{self_at, progress_at, progress_of, Fits, GoesForest, FitsIn, WritesForest}
 use Rattle.spec.specs.Bytes.{Bytes, ascii, among}
 use Rattle.spec.specs.Call.{tags_to_skip}
 use Rattle.spec.specs.Md.Ctx.{fresh, table_cell, break_of, list_item, include_node, advance_ol_number, skip_escape, link_body, scope_of, inline, emphasis_scope}
@@ -53,7 +53,7 @@ use Rattle.tables.specs.Spans.{table_lengths}
 use Rattle.tables.specs.TableSteps.{rows_texts, RowsWrites}
 use Rattle.text.proofs.Spaces.{cut_done}
 use Rattle.text.proofs.Temporary.{lent, back, back_length, temp_fits}
-use Rattle.text.proofs.Writing.{done, reaches, Owes, owes_all, owes_step, owes_on, owes_over, owes_last, alike, owes_stop, then_assoc, full, keeps}
+use Rattle.text.proofs.Writing.{done, reaches, Owes, owes_all, owes_step, owes_on, owes_over, owes_last, alike, owes_stop, then_assoc, full, keeps, stops}
 use Rattle.text.specs.Writes.{Writes}
 use Rattle.tree.proofs.Firsts.{rep_le}
 use Rattle.tree.proofs.Frames.{kept_none, kept_in, kept_then, end_kept, place_kept, rep_kept}
@@ -62,7 +62,6 @@ use Rattle.tree.specs.Memory.{place_at, parent_at, Kept, end_at}
 use Rattle.tree.specs.Nodes.{name_at, body_at}
 use Rattle.tree.specs.Represents.{attrs_behind, Around, Rep, head_of, rest_of}
 use borrow.Author.Tests.{eqb-true}
-use borrow.Rule.Slice.PartMut.{same_len_mid}
 use lib.Dec.{lit<, eqb}
 use lib.ListN.{take, length, drop, get_or}
 use lib.Seq.{length-take-le}
@@ -86,7 +85,7 @@ alone-block-requires t c = (
   (
     node_placed c.requires.0 (block_tag_lem c.args.sheet.now (place_at c.args.nodes.now c.args.c) c.node_name-name.ensures c.node_is_list_item_block.ensures c.if-node_is_list_item_block.true),
     c.node_name-name.ensures,
-    (reaches (done c.in-Done.is c.due_line.ensures), c.requires.1.1),
+    (reaches (done c.in_ok-n.was c.due_line.ensures), c.requires.1.1),
     c.requires.2,
   ),
 )
@@ -94,28 +93,35 @@ alone-block-requires t c = (
 pub alone-inline-requires : goal.alone-inline-requires
 alone-inline-requires t c = (
   falls_in c.args.levels c.decreases (lit< tt),
-  (c.requires.0, c.node_name-name.ensures, (reaches (done c.in-Done.is c.due_line.ensures), c.requires.1.1), c.requires.2),
+  (c.requires.0, c.node_name-name.ensures, (reaches (done c.in_ok-n.was c.due_line.ensures), c.requires.1.1), c.requires.2),
 )
 
 pub alone-returns-then-node_is_list_item_block : goal.alone-returns-then-node_is_list_item_block
 alone-returns-then-node_is_list_item_block t c =
     record {
       kept = c.block.ensures.kept;
-      goes_forest = alone_block c.args.sheet.now c.args.nodes.now c.args.c c.node_name-name.ensures c.requires.0.later (self_at c.args.own c.args.run.now c.args.levels) (item_of c.args.item) c.args.first c.args.due c.args.blank c.args.text.now c.args.len c.due_line.ensures c.in-Done.is c.node_is_list_item_block.ensures c.if-node_is_list_item_block.true c.requires.0.alone.positive c.block.ensures.goes_element;
+      goes_forest = alone_block c.args.sheet.now c.args.nodes.now c.args.c c.node_name-name.ensures c.requires.0.later (self_at c.args.own c.args.run.now c.args.levels) (item_of c.args.item) c.args.before.first c.args.before.due c.args.blank c.args.text.now c.args.before.len c.due_line.ensures c.in_ok-n.was c.node_is_list_item_block.ensures c.if-node_is_list_item_block.true c.requires.0.alone.positive c.block.ensures.goes_element;
     }
 
-pub alone-returns-else-node_is_list_item_block : goal.alone-returns-else-node_is_list_item_block
-alone-returns-else-node_is_list_item_block t c =
+pub alone-returns : goal.alone-returns
+alone-returns t c =
     record {
       kept = c.inline.ensures.kept;
-      goes_forest = alone_inline c.args.sheet.now c.args.nodes.now c.args.c c.node_name-name.ensures c.requires.0.later (self_at c.args.own c.args.run.now c.args.levels) (item_of c.args.item) c.args.first c.args.due c.args.blank c.args.text.now c.args.len c.due_line.ensures c.in-Done.is c.node_is_list_item_block.ensures c.if-node_is_list_item_block.false c.going_on.ensures c.inline.ensures.writes_forest;
+      goes_forest = alone_inline c.args.sheet.now c.args.nodes.now c.args.c c.node_name-name.ensures c.requires.0.later (self_at c.args.own c.args.run.now c.args.levels) (item_of c.args.item) c.args.before.first c.args.before.due c.args.blank c.args.text.now c.args.before.len c.due_line.ensures c.in_ok-n.was c.node_is_list_item_block.ensures c.if-node_is_list_item_block.false refl c.in_ok-m.ensures.writes_forest;
     }
 
-pub alone-returns-in-Full : goal.alone-returns-in-Full
-alone-returns-in-Full t c =
+pub alone-returns-in_err-m : goal.alone-returns-in_err-m
+alone-returns-in_err-m t c =
+    record {
+      kept = c.inline.ensures.kept;
+      goes_forest = alone_inline c.args.sheet.now c.args.nodes.now c.args.c c.node_name-name.ensures c.requires.0.later (self_at c.args.own c.args.run.now c.args.levels) (item_of c.args.item) c.args.before.first c.args.before.due c.args.blank c.args.text.now c.args.before.len c.due_line.ensures c.in_ok-n.was c.node_is_list_item_block.ensures c.if-node_is_list_item_block.false (err_is c.from_residual-in_err-m.ensures.0) c.in_err-m.ensures.writes_forest;
+    }
+
+pub alone-returns-in_err-n : goal.alone-returns-in_err-n
+alone-returns-in_err-n t c =
     record {
       kept = kept_none c.args.nodes.now;
-      goes_forest = alone_none c.args.sheet.now c.args.nodes.now c.args.c c.node_name-name.ensures c.requires.0.later (self_at c.args.own c.args.run.now c.args.levels) (item_of c.args.item) c.args.first c.args.due c.args.blank c.args.text.now c.args.len c.due_line.ensures c.in-Full.is;
+      goes_forest = stops_going c.from_residual.ensures.0 (alone_none c.args.sheet.now c.args.nodes.now c.args.c c.node_name-name.ensures c.requires.0.later (self_at c.args.own c.args.run.now c.args.levels) (item_of c.args.item) c.args.before.first c.args.before.due c.args.blank c.args.text.now c.args.before.len c.due_line.ensures c.in_err-n.was);
     }
 
 pub block-led-requires : goal.block-led-requires
@@ -126,41 +132,48 @@ pub block-returns-then-name-eq15 : goal.block-returns-then-name-eq15
 block-returns-then-name-eq15 t c =
     record {
       kept = kept_none c.args.nodes.now;
-      goes_element = block_rule c.args.sheet.now c.args.nodes.now c.args.c c.requires.1 (self_at c.args.own c.args.run.now c.args.levels) (item_of c.args.item) c.args.first c.args.due (take c.args.len c.args.text.now) c.if-name-eq15.true c.rule_block.ensures;
+      goes_element = block_rule c.args.sheet.now c.args.nodes.now c.args.c c.requires.1 (self_at c.args.own c.args.run.now c.args.levels) (item_of c.args.item) c.args.before.first c.args.before.due (take c.args.before.len c.args.text.now) c.if-name-eq15.true c.rule_block.ensures;
     }
 
 pub block-returns : goal.block-returns
 block-returns t c =
     record {
       kept = c.led.ensures.kept;
-      goes_element = block_led c.args.sheet.now c.args.nodes.now c.args.c c.requires.1 (self_at c.args.own c.args.run.now c.args.levels) (item_of c.args.item) c.args.first c.args.due (take c.args.len c.args.text.now) c.if-name-eq15.false c.going_on.ensures c.led.ensures.writes_element;
+      goes_element = block_led c.args.sheet.now c.args.nodes.now c.args.c c.requires.1 (self_at c.args.own c.args.run.now c.args.levels) (item_of c.args.item) c.args.before.first c.args.before.due (take c.args.before.len c.args.text.now) c.if-name-eq15.false refl c.in_ok-n.ensures.writes_element;
     }
 
-pub blocks-returns-in-Full : goal.blocks-returns-in-Full
-blocks-returns-in-Full t c =
+pub block-returns-in_err-n : goal.block-returns-in_err-n
+block-returns-in_err-n t c =
+    record {
+      kept = c.led.ensures.kept;
+      goes_element = block_led c.args.sheet.now c.args.nodes.now c.args.c c.requires.1 (self_at c.args.own c.args.run.now c.args.levels) (item_of c.args.item) c.args.before.first c.args.before.due (take c.args.before.len c.args.text.now) c.if-name-eq15.false (err_is c.from_residual.ensures.0) c.in_err-n.ensures.writes_element;
+    }
+
+pub blocks-returns-in_err-n : goal.blocks-returns-in_err-n
+blocks-returns-in_err-n t c =
     let self = self_at c.args.own c.args.run.now c.args.levels in
-    let item = item_from c.args.ctx (begin_item true c.args.ctx (take c.args.len c.args.text.now)) in record {
+    let item = item_from c.args.ctx.now (begin_item true c.args.ctx.now (take c.args.len c.args.text.now)) in record {
       kept = kept_none c.args.nodes.now;
-      writes_element = record {
+      writes_element = stops_element c.from_residual.ensures.0 (record {
         for = λ name attrs kids anc x a.
-            both-full c.args.text.now c.args.len c.requires.1.0 (write_list_item_blocks self anc attrs kids c.args.ctx) (begin_item true c.args.ctx)
+            both-full c.args.text.now c.args.len c.requires.1.0 (write_list_item_blocks self anc attrs kids c.args.ctx.now) (begin_item true c.args.ctx.now)
             (λ u. and_then (item_children self (attrs ∷ anc) kids item (progress_at true false u)).out (ended_item item))
-            (blocks_parts self anc attrs kids c.args.ctx item (take c.args.len c.args.text.now) refl) c.start_item_blocks-begun.ensures.0 c.in-Full.is;
-      };
-      ctx_value = c.start_item_blocks-begun.ensures.1;
+            (blocks_parts self anc attrs kids c.args.ctx.now item (take c.args.len c.args.text.now) refl) c.write_list_item_blocks.ensures.0 c.in_err-n.was;
+      });
+      ctx_value = c.write_list_item_blocks.ensures.1;
     }
 
 pub blocks-node_end-to-requires : goal.blocks-node_end-to-requires
 blocks-node_end-to-requires t c =
     (placed_node c.args.sheet.now c.args.nodes.now c.args.c c.requires.0).inside
 
-pub blocks-start_item_blocks-begun-requires : goal.blocks-start_item_blocks-begun-requires
-blocks-start_item_blocks-begun-requires t c =
-    (c.requires.1.0, fits_in c.args.levels c.args.ctx c.requires.2)
+pub blocks-write_list_item_blocks-requires : goal.blocks-write_list_item_blocks-requires
+blocks-write_list_item_blocks-requires t c =
+    (c.requires.1.0, fits_in c.args.levels c.args.ctx.now c.requires.2)
 
 pub blocks-item_from-item-requires : goal.blocks-item_from-item-requires
 blocks-item_from-item-requires t c =
-    (fits_in c.args.levels c.args.ctx c.requires.2, c.start_item_blocks-begun.ensures.1)
+    (fits_in c.args.levels c.args.ctx.now c.requires.2, c.write_list_item_blocks.ensures.1)
 
 pub blocks-overflow_add-c : goal.blocks-overflow_add-c
 blocks-overflow_add-c t c =
@@ -169,49 +182,49 @@ blocks-overflow_add-c t c =
 pub blocks-children-requires : goal.blocks-children-requires
 blocks-children-requires t c =
     let kids_at_here : Placeds c.args.sheet.now c.args.nodes.now (c.args.c + 1) c.node_end-to.result = placed_kids c.args.sheet.now c.args.nodes.now c.args.c c.requires.0 c.node_end-to.ensures in
-    let item_is_here : item_of c.item_from-item.result ≡ item_from c.args.ctx (begin_item true c.args.ctx (take c.args.len c.args.text.now)) = c.item_from-item.ensures (begin_item true c.args.ctx (take c.args.len c.args.text.now)) (done c.in-Done.is c.start_item_blocks-begun.ensures.0).count in (
+    let item_is_here : item_of c.item_from-item.result ≡ item_from c.args.ctx.now (begin_item true c.args.ctx.now (take c.args.len c.args.text.now)) = c.item_from-item.ensures (begin_item true c.args.ctx.now (take c.args.len c.args.text.now)) (done c.in_ok-n.was c.write_list_item_blocks.ensures.0).count in (
       falls_children c.args.levels (c.args.c + 1) c.decreases c.node_end-to.type_inv,
       (
         kids_at_here,
-        (reaches (done c.in-Done.is c.start_item_blocks-begun.ensures.0), c.requires.1.1),
-        fits_blocks c.args.levels c.args.ctx c.item_from-item.result (begin_item true c.args.ctx (take c.args.len c.args.text.now)) (item_is_here) c.requires.2,
+        (reaches (done c.in_ok-n.was c.write_list_item_blocks.ensures.0), c.requires.1.1),
+        fits_blocks c.args.levels c.args.ctx.now c.item_from-item.result (begin_item true c.args.ctx.now (take c.args.len c.args.text.now)) (item_is_here) c.requires.2,
       ),
     )
 
-pub blocks-end_item-w-requires : goal.blocks-end_item-w-requires
-blocks-end_item-w-requires t c =
+pub blocks-end_item-requires : goal.blocks-end_item-requires
+blocks-end_item-requires t c =
     let kids_at_here : Placeds c.args.sheet.now c.args.nodes.now (c.args.c + 1) c.node_end-to.result = placed_kids c.args.sheet.now c.args.nodes.now c.args.c c.requires.0 c.node_end-to.ensures in
     let k = kids_at_here in
-    reaches (went c.in-On.is (c.children.ensures.goes_forest.for k.parent k.forest k.anc k.rep k.around)).0
+    reaches (went c.in_ok-end.was (c.children.ensures.goes_forest.for k.parent k.forest k.anc k.rep k.around)).0
 
-pub blocks-returns-in-On : goal.blocks-returns-in-On
-blocks-returns-in-On t c =
-    let item_is_here : item_of c.item_from-item.result ≡ item_from c.args.ctx (begin_item true c.args.ctx (take c.args.len c.args.text.now)) = c.item_from-item.ensures (begin_item true c.args.ctx (take c.args.len c.args.text.now)) (done c.in-Done.is c.start_item_blocks-begun.ensures.0).count in
-    let begun_here : (anc : Ancestors) (attrs : List Attr) (kids : Forest) → let self = self_at c.args.own c.args.run.now c.args.levels in let item = item_of c.item_from-item.result in Owes (length c.args.text.now) c.start_item_blocks-begun.new.text c.in-Done.n (λ u. and_then (item_children self (attrs ∷ anc) kids item (progress_at true false u)).out (ended_item item)) (write_list_item_blocks self anc attrs kids c.args.ctx (take c.args.len c.args.text.now)) = λ anc attrs kids. let self = self_at c.args.own c.args.run.now c.args.levels in let item = item_of c.item_from-item.result in owes_step (owes_all c.args.text.now c.args.len (write_list_item_blocks self anc attrs kids c.args.ctx) c.requires.1.0 refl) (begin_item true c.args.ctx) (λ u. and_then (item_children self (attrs ∷ anc) kids item (progress_at true false u)).out (ended_item item)) (blocks_parts self anc attrs kids c.args.ctx item (take c.args.len c.args.text.now) (item_is_here)) c.in-Done.is c.start_item_blocks-begun.ensures.0 in
+pub blocks-returns : goal.blocks-returns
+blocks-returns t c =
+    let item_is_here : item_of c.item_from-item.result ≡ item_from c.args.ctx.now (begin_item true c.args.ctx.now (take c.args.len c.args.text.now)) = c.item_from-item.ensures (begin_item true c.args.ctx.now (take c.args.len c.args.text.now)) (done c.in_ok-n.was c.write_list_item_blocks.ensures.0).count in
+    let begun_here : (anc : Ancestors) (attrs : List Attr) (kids : Forest) → let self = self_at c.args.own c.args.run.now c.args.levels in let item = item_of c.item_from-item.result in Owes (length c.args.text.now) c.write_list_item_blocks.new.text c.in_ok-n.n (λ u. and_then (item_children self (attrs ∷ anc) kids item (progress_at true false u)).out (ended_item item)) (write_list_item_blocks self anc attrs kids c.args.ctx.now (take c.args.len c.args.text.now)) = λ anc attrs kids. let self = self_at c.args.own c.args.run.now c.args.levels in let item = item_of c.item_from-item.result in owes_step (owes_all c.args.text.now c.args.len (write_list_item_blocks self anc attrs kids c.args.ctx.now) c.requires.1.0 refl) (begin_item true c.args.ctx.now) (λ u. and_then (item_children self (attrs ∷ anc) kids item (progress_at true false u)).out (ended_item item)) (blocks_parts self anc attrs kids c.args.ctx.now item (take c.args.len c.args.text.now) (item_is_here)) c.in_ok-n.was c.write_list_item_blocks.ensures.0 in
     let self = self_at c.args.own c.args.run.now c.args.levels in
     let item = item_of c.item_from-item.result in record {
       kept = kept_in (omega arith) (omega (arith, c.node_end-to.ensures)) c.children.ensures.kept;
       writes_element = record {
         for = λ name attrs kids anc x a.
             owes_last (owes_on (begun_here anc attrs kids) (λ u. (item_children self (attrs ∷ anc) kids item (progress_at true false u)).out) (ended_item item) refl
-            (went c.in-On.is (c.children.ensures.goes_forest.for c.args.c kids (attrs ∷ anc) (element_kids x c.node_end-to.ensures) (around_it anc x a))).0) c.end_item-w.ensures;
+            (went c.in_ok-end.was (c.children.ensures.goes_forest.for c.args.c kids (attrs ∷ anc) (element_kids x c.node_end-to.ensures) (around_it anc x a))).0) c.end_item.ensures;
       };
-      ctx_value = c.start_item_blocks-begun.ensures.1;
+      ctx_value = c.write_list_item_blocks.ensures.1;
     }
 
-pub blocks-returns-in-Full-children : goal.blocks-returns-in-Full-children
-blocks-returns-in-Full-children t c =
-    let item_is_here : item_of c.item_from-item.result ≡ item_from c.args.ctx (begin_item true c.args.ctx (take c.args.len c.args.text.now)) = c.item_from-item.ensures (begin_item true c.args.ctx (take c.args.len c.args.text.now)) (done c.in-Done.is c.start_item_blocks-begun.ensures.0).count in
-    let begun_here : (anc : Ancestors) (attrs : List Attr) (kids : Forest) → let self = self_at c.args.own c.args.run.now c.args.levels in let item = item_of c.item_from-item.result in Owes (length c.args.text.now) c.start_item_blocks-begun.new.text c.in-Done.n (λ u. and_then (item_children self (attrs ∷ anc) kids item (progress_at true false u)).out (ended_item item)) (write_list_item_blocks self anc attrs kids c.args.ctx (take c.args.len c.args.text.now)) = λ anc attrs kids. let self = self_at c.args.own c.args.run.now c.args.levels in let item = item_of c.item_from-item.result in owes_step (owes_all c.args.text.now c.args.len (write_list_item_blocks self anc attrs kids c.args.ctx) c.requires.1.0 refl) (begin_item true c.args.ctx) (λ u. and_then (item_children self (attrs ∷ anc) kids item (progress_at true false u)).out (ended_item item)) (blocks_parts self anc attrs kids c.args.ctx item (take c.args.len c.args.text.now) (item_is_here)) c.in-Done.is c.start_item_blocks-begun.ensures.0 in
+pub blocks-returns-in_err-end : goal.blocks-returns-in_err-end
+blocks-returns-in_err-end t c =
+    let item_is_here : item_of c.item_from-item.result ≡ item_from c.args.ctx.now (begin_item true c.args.ctx.now (take c.args.len c.args.text.now)) = c.item_from-item.ensures (begin_item true c.args.ctx.now (take c.args.len c.args.text.now)) (done c.in_ok-n.was c.write_list_item_blocks.ensures.0).count in
+    let begun_here : (anc : Ancestors) (attrs : List Attr) (kids : Forest) → let self = self_at c.args.own c.args.run.now c.args.levels in let item = item_of c.item_from-item.result in Owes (length c.args.text.now) c.write_list_item_blocks.new.text c.in_ok-n.n (λ u. and_then (item_children self (attrs ∷ anc) kids item (progress_at true false u)).out (ended_item item)) (write_list_item_blocks self anc attrs kids c.args.ctx.now (take c.args.len c.args.text.now)) = λ anc attrs kids. let self = self_at c.args.own c.args.run.now c.args.levels in let item = item_of c.item_from-item.result in owes_step (owes_all c.args.text.now c.args.len (write_list_item_blocks self anc attrs kids c.args.ctx.now) c.requires.1.0 refl) (begin_item true c.args.ctx.now) (λ u. and_then (item_children self (attrs ∷ anc) kids item (progress_at true false u)).out (ended_item item)) (blocks_parts self anc attrs kids c.args.ctx.now item (take c.args.len c.args.text.now) (item_is_here)) c.in_ok-n.was c.write_list_item_blocks.ensures.0 in
     let self = self_at c.args.own c.args.run.now c.args.levels in
     let item = item_of c.item_from-item.result in record {
       kept = kept_in (omega arith) (omega (arith, c.node_end-to.ensures)) c.children.ensures.kept;
-      writes_element = record {
+      writes_element = stops_element c.from_residual-in_err-end.ensures.0 (record {
         for = λ name attrs kids anc x a.
             owes_over (begun_here anc attrs kids) (λ u. (item_children self (attrs ∷ anc) kids item (progress_at true false u)).out) (ended_item item) refl
-            (went_full c.in-Full-children.is (c.children.ensures.goes_forest.for c.args.c kids (attrs ∷ anc) (element_kids x c.node_end-to.ensures) (around_it anc x a)));
-      };
-      ctx_value = c.start_item_blocks-begun.ensures.1;
+            (went_full c.in_err-end.was (c.children.ensures.goes_forest.for c.args.c kids (attrs ∷ anc) (element_kids x c.node_end-to.ensures) (around_it anc x a)));
+      });
+      ctx_value = c.write_list_item_blocks.ensures.1;
     }
 
 pub body-node_place-place-requires : goal.body-node_place-place-requires
@@ -229,36 +242,36 @@ body-kids-requires t c =
 pub body-push_link-requires : goal.body-push_link-requires
 body-push_link-requires t c =
     let p = c.requires.0 in (
-      nest-fits c.args.text.now c.args.len c.requires.1.0 (c.kids.ensures.writes_element.for p.0.0 p.0.1 p.0.2 p.1.0 p.0.3 p.1.1) c.in-Done.is,
+      nest-fits c.args.text.now c.args.len c.requires.1.0 (c.kids.ensures.writes_element.for p.0.0 p.0.1 p.0.2 p.1.0 p.0.3 p.1.1) c.in_ok-n.was,
       omega (arith, c.node_place-place.ensures, (placed_node c.args.sheet.now c.args.nodes.now c.args.at p).placed),
       c.requires.3,
       c.requires.4,
       c.requires.1.1,
     )
 
-pub body-returns-in-Done : goal.body-returns-in-Done
-body-returns-in-Done t c =
+pub body-returns : goal.body-returns
+body-returns t c =
     let a = c.args in
     let href = take (a.to - a.from) (drop a.from a.sheet.now) in record {
       kept = c.kids.ensures.kept;
       writes_element = record {
         for = λ name attrs kids anc x h. let link = write_kids (self_at a.own a.run.now a.levels) anc a.opts (element name attrs kids nothing) [] in
             alike (ap (λ (f : Step). f (take a.len a.text.now)) (link_is attrs href link push))
-            (nest-done a.text.now a.len c.requires.1.0 (subst (λ (o : FormatOpts). Writes (length (lent a.text.now a.len)) c.kids.new.text c.kids.result (write_kids (self_at a.own a.run.now a.levels) anc o (element name attrs kids nothing) [])) c.packed-bits.ensures (c.kids.ensures.writes_element.for name attrs kids anc x h)) (λ z. link_step attrs href z push) c.in-Done.is
-            (subst (λ (l : List Attr). Writes (length (back a.text.now a.len c.kids.new.text)) c.push_link.new.text c.push_link.result (link_step l href (take c.in-Done.n (drop a.len (back a.text.now a.len c.kids.new.text))) push (take a.len (back a.text.now a.len c.kids.new.text)))) (ap (attrs_behind a.sheet.now) c.node_place-place.ensures ∙ sym x.attrs_are) c.push_link.ensures));
+            (nest-done a.text.now a.len c.requires.1.0 (subst (λ (o : FormatOpts). Writes (length (lent a.text.now a.len)) c.kids.new.text c.kids.result (write_kids (self_at a.own a.run.now a.levels) anc o (element name attrs kids nothing) [])) c.packed-bits.ensures (c.kids.ensures.writes_element.for name attrs kids anc x h)) (λ z. link_step attrs href z push) c.in_ok-n.was
+            (subst (λ (l : List Attr). Writes (length (back a.text.now a.len c.kids.new.text)) c.push_link.new.text c.push_link.result (link_step l href (take c.in_ok-n.n (drop a.len (back a.text.now a.len c.kids.new.text))) push (take a.len (back a.text.now a.len c.kids.new.text)))) (ap (attrs_behind a.sheet.now) c.node_place-place.ensures ∙ sym x.attrs_are) c.push_link.ensures));
       };
     }
 
-pub body-returns-in-Full : goal.body-returns-in-Full
-body-returns-in-Full t c =
+pub body-returns-in_err-n : goal.body-returns-in_err-n
+body-returns-in_err-n t c =
     let a = c.args in
     let href = take (a.to - a.from) (drop a.from a.sheet.now) in record {
       kept = c.kids.ensures.kept;
-      writes_element = record {
+      writes_element = stops_element c.from_residual.ensures.0 (record {
         for = λ name attrs kids anc x h. let link = write_kids (self_at a.own a.run.now a.levels) anc a.opts (element name attrs kids nothing) [] in
             alike (ap (λ (f : Step). f (take a.len a.text.now)) (link_is attrs href link push))
-            (nest-full a.text.now a.len c.requires.1.0 (subst (λ (o : FormatOpts). Writes (length (lent a.text.now a.len)) c.kids.new.text c.kids.result (write_kids (self_at a.own a.run.now a.levels) anc o (element name attrs kids nothing) [])) c.packed-bits.ensures (c.kids.ensures.writes_element.for name attrs kids anc x h)) (link_step attrs href link.text push) c.in-Full.is);
-      };
+            (nest-full a.text.now a.len c.requires.1.0 (subst (λ (o : FormatOpts). Writes (length (lent a.text.now a.len)) c.kids.new.text c.kids.result (write_kids (self_at a.own a.run.now a.levels) anc o (element name attrs kids nothing) [])) c.packed-bits.ensures (c.kids.ensures.writes_element.for name attrs kids anc x h)) (link_step attrs href link.text push) c.in_err-n.was);
+      });
     }
 
 pub cell-packed-bits-requires : goal.cell-packed-bits-requires
@@ -271,38 +284,38 @@ cell-kids-requires t c =
 
 pub cell-slice_bounds-trim_trailing_cell_break-end : goal.cell-slice_bounds-trim_trailing_cell_break-end
 cell-slice_bounds-trim_trailing_cell_break-end t c =
-    written-reaches c.kids.ensures.writes_element c.requires.0 c.in-Done.is
+    written-reaches c.kids.ensures.writes_element c.requires.0 c.in_ok-n.was
 
-pub cell-slice_bounds-trim_trailing_cell_break-end-in-Done : goal.cell-slice_bounds-trim_trailing_cell_break-end-in-Done
-cell-slice_bounds-trim_trailing_cell_break-end-in-Done t c =
-    sym (length-take-le c.in-Done.n c.kids.new.text (written-reaches c.kids.ensures.writes_element c.requires.0 c.in-Done.is))
+pub cell-slice_bounds-trim_trailing_cell_break-end-2 : goal.cell-slice_bounds-trim_trailing_cell_break-end-2
+cell-slice_bounds-trim_trailing_cell_break-end-2 t c =
+    sym (length-take-le c.in_ok-n.n c.kids.new.text (written-reaches c.kids.ensures.writes_element c.requires.0 c.in_ok-n.was))
 
 pub cell-escape_table_cell_inplace-requires : goal.cell-escape_table_cell_inplace-requires
 cell-escape_table_cell_inplace-requires t c =
-    let r = written-reaches c.kids.ensures.writes_element c.requires.0 c.in-Done.is in
-    omega (arith, r, c.trim_trailing_cell_break-k.ensures.within, length-take-le c.in-Done.n c.kids.new.text r)
+    let r = written-reaches c.kids.ensures.writes_element c.requires.0 c.in_ok-n.was in
+    omega (arith, r, c.trim_trailing_cell_break-k.ensures.within, length-take-le c.in_ok-n.n c.kids.new.text r)
 
-pub cell-returns-in-Done : goal.cell-returns-in-Done
+pub cell-returns : goal.cell-returns
 unfolding cell_text trim_trailing_cell_break
-cell-returns-in-Done t c =
+cell-returns t c =
     let wrote_here : (name : Bytes) (attrs : List Attr) (kids : Forest) (anc : Ancestors) → ElementAt c.args.sheet.now c.args.nodes.now c.args.c name attrs kids → Around c.args.sheet.now c.args.nodes.now (parent_at c.args.nodes.now c.args.c) anc → Writes (length c.args.text.now) c.kids.new.text c.kids.result (write_kids (self_at c.args.own c.args.run.now c.args.levels) anc (table_cell (fresh c.args.opts)) (element name attrs kids nothing) (take 0 c.args.text.now)) = λ name attrs kids anc x h. let a = c.args in subst (λ (o : FormatOpts). Writes (length a.text.now) c.kids.new.text c.kids.result (write_kids (self_at a.own a.run.now a.levels) anc o (element name attrs kids nothing) (take 0 a.text.now))) (c.packed-bits.ensures ∙ c.table_cell-inner.ensures ∙ ap table_cell c.fresh.ensures) (c.kids.ensures.writes_element.for name attrs kids anc x h) in
     let a = c.args in record {
       kept = c.kids.ensures.kept;
       writes = λ name attrs kids anc th x h.
           let f = write_kids (self_at a.own a.run.now a.levels) anc (table_cell (fresh a.opts)) (element name attrs kids nothing) in
-          let p = owes_step (owes_all a.text.now 0 (λ u. and_then (and_then (f u) trim_trailing_cell_break) escape_table_cell_inplace) (omega arith) refl) f (λ u. and_then (trim_trailing_cell_break u) escape_table_cell_inplace) (then_assoc (f (take 0 a.text.now)) trim_trailing_cell_break escape_table_cell_inplace) c.in-Done.is (wrote_here _ _ _ anc x h) in
-          owes_last (owes_on p trim_trailing_cell_break escape_table_cell_inplace refl (cut_done (λ z. without_breaks (length z) z) c.kids.new.text c.in-Done.n c.trim_trailing_cell_break-k.result p.reach c.trim_trailing_cell_break-k.ensures)) c.escape_table_cell_inplace.ensures;
+          let p = owes_step (owes_all a.text.now 0 (λ u. and_then (and_then (f u) trim_trailing_cell_break) escape_table_cell_inplace) (omega arith) refl) f (λ u. and_then (trim_trailing_cell_break u) escape_table_cell_inplace) (then_assoc (f (take 0 a.text.now)) trim_trailing_cell_break escape_table_cell_inplace) c.in_ok-n.was (wrote_here _ _ _ anc x h) in
+          owes_last (owes_on p trim_trailing_cell_break escape_table_cell_inplace refl (cut_done (λ z. without_breaks (length z) z) c.kids.new.text c.in_ok-n.n c.trim_trailing_cell_break-k.result p.reach c.trim_trailing_cell_break-k.ensures)) c.escape_table_cell_inplace.ensures;
     }
 
-pub cell-returns-in-Full : goal.cell-returns-in-Full
+pub cell-returns-in_err-n : goal.cell-returns-in_err-n
 unfolding cell_text
-cell-returns-in-Full t c =
+cell-returns-in_err-n t c =
     let wrote_here : (name : Bytes) (attrs : List Attr) (kids : Forest) (anc : Ancestors) → ElementAt c.args.sheet.now c.args.nodes.now c.args.c name attrs kids → Around c.args.sheet.now c.args.nodes.now (parent_at c.args.nodes.now c.args.c) anc → Writes (length c.args.text.now) c.kids.new.text c.kids.result (write_kids (self_at c.args.own c.args.run.now c.args.levels) anc (table_cell (fresh c.args.opts)) (element name attrs kids nothing) (take 0 c.args.text.now)) = λ name attrs kids anc x h. let a = c.args in subst (λ (o : FormatOpts). Writes (length a.text.now) c.kids.new.text c.kids.result (write_kids (self_at a.own a.run.now a.levels) anc o (element name attrs kids nothing) (take 0 a.text.now))) (c.packed-bits.ensures ∙ c.table_cell-inner.ensures ∙ ap table_cell c.fresh.ensures) (c.kids.ensures.writes_element.for name attrs kids anc x h) in
     let a = c.args in record {
       kept = c.kids.ensures.kept;
       writes = λ name attrs kids anc th x h.
           let f = write_kids (self_at a.own a.run.now a.levels) anc (table_cell (fresh a.opts)) (element name attrs kids nothing) in
-          owes_stop (owes_all a.text.now 0 (λ u. and_then (and_then (f u) trim_trailing_cell_break) escape_table_cell_inplace) (omega arith) refl) f (λ u. and_then (trim_trailing_cell_break u) escape_table_cell_inplace) (then_assoc (f (take 0 a.text.now)) trim_trailing_cell_break escape_table_cell_inplace) c.in-Full.is (wrote_here _ _ _ anc x h);
+          stops c.from_residual.ensures.0 (owes_stop (owes_all a.text.now 0 (λ u. and_then (and_then (f u) trim_trailing_cell_break) escape_table_cell_inplace) (omega arith) refl) f (λ u. and_then (trim_trailing_cell_break u) escape_table_cell_inplace) (then_assoc (f (take 0 a.text.now)) trim_trailing_cell_break escape_table_cell_inplace) c.in_err-n.was (wrote_here _ _ _ anc x h));
     }
 
 pub cells-next_row-r-requires : goal.cells-next_row-r-requires
@@ -318,20 +331,12 @@ pub cells-row-requires : goal.cells-row-requires
 cells-row-requires t c =
     (falls_in c.args.levels c.decreases (lit< tt), (rows_row c.loop-r.invariant c.loop-r-test.true, (rows_reach c.loop-r.invariant, c.requires.2.1), c.requires.3))
 
-pub cells-shape_of-nodes-in-Full : goal.cells-shape_of-nodes-in-Full
-cells-shape_of-nodes-in-Full t c =
-    c.row.ensures.kept.long ∙ c.loop-r.invariant.kept.long
-
-pub cells-shape_of-text-in-Full : goal.cells-shape_of-text-in-Full
-cells-shape_of-text-in-Full t c =
-    c.row.auto.text ∙ rows_long c.loop-r.invariant
-
-pub cells-returns-in-Full : goal.cells-returns-in-Full
-cells-returns-in-Full t c =
+pub cells-returns-in_err-end : goal.cells-returns-in_err-end
+cells-returns-in_err-end t c =
     let p = c.loop-r.invariant in
     record {
       kept = rows_keep p c.loop-r-test.true c.row.ensures.kept;
-      rows_writes = rows_stop p c.loop-r-test.true _ c.row.ensures.row_writes c.in-Full.is _ _;
+      rows_writes = λ rows x. stops_rows c.from_residual.ensures.0 (rows_stop p c.loop-r-test.true _ c.row.ensures.row_writes c.in_err-end.was _ _ rows x);
     }
 
 pub cells-next_row-r-requires-in-loop-r : goal.cells-next_row-r-requires-in-loop-r
@@ -344,7 +349,7 @@ cells-loop-r-smaller t c =
 
 pub cells-loop-r-preserved : goal.cells-loop-r-preserved
 cells-loop-r-preserved t c =
-    rows_on c.loop-r.invariant c.loop-r-test.true _ c.row.ensures.row_writes c.in-Done.is c.row.ensures.kept _ c.next_row-r-in-loop-r.ensures.later c.next_row-r-in-loop-r.ensures.rows
+    rows_on c.loop-r.invariant c.loop-r-test.true _ c.row.ensures.row_writes c.in_ok-end.was c.row.ensures.kept _ c.next_row-r-in-loop-r.ensures.later c.next_row-r-in-loop-r.ensures.rows
 
 pub cells-shape_of-nodes : goal.cells-shape_of-nodes
 cells-shape_of-nodes t c =
@@ -409,28 +414,28 @@ pub child-returns-then-tag : goal.child-returns-then-tag
 child-returns-then-tag t c =
     record {
       kept = kept_none c.args.nodes.now;
-      goes_forest = child_comment c.args.sheet.now c.args.nodes.now c.args.c c.node_place-place.ensures (tags_to_skip (skip_list c.args.own c.args.run.now)) c.args.levels (item_of c.args.item) c.args.first c.args.due c.args.text.now c.args.len c.requires.2.0 c.tag_at-tag.ensures c.if-tag.true;
+      goes_forest = child_comment c.args.sheet.now c.args.nodes.now c.args.c c.node_place-place.ensures (tags_to_skip (skip_list c.args.own c.args.run.now)) c.args.levels (item_of c.args.item) c.args.before.first c.args.before.due c.args.text.now c.args.before.len c.requires.2.0 c.tag_at-tag.ensures c.if-tag.true;
     }
 
 pub child-returns-then-node_is_skipped : goal.child-returns-then-node_is_skipped
 child-returns-then-node_is_skipped t c =
     record {
       kept = kept_none c.args.nodes.now;
-      goes_forest = child_skipped c.args.sheet.now c.args.nodes.now c.args.c c.node_place-place.ensures (tags_to_skip (skip_list c.args.own c.args.run.now)) c.args.levels (item_of c.args.item) c.args.first c.args.due c.args.text.now c.args.len c.requires.2.0 c.node_is_skipped.ensures c.if-node_is_skipped.true;
+      goes_forest = child_skipped c.args.sheet.now c.args.nodes.now c.args.c c.node_place-place.ensures (tags_to_skip (skip_list c.args.own c.args.run.now)) c.args.levels (item_of c.args.item) c.args.before.first c.args.before.due c.args.text.now c.args.before.len c.requires.2.0 c.node_is_skipped.ensures c.if-node_is_skipped.true;
     }
 
 pub child-returns-then-node_is_block_wrapper : goal.child-returns-then-node_is_block_wrapper
 child-returns-then-node_is_block_wrapper t c =
     record {
       kept = kept_in (omega arith) (omega (arith, c.node_end-end.ensures)) c.children.ensures.kept;
-      goes_forest = child_wrapper c.args.sheet.now c.args.nodes.now c.args.c c.node_place-place.ensures (tags_to_skip (skip_list c.args.own c.args.run.now)) c.args.levels (item_of c.args.item) c.args.first c.args.due c.args.text.now c.args.len c.node_is_skipped.ensures c.if-node_is_skipped.false c.requires.0.later c.node_is_block_wrapper.ensures c.node_end-end.ensures c.if-node_is_block_wrapper.true c.requires.0.alone.positive c.children.ensures.goes_forest;
+      goes_forest = child_wrapper c.args.sheet.now c.args.nodes.now c.args.c c.node_place-place.ensures (tags_to_skip (skip_list c.args.own c.args.run.now)) c.args.levels (item_of c.args.item) c.args.before.first c.args.before.due c.args.text.now c.args.before.len c.node_is_skipped.ensures c.if-node_is_skipped.false c.requires.0.later c.node_is_block_wrapper.ensures c.node_end-end.ensures c.if-node_is_block_wrapper.true c.requires.0.alone.positive c.children.ensures.goes_forest;
     }
 
 pub child-returns : goal.child-returns
 child-returns t c =
     record {
       kept = c.alone.ensures.kept;
-      goes_forest = child_alone c.args.sheet.now c.args.nodes.now c.args.c c.node_place-place.ensures (tags_to_skip (skip_list c.args.own c.args.run.now)) c.args.levels (item_of c.args.item) c.args.first c.args.due c.args.text.now c.args.len c.node_is_skipped.ensures c.if-node_is_skipped.false c.requires.0.later c.node_is_block_wrapper.ensures c.tag_at-tag.ensures c.if-tag.false c.if-node_is_block_wrapper.false c.is_blank_text-blank.ensures c.alone.ensures.goes_forest;
+      goes_forest = child_alone c.args.sheet.now c.args.nodes.now c.args.c c.node_place-place.ensures (tags_to_skip (skip_list c.args.own c.args.run.now)) c.args.levels (item_of c.args.item) c.args.before.first c.args.before.due c.args.text.now c.args.before.len c.node_is_skipped.ensures c.if-node_is_skipped.false c.requires.0.later c.node_is_block_wrapper.ensures c.tag_at-tag.ensures c.if-tag.false c.if-node_is_block_wrapper.false c.is_blank_text-blank.ensures c.alone.ensures.goes_forest;
     }
 
 pub children-loop-c-init : goal.children-loop-c-init
@@ -440,7 +445,7 @@ children-loop-c-init t c = (
   kept_none c.args.nodes.now,
   omega arith,
   c.requires.0,
-  going_first c.args.sheet.now c.args.nodes.now c.args.from c.args.to (self_at c.args.own c.args.run.now c.args.levels) (item_of c.args.item) c.args.text.now c.args.len c.args.first c.args.due c.requires.1.0,
+  going_first c.args.sheet.now c.args.nodes.now c.args.from c.args.to (self_at c.args.own c.args.run.now c.args.levels) (item_of c.args.item) c.args.text.now c.args.before c.requires.1.0,
 )
 
 pub children-child-requires : goal.children-child-requires
@@ -451,13 +456,13 @@ children-child-requires t c =
       (node_kept l.invariant.2 (placeds_first l.invariant.4 lt), omega (arith, end_kept l.invariant.2 l.c, placeds_within l.invariant.4 lt), (l.invariant.0, c.requires.1.1), c.requires.2),
     )
 
-pub children-returns-in-Full : goal.children-returns-in-Full
-children-returns-in-Full t c =
+pub children-returns-in_err-going : goal.children-returns-in_err-going
+children-returns-in_err-going t c =
     let kept_here : Kept c.args.from c.args.to c.args.nodes.now c.child.new.nodes = let l = c.loop-c in let lt = c.loop-c-test.true in kept_then l.invariant.2 (kept_in l.invariant.3 (omega (arith, end_kept l.invariant.2 l.c, placeds_within l.invariant.4 lt)) c.child.ensures.kept) in
-    let went_on_here : GoesForest c.args.sheet.now c.args.nodes.now c.loop-c.c (end_at c.args.nodes.now c.loop-c.c) (λ anc f. item_children (self_at c.args.own c.args.run.now c.args.levels) anc f (item_of c.args.item) (progress_at c.loop-c.is_first c.loop-c.is_due (take c.loop-c.end c.loop-c.text))) (length c.loop-c.text) c.child.new.text c.child.result = goes_before c.loop-c.invariant.2 c.child.ensures.goes_forest in
+    let went_on_here : GoesForest c.args.sheet.now c.args.nodes.now c.loop-c.c (end_at c.args.nodes.now c.loop-c.c) (λ anc f. item_children (self_at c.args.own c.args.run.now c.args.levels) anc f (item_of c.args.item) (progress_of c.loop-c.going c.loop-c.text)) (length c.loop-c.text) c.child.new.text c.child.result = goes_before c.loop-c.invariant.2 c.child.ensures.goes_forest in
     record {
       kept = kept_here;
-      goes_forest = record { for = λ parent f anc h a. going_stop c.loop-c.invariant.5 c.loop-c-test.true (went_on_here) c.in-Full.is parent f anc h a };
+      goes_forest = stops_going c.from_residual.ensures.0 (record { for = λ parent f anc h a. going_stop c.loop-c.invariant.5 c.loop-c-test.true (went_on_here) c.in_err-going.was parent f anc h a });
     }
 
 pub children-node_end-c-requires : goal.children-node_end-c-requires
@@ -473,19 +478,19 @@ children-loop-c-smaller t c =
 pub children-loop-c-preserved : goal.children-loop-c-preserved
 children-loop-c-preserved t c =
     let kept_here : Kept c.args.from c.args.to c.args.nodes.now c.child.new.nodes = let l = c.loop-c in let lt = c.loop-c-test.true in kept_then l.invariant.2 (kept_in l.invariant.3 (omega (arith, end_kept l.invariant.2 l.c, placeds_within l.invariant.4 lt)) c.child.ensures.kept) in
-    let went_on_here : GoesForest c.args.sheet.now c.args.nodes.now c.loop-c.c (end_at c.args.nodes.now c.loop-c.c) (λ anc f. item_children (self_at c.args.own c.args.run.now c.args.levels) anc f (item_of c.args.item) (progress_at c.loop-c.is_first c.loop-c.is_due (take c.loop-c.end c.loop-c.text))) (length c.loop-c.text) c.child.new.text c.child.result = goes_before c.loop-c.invariant.2 c.child.ensures.goes_forest in
+    let went_on_here : GoesForest c.args.sheet.now c.args.nodes.now c.loop-c.c (end_at c.args.nodes.now c.loop-c.c) (λ anc f. item_children (self_at c.args.own c.args.run.now c.args.levels) anc f (item_of c.args.item) (progress_of c.loop-c.going c.loop-c.text)) (length c.loop-c.text) c.child.new.text c.child.result = goes_before c.loop-c.invariant.2 c.child.ensures.goes_forest in
     let l = c.loop-c in
     let lt = c.loop-c-test.true in
     let K = kept_here in
     let q = c.node_end-c.ensures ∙ end_kept K l.c in
     let a = (placeds_first l.invariant.4 lt).alone in
-    let d = (went c.in-On.is ((went_on_here).for a.parent a.forest a.anc a.rep a.around)).0 in (
+    let d = (went c.in_ok-going.was ((went_on_here).for a.parent a.forest a.anc a.rep a.around)).0 in (
       reaches d,
       d.long ∙ l.invariant.1,
       K,
       omega (arith, placeds_later l.invariant.4 lt, l.invariant.3, q),
       subst (λ (k : ℕ). Placeds c.args.sheet.now c.args.nodes.now k c.args.to) (sym q) (placeds_on l.invariant.4 lt),
-      going_on l.invariant.5 lt (went_on_here) q c.in-On.is,
+      going_on l.invariant.5 lt (went_on_here) q c.in_ok-going.was,
     )
 
 pub children-returns : goal.children-returns
@@ -495,51 +500,51 @@ children-returns t c =
       goes_forest = record { for = λ parent f anc h a. going_last c.loop-c.invariant.5 c.loop-c-test.false parent f anc h a };
     }
 
-pub flat-start_item-begun-requires : goal.flat-start_item-begun-requires
-flat-start_item-begun-requires t c =
-    (c.requires.1.0, fits_in c.args.levels c.args.ctx c.requires.2)
+pub flat-write_list_item-requires : goal.flat-write_list_item-requires
+flat-write_list_item-requires t c =
+    (c.requires.1.0, fits_in c.args.levels c.args.ctx.now c.requires.2)
 
 pub flat-packed-bits-requires : goal.flat-packed-bits-requires
 flat-packed-bits-requires t c =
-    omega (arith, fits_item c.args.levels c.args.ctx c.start_item-begun.result.ctx c.list_item-inner.result c.start_item-begun.ensures.1 c.list_item-inner.ensures c.requires.2)
+    omega (arith, fits_item c.args.levels c.args.ctx.now c.write_list_item.new.ctx c.list_item-inner.result c.write_list_item.ensures.1 c.list_item-inner.ensures c.requires.2)
 
 pub flat-kids-requires : goal.flat-kids-requires
 flat-kids-requires t c =
-    (falls_in c.args.levels c.decreases (lit< tt), (c.requires.0, (reaches (done c.in-Done.is c.start_item-begun.ensures.0), c.requires.1.1), fits_item c.args.levels c.args.ctx c.start_item-begun.result.ctx (unpacked c.packed-bits.result) c.start_item-begun.ensures.1 (c.packed-bits.ensures ∙ c.list_item-inner.ensures) c.requires.2))
+    (falls_in c.args.levels c.decreases (lit< tt), (c.requires.0, (reaches (done c.in_ok-n.was c.write_list_item.ensures.0), c.requires.1.1), fits_item c.args.levels c.args.ctx.now c.write_list_item.new.ctx (unpacked c.packed-bits.result) c.write_list_item.ensures.1 (c.packed-bits.ensures ∙ c.list_item-inner.ensures) c.requires.2))
 
-pub flat-push_linebreak-w-requires : goal.flat-push_linebreak-w-requires
-flat-push_linebreak-w-requires t c =
-    written-reaches c.kids.ensures.writes_element c.requires.0 c.in-Done-kids.is
+pub flat-push_linebreak-requires : goal.flat-push_linebreak-requires
+flat-push_linebreak-requires t c =
+    written-reaches c.kids.ensures.writes_element c.requires.0 c.in_ok-m.was
 
-pub flat-returns-in-Done-kids : goal.flat-returns-in-Done-kids
-flat-returns-in-Done-kids t c =
-    let begun_here : (anc : Ancestors) (node : Forest) → let self = self_at c.args.own c.args.run.now c.args.levels in Owes (length c.args.text.now) c.start_item-begun.new.text c.in-Done.n (λ u. and_then (write_kids self anc (unpacked c.packed-bits.result) node u) (push (break_of c.start_item-begun.result.ctx))) (write_list_item self anc node c.args.ctx (take c.args.len c.args.text.now)) = λ anc node. let self = self_at c.args.own c.args.run.now c.args.levels in owes_step (owes_all c.args.text.now c.args.len (write_list_item self anc node c.args.ctx) c.requires.1.0 refl) (begin_item false c.args.ctx) (λ u. and_then (write_kids self anc (unpacked c.packed-bits.result) node u) (push (break_of c.start_item-begun.result.ctx))) (item_parts self anc node c.args.ctx c.start_item-begun.result.ctx (unpacked c.packed-bits.result) (take c.args.len c.args.text.now) c.start_item-begun.ensures.1 (c.packed-bits.ensures ∙ c.list_item-inner.ensures)) c.in-Done.is c.start_item-begun.ensures.0 in
+pub flat-returns : goal.flat-returns
+flat-returns t c =
+    let begun_here : (anc : Ancestors) (node : Forest) → let self = self_at c.args.own c.args.run.now c.args.levels in Owes (length c.args.text.now) c.write_list_item.new.text c.in_ok-n.n (λ u. and_then (write_kids self anc (unpacked c.packed-bits.result) node u) (push (break_of c.write_list_item.new.ctx))) (write_list_item self anc node c.args.ctx.now (take c.args.len c.args.text.now)) = λ anc node. let self = self_at c.args.own c.args.run.now c.args.levels in owes_step (owes_all c.args.text.now c.args.len (write_list_item self anc node c.args.ctx.now) c.requires.1.0 refl) (begin_item false c.args.ctx.now) (λ u. and_then (write_kids self anc (unpacked c.packed-bits.result) node u) (push (break_of c.write_list_item.new.ctx))) (item_parts self anc node c.args.ctx.now c.write_list_item.new.ctx (unpacked c.packed-bits.result) (take c.args.len c.args.text.now) c.write_list_item.ensures.1 (c.packed-bits.ensures ∙ c.list_item-inner.ensures)) c.in_ok-n.was c.write_list_item.ensures.0 in
     let self = self_at c.args.own c.args.run.now c.args.levels in record {
       kept = c.kids.ensures.kept;
-      writes_element = record { for = λ name attrs kids anc x a. owes_last (owes_step (begun_here anc (element name attrs kids nothing)) (write_kids self anc (unpacked c.packed-bits.result) (element name attrs kids nothing)) (push (break_of c.start_item-begun.result.ctx)) refl c.in-Done-kids.is (c.kids.ensures.writes_element.for name attrs kids anc x a)) c.push_linebreak-w.ensures };
-      ctx_value = c.start_item-begun.ensures.1;
+      writes_element = record { for = λ name attrs kids anc x a. owes_last (owes_step (begun_here anc (element name attrs kids nothing)) (write_kids self anc (unpacked c.packed-bits.result) (element name attrs kids nothing)) (push (break_of c.write_list_item.new.ctx)) refl c.in_ok-m.was (c.kids.ensures.writes_element.for name attrs kids anc x a)) c.push_linebreak.ensures };
+      ctx_value = c.write_list_item.ensures.1;
     }
 
-pub flat-returns-in-Full-kids : goal.flat-returns-in-Full-kids
-flat-returns-in-Full-kids t c =
-    let begun_here : (anc : Ancestors) (node : Forest) → let self = self_at c.args.own c.args.run.now c.args.levels in Owes (length c.args.text.now) c.start_item-begun.new.text c.in-Done.n (λ u. and_then (write_kids self anc (unpacked c.packed-bits.result) node u) (push (break_of c.start_item-begun.result.ctx))) (write_list_item self anc node c.args.ctx (take c.args.len c.args.text.now)) = λ anc node. let self = self_at c.args.own c.args.run.now c.args.levels in owes_step (owes_all c.args.text.now c.args.len (write_list_item self anc node c.args.ctx) c.requires.1.0 refl) (begin_item false c.args.ctx) (λ u. and_then (write_kids self anc (unpacked c.packed-bits.result) node u) (push (break_of c.start_item-begun.result.ctx))) (item_parts self anc node c.args.ctx c.start_item-begun.result.ctx (unpacked c.packed-bits.result) (take c.args.len c.args.text.now) c.start_item-begun.ensures.1 (c.packed-bits.ensures ∙ c.list_item-inner.ensures)) c.in-Done.is c.start_item-begun.ensures.0 in
+pub flat-returns-in_err-m : goal.flat-returns-in_err-m
+flat-returns-in_err-m t c =
+    let begun_here : (anc : Ancestors) (node : Forest) → let self = self_at c.args.own c.args.run.now c.args.levels in Owes (length c.args.text.now) c.write_list_item.new.text c.in_ok-n.n (λ u. and_then (write_kids self anc (unpacked c.packed-bits.result) node u) (push (break_of c.write_list_item.new.ctx))) (write_list_item self anc node c.args.ctx.now (take c.args.len c.args.text.now)) = λ anc node. let self = self_at c.args.own c.args.run.now c.args.levels in owes_step (owes_all c.args.text.now c.args.len (write_list_item self anc node c.args.ctx.now) c.requires.1.0 refl) (begin_item false c.args.ctx.now) (λ u. and_then (write_kids self anc (unpacked c.packed-bits.result) node u) (push (break_of c.write_list_item.new.ctx))) (item_parts self anc node c.args.ctx.now c.write_list_item.new.ctx (unpacked c.packed-bits.result) (take c.args.len c.args.text.now) c.write_list_item.ensures.1 (c.packed-bits.ensures ∙ c.list_item-inner.ensures)) c.in_ok-n.was c.write_list_item.ensures.0 in
     let self = self_at c.args.own c.args.run.now c.args.levels in record {
       kept = c.kids.ensures.kept;
-      writes_element = record { for = λ name attrs kids anc x a. owes_stop (begun_here anc (element name attrs kids nothing)) (write_kids self anc (unpacked c.packed-bits.result) (element name attrs kids nothing)) (push (break_of c.start_item-begun.result.ctx)) refl c.in-Full-kids.is (c.kids.ensures.writes_element.for name attrs kids anc x a) };
-      ctx_value = c.start_item-begun.ensures.1;
+      writes_element = stops_element c.from_residual-in_err-m.ensures.0 (record { for = λ name attrs kids anc x a. owes_stop (begun_here anc (element name attrs kids nothing)) (write_kids self anc (unpacked c.packed-bits.result) (element name attrs kids nothing)) (push (break_of c.write_list_item.new.ctx)) refl c.in_err-m.was (c.kids.ensures.writes_element.for name attrs kids anc x a) });
+      ctx_value = c.write_list_item.ensures.1;
     }
 
-pub flat-returns-in-Full : goal.flat-returns-in-Full
-flat-returns-in-Full t c =
+pub flat-returns-in_err-n : goal.flat-returns-in_err-n
+flat-returns-in_err-n t c =
     let self = self_at c.args.own c.args.run.now c.args.levels in record {
       kept = kept_none c.args.nodes.now;
-      writes_element = record {
+      writes_element = stops_element c.from_residual.ensures.0 (record {
         for = λ name attrs kids anc x a.
-            both-full c.args.text.now c.args.len c.requires.1.0 (write_list_item self anc (element name attrs kids nothing) c.args.ctx) (begin_item false c.args.ctx)
-            (λ u. and_then (write_kids self anc (list_item c.start_item-begun.result.ctx.opts) (element name attrs kids nothing) u) (push (break_of c.start_item-begun.result.ctx)))
-            (item_parts self anc (element name attrs kids nothing) c.args.ctx c.start_item-begun.result.ctx (list_item c.start_item-begun.result.ctx.opts) (take c.args.len c.args.text.now) c.start_item-begun.ensures.1 refl) c.start_item-begun.ensures.0 c.in-Full.is;
-      };
-      ctx_value = c.start_item-begun.ensures.1;
+            both-full c.args.text.now c.args.len c.requires.1.0 (write_list_item self anc (element name attrs kids nothing) c.args.ctx.now) (begin_item false c.args.ctx.now)
+            (λ u. and_then (write_kids self anc (list_item c.write_list_item.new.ctx.opts) (element name attrs kids nothing) u) (push (break_of c.write_list_item.new.ctx)))
+            (item_parts self anc (element name attrs kids nothing) c.args.ctx.now c.write_list_item.new.ctx (list_item c.write_list_item.new.ctx.opts) (take c.args.len c.args.text.now) c.write_list_item.ensures.1 refl) c.write_list_item.ensures.0 c.in_err-n.was;
+      });
+      ctx_value = c.write_list_item.ensures.1;
     }
 
 pub flow-indented-requires : goal.flow-indented-requires
@@ -555,14 +560,14 @@ flow-kids-requires t c = (
   falls_in c.args.levels c.decreases (lit< tt),
   (
     c.requires.0,
-    (reaches (done c.in-Done.is c.push_heading_prefix.ensures), c.requires.2.1),
+    (reaches (done c.in_ok-n.was c.push_heading_prefix.ensures), c.requires.2.1),
     fits_alike (unpacked c.packed-bits.result) c.args.item.ctx.opts c.args.levels (ap (λ (o : FormatOpts). o.offset) (c.packed-bits.ensures ∙ c.list_item-inner.ensures)) c.requires.3.0,
   ),
 )
 
 pub flow-end_flow-requires : goal.flow-end_flow-requires
 flow-end_flow-requires t c =
-    element_reaches c.requires.0 c.kids.ensures.writes_element c.in-Done-kids.is
+    element_reaches c.requires.0 c.kids.ensures.writes_element c.in_ok-m.was
 
 pub flow-returns-then-name-eq23 : goal.flow-returns-then-name-eq23
 flow-returns-then-name-eq23 t c =
@@ -571,25 +576,25 @@ flow-returns-then-name-eq23 t c =
       writes_element = body_pre c.args.sheet.now c.args.nodes.now c.args.c c.requires.1 (self_at c.args.own c.args.run.now c.args.levels) (item_of c.args.item) c.if-name-eq23.true c.indented.ensures.writes_element;
     }
 
-pub flow-returns-in-Done-kids : goal.flow-returns-in-Done-kids
-flow-returns-in-Done-kids t c =
+pub flow-returns : goal.flow-returns
+flow-returns t c =
     record {
       kept = c.kids.ensures.kept;
-      writes_element = flow_done c.args.sheet.now c.args.nodes.now c.args.c c.requires.1 (self_at c.args.own c.args.run.now c.args.levels) (item_of c.args.item) c.if-name-eq23.false c.args.text.now c.args.len c.requires.2.0 c.push_heading_prefix.ensures c.in-Done.is (c.packed-bits.ensures ∙ c.list_item-inner.ensures) c.kids.ensures.writes_element c.in-Done-kids.is c.end_flow.ensures;
+      writes_element = flow_done c.args.sheet.now c.args.nodes.now c.args.c c.requires.1 (self_at c.args.own c.args.run.now c.args.levels) (item_of c.args.item) c.if-name-eq23.false c.args.text.now c.args.len c.requires.2.0 c.push_heading_prefix.ensures c.in_ok-n.was (c.packed-bits.ensures ∙ c.list_item-inner.ensures) c.kids.ensures.writes_element c.in_ok-m.was c.end_flow.ensures;
     }
 
-pub flow-returns-in-Full-kids : goal.flow-returns-in-Full-kids
-flow-returns-in-Full-kids t c =
+pub flow-returns-in_err-m : goal.flow-returns-in_err-m
+flow-returns-in_err-m t c =
     record {
       kept = c.kids.ensures.kept;
-      writes_element = flow_full c.args.sheet.now c.args.nodes.now c.args.c c.requires.1 (self_at c.args.own c.args.run.now c.args.levels) (item_of c.args.item) c.if-name-eq23.false c.args.text.now c.args.len c.requires.2.0 c.push_heading_prefix.ensures c.in-Done.is (c.packed-bits.ensures ∙ c.list_item-inner.ensures) c.kids.ensures.writes_element c.in-Full-kids.is;
+      writes_element = stops_element c.from_residual-in_err-m.ensures.0 (flow_full c.args.sheet.now c.args.nodes.now c.args.c c.requires.1 (self_at c.args.own c.args.run.now c.args.levels) (item_of c.args.item) c.if-name-eq23.false c.args.text.now c.args.len c.requires.2.0 c.push_heading_prefix.ensures c.in_ok-n.was (c.packed-bits.ensures ∙ c.list_item-inner.ensures) c.kids.ensures.writes_element c.in_err-m.was);
     }
 
-pub flow-returns-in-Full : goal.flow-returns-in-Full
-flow-returns-in-Full t c =
+pub flow-returns-in_err-n : goal.flow-returns-in_err-n
+flow-returns-in_err-n t c =
     record {
       kept = kept_none c.args.nodes.now;
-      writes_element = flow_none c.args.sheet.now c.args.nodes.now c.args.c c.requires.1 (self_at c.args.own c.args.run.now c.args.levels) (item_of c.args.item) c.if-name-eq23.false c.args.text.now c.args.len c.requires.2.0 c.push_heading_prefix.ensures c.in-Full.is;
+      writes_element = stops_element c.from_residual.ensures.0 (flow_none c.args.sheet.now c.args.nodes.now c.args.c c.requires.1 (self_at c.args.own c.args.run.now c.args.levels) (item_of c.args.item) c.if-name-eq23.false c.args.text.now c.args.len c.requires.2.0 c.push_heading_prefix.ensures c.in_err-n.was);
     }
 
 pub indented-node_end-to-requires : goal.indented-node_end-to-requires
@@ -612,20 +617,20 @@ indented-write-requires t c = (
 
 pub indented-push_indented-requires : goal.indented-push_indented-requires
 indented-push_indented-requires t c =
-    indented_fits (tags_to_skip (skip_list c.args.own c.args.run.now)) c.args.levels (item_of c.args.item) c.node_end-to.ensures (c.packed.ensures ∙ c.include_node-inner.ensures) c.args.text.now c.args.len c.requires.1.0 c.write.ensures.writes_forest c.requires.0 c.in-Done.is
+    indented_fits (tags_to_skip (skip_list c.args.own c.args.run.now)) c.args.levels (item_of c.args.item) c.node_end-to.ensures (c.packed.ensures ∙ c.include_node-inner.ensures) c.args.text.now c.args.len c.requires.1.0 c.write.ensures.writes_forest c.requires.0 c.in_ok-n.was
 
-pub indented-returns-in-Done : goal.indented-returns-in-Done
-indented-returns-in-Done t c =
+pub indented-returns : goal.indented-returns
+indented-returns t c =
     record {
       kept = subst (λ (k : ℕ). Kept c.args.c k c.args.nodes.now c.write.new.nodes) c.node_end-to.ensures c.write.ensures.kept;
-      writes_element = indented_done (tags_to_skip (skip_list c.args.own c.args.run.now)) c.args.levels (item_of c.args.item) c.node_end-to.ensures (c.packed.ensures ∙ c.include_node-inner.ensures) c.args.text.now c.args.len c.requires.1.0 c.write.ensures.writes_forest c.in-Done.is c.push_indented.ensures;
+      writes_element = indented_done (tags_to_skip (skip_list c.args.own c.args.run.now)) c.args.levels (item_of c.args.item) c.node_end-to.ensures (c.packed.ensures ∙ c.include_node-inner.ensures) c.args.text.now c.args.len c.requires.1.0 c.write.ensures.writes_forest c.in_ok-n.was c.push_indented.ensures;
     }
 
-pub indented-returns-in-Full : goal.indented-returns-in-Full
-indented-returns-in-Full t c =
+pub indented-returns-in_err-n : goal.indented-returns-in_err-n
+indented-returns-in_err-n t c =
     record {
       kept = subst (λ (k : ℕ). Kept c.args.c k c.args.nodes.now c.write.new.nodes) c.node_end-to.ensures c.write.ensures.kept;
-      writes_element = indented_full (tags_to_skip (skip_list c.args.own c.args.run.now)) c.args.levels (item_of c.args.item) c.node_end-to.ensures (c.packed.ensures ∙ c.include_node-inner.ensures) c.args.text.now c.args.len c.requires.1.0 c.write.ensures.writes_forest c.in-Full.is;
+      writes_element = stops_element c.from_residual.ensures.0 (indented_full (tags_to_skip (skip_list c.args.own c.args.run.now)) c.args.levels (item_of c.args.item) c.node_end-to.ensures (c.packed.ensures ∙ c.include_node-inner.ensures) c.args.text.now c.args.len c.requires.1.0 c.write.ensures.writes_forest c.in_err-n.was);
     }
 
 pub inline-node_end-to-requires : goal.inline-node_end-to-requires
@@ -641,23 +646,23 @@ inline-write-requires t c = (
   falls_in c.args.levels c.decreases (lit< tt),
   (
     node_range c.node_end-to.ensures c.requires.0,
-    (reaches (done c.in-Done.is c.push_inline_lead.ensures), c.requires.2.1),
+    (reaches (done c.in_ok-n.was c.push_inline_lead.ensures), c.requires.2.1),
     fits_alike (unpacked c.packed.result) c.args.item.ctx.opts c.args.levels (ap (λ (o : FormatOpts). o.offset) (c.packed.ensures ∙ c.child_opts-inner.ensures) ∙ child_offset c.args.name c.args.item.ctx.opts) c.requires.3.0,
   ),
 )
 
-pub inline-returns-in-Done : goal.inline-returns-in-Done
-inline-returns-in-Done t c =
+pub inline-returns : goal.inline-returns
+inline-returns t c =
     record {
       kept = subst (λ (k : ℕ). Kept c.args.c k c.args.nodes.now c.write.new.nodes) c.node_end-to.ensures c.write.ensures.kept;
-      writes_forest = inline_done c.args.sheet.now c.args.nodes.now c.args.c c.requires.1 (tags_to_skip (skip_list c.args.own c.args.run.now)) c.args.levels (item_of c.args.item) c.args.blank c.requires.0.later c.args.text.now c.args.len c.requires.2.0 c.push_inline_lead.ensures c.in-Done.is c.node_end-to.ensures (c.packed.ensures ∙ c.child_opts-inner.ensures) c.write.ensures.writes_forest;
+      writes_forest = inline_done c.args.sheet.now c.args.nodes.now c.args.c c.requires.1 (tags_to_skip (skip_list c.args.own c.args.run.now)) c.args.levels (item_of c.args.item) c.args.blank c.requires.0.later c.args.text.now c.args.len c.requires.2.0 c.push_inline_lead.ensures c.in_ok-n.was c.node_end-to.ensures (c.packed.ensures ∙ c.child_opts-inner.ensures) c.write.ensures.writes_forest;
     }
 
-pub inline-returns-in-Full : goal.inline-returns-in-Full
-inline-returns-in-Full t c =
+pub inline-returns-in_err-n : goal.inline-returns-in_err-n
+inline-returns-in_err-n t c =
     record {
       kept = kept_none c.args.nodes.now;
-      writes_forest = inline_none c.args.sheet.now c.args.nodes.now c.args.c c.requires.1 (tags_to_skip (skip_list c.args.own c.args.run.now)) c.args.levels (item_of c.args.item) c.args.blank c.requires.0.later c.args.text.now c.args.len c.requires.2.0 c.push_inline_lead.ensures c.in-Full.is;
+      writes_forest = stops_forest c.from_residual.ensures.0 (inline_none c.args.sheet.now c.args.nodes.now c.args.c c.requires.1 (tags_to_skip (skip_list c.args.own c.args.run.now)) c.args.levels (item_of c.args.item) c.args.blank c.requires.0.later c.args.text.now c.args.len c.requires.2.0 c.push_inline_lead.ensures c.in_err-n.was);
     }
 
 pub inside-node_name-name-requires : goal.inside-node_name-name-requires
@@ -702,25 +707,25 @@ inside-siblings-requires t c =
 
 pub inside-closed-requires : goal.inside-closed-requires
 inside-closed-requires t c =
-    forest-reaches c.siblings.ensures.writes_forest (placed_kids c.args.sheet.now c.args.nodes.now c.args.at c.requires.0 c.node_end-to.ensures) c.in-Done.is
+    forest-reaches c.siblings.ensures.writes_forest (placed_kids c.args.sheet.now c.args.nodes.now c.args.at c.requires.0 c.node_end-to.ensures) c.in_ok-n.was
 
-pub inside-returns-in-Full : goal.inside-returns-in-Full
-inside-returns-in-Full t c =
+pub inside-returns-in_err-n : goal.inside-returns-in_err-n
+inside-returns-in_err-n t c =
     let plain_here : (name : Bytes) (attrs : List Attr) (kids : Forest) (anc : Ancestors) → ElementAt c.args.sheet.now c.args.nodes.now c.args.at name attrs kids → in_element (self_at c.args.own c.args.run.now c.args.levels) anc (unpacked c.args.bits) name attrs kids (take c.args.len c.args.text.now) ≡ and_then ((self_at c.args.own c.args.run.now c.args.levels).below (attrs ∷ anc) (unpacked c.args.bits) kids (take c.args.len c.args.text.now)) (closed (unpacked c.args.bits) (tag_of name)) = λ name attrs kids anc x. let a = c.args in let u = c.unpacked-flags in subst (λ (o : FormatOpts). in_element (self_at a.own a.run.now a.levels) anc o name attrs kids (take a.len a.text.now) ≡ and_then ((self_at a.own a.run.now a.levels).below (attrs ∷ anc) o kids (take a.len a.text.now)) (closed o (tag_of name))) u.ensures (inside_plain (self_at a.own a.run.now a.levels) anc u.result name attrs kids (take a.len a.text.now) (ap (λ (k : ℕ). not u.result.skip_md && has_writer u.result k) (sym (c.node_name-name.ensures ∙ element_name x)) ∙ ap (λ (b : Bool). not u.result.skip_md && b) (sym c.has_writer.ensures) ∙ c.if-flags-has_writer.false)) in
     let a = c.args in record {
       kept = kept_in (omega arith) (omega (arith, c.node_end-to.ensures)) c.siblings.ensures.kept;
-      writes_element = record { for = λ name attrs kids anc x h. both-full a.text.now a.len c.requires.1.0 (in_element (self_at a.own a.run.now a.levels) anc (unpacked a.bits) name attrs kids) ((self_at a.own a.run.now a.levels).below (attrs ∷ anc) (unpacked a.bits) kids) (closed (unpacked a.bits) (tag_of name)) (plain_here _ _ _ anc x) (below-wrote a.own a.run.now a.levels (unpacked a.bits) anc x h c.node_end-to.ensures c.siblings.ensures.writes_forest) c.in-Full.is };
+      writes_element = stops_element c.from_residual.ensures.0 (record { for = λ name attrs kids anc x h. both-full a.text.now a.len c.requires.1.0 (in_element (self_at a.own a.run.now a.levels) anc (unpacked a.bits) name attrs kids) ((self_at a.own a.run.now a.levels).below (attrs ∷ anc) (unpacked a.bits) kids) (closed (unpacked a.bits) (tag_of name)) (plain_here _ _ _ anc x) (below-wrote a.own a.run.now a.levels (unpacked a.bits) anc x h c.node_end-to.ensures c.siblings.ensures.writes_forest) c.in_err-n.was });
     }
 
-pub inside-returns-in-Done : goal.inside-returns-in-Done
-inside-returns-in-Done t c =
+pub inside-returns : goal.inside-returns
+inside-returns t c =
     let plain_here : (name : Bytes) (attrs : List Attr) (kids : Forest) (anc : Ancestors) → ElementAt c.args.sheet.now c.args.nodes.now c.args.at name attrs kids → in_element (self_at c.args.own c.args.run.now c.args.levels) anc (unpacked c.args.bits) name attrs kids (take c.args.len c.args.text.now) ≡ and_then ((self_at c.args.own c.args.run.now c.args.levels).below (attrs ∷ anc) (unpacked c.args.bits) kids (take c.args.len c.args.text.now)) (closed (unpacked c.args.bits) (tag_of name)) = λ name attrs kids anc x. let a = c.args in let u = c.unpacked-flags in subst (λ (o : FormatOpts). in_element (self_at a.own a.run.now a.levels) anc o name attrs kids (take a.len a.text.now) ≡ and_then ((self_at a.own a.run.now a.levels).below (attrs ∷ anc) o kids (take a.len a.text.now)) (closed o (tag_of name))) u.ensures (inside_plain (self_at a.own a.run.now a.levels) anc u.result name attrs kids (take a.len a.text.now) (ap (λ (k : ℕ). not u.result.skip_md && has_writer u.result k) (sym (c.node_name-name.ensures ∙ element_name x)) ∙ ap (λ (b : Bool). not u.result.skip_md && b) (sym c.has_writer.ensures) ∙ c.if-flags-has_writer.false)) in
     let a = c.args in record {
       kept = kept_in (omega arith) (omega (arith, c.node_end-to.ensures)) c.siblings.ensures.kept;
       writes_element = record {
-        for = λ name attrs kids anc x h. both-done a.text.now a.len c.requires.1.0 (in_element (self_at a.own a.run.now a.levels) anc (unpacked a.bits) name attrs kids) ((self_at a.own a.run.now a.levels).below (attrs ∷ anc) (unpacked a.bits) kids) (closed (unpacked a.bits) (tag_of name)) (plain_here _ _ _ anc x) (below-wrote a.own a.run.now a.levels (unpacked a.bits) anc x h c.node_end-to.ensures c.siblings.ensures.writes_forest) c.in-Done.is
-            (subst (λ (o : FormatOpts). Writes (length c.siblings.new.text) c.closed.new.text c.closed.result (closed o (tag_of name) (take c.in-Done.n c.siblings.new.text))) c.unpacked.ensures
-            (subst (λ (k : ℕ). Writes (length c.siblings.new.text) c.closed.new.text c.closed.result (closed c.unpacked.result k (take c.in-Done.n c.siblings.new.text))) (c.node_name-name.ensures ∙ element_name x) c.closed.ensures));
+        for = λ name attrs kids anc x h. both-done a.text.now a.len c.requires.1.0 (in_element (self_at a.own a.run.now a.levels) anc (unpacked a.bits) name attrs kids) ((self_at a.own a.run.now a.levels).below (attrs ∷ anc) (unpacked a.bits) kids) (closed (unpacked a.bits) (tag_of name)) (plain_here _ _ _ anc x) (below-wrote a.own a.run.now a.levels (unpacked a.bits) anc x h c.node_end-to.ensures c.siblings.ensures.writes_forest) c.in_ok-n.was
+            (subst (λ (o : FormatOpts). Writes (length c.siblings.new.text) c.closed.new.text c.closed.result (closed o (tag_of name) (take c.in_ok-n.n c.siblings.new.text))) c.unpacked.ensures
+            (subst (λ (k : ℕ). Writes (length c.siblings.new.text) c.closed.new.text c.closed.result (closed c.unpacked.result k (take c.in_ok-n.n c.siblings.new.text))) (c.node_name-name.ensures ∙ element_name x) c.closed.ensures));
       };
     }
 
@@ -731,27 +736,27 @@ item-node_end-to-requires t c =
 
 pub item-packed-requires : goal.item-packed-requires
 item-packed-requires t c =
-    let inner_here : c.include_node-inner.result ≡ include_node (fresh c.args.ctx.opts) = c.include_node-inner.ensures ∙ ap include_node c.fresh.ensures in
-    omega (arith, fits_plain c.args.levels c.args.ctx c.include_node-inner.result (inner_here) c.requires.3)
+    let inner_here : c.include_node-inner.result ≡ include_node (fresh c.args.ctx.now.opts) = c.include_node-inner.ensures ∙ ap include_node c.fresh.ensures in
+    omega (arith, fits_plain c.args.levels c.args.ctx.now c.include_node-inner.result (inner_here) c.requires.3)
 
-pub item-write-w-requires : goal.item-write-w-requires
-item-write-w-requires t c =
-    let inner_here : c.include_node-inner.result ≡ include_node (fresh c.args.ctx.opts) = c.include_node-inner.ensures ∙ ap include_node c.fresh.ensures in
-    (falls_in c.args.levels c.decreases (lit< tt), (subst (λ (e : ℕ). Placeds c.args.sheet.now c.args.nodes.now c.args.c e) (sym c.node_end-to.ensures) c.requires.0.alone, c.requires.2, fits_plain c.args.levels c.args.ctx (unpacked c.packed.result) (c.packed.ensures ∙ inner_here) c.requires.3))
+pub item-write-requires : goal.item-write-requires
+item-write-requires t c =
+    let inner_here : c.include_node-inner.result ≡ include_node (fresh c.args.ctx.now.opts) = c.include_node-inner.ensures ∙ ap include_node c.fresh.ensures in
+    (falls_in c.args.levels c.decreases (lit< tt), (subst (λ (e : ℕ). Placeds c.args.sheet.now c.args.nodes.now c.args.c e) (sym c.node_end-to.ensures) c.requires.0.alone, c.requires.2, fits_plain c.args.levels c.args.ctx.now (unpacked c.packed.result) (c.packed.ensures ∙ inner_here) c.requires.3))
 
 pub item-returns-then-not-li : goal.item-returns-then-not-li
 item-returns-then-not-li t c =
-    let inner_here : c.include_node-inner.result ≡ include_node (fresh c.args.ctx.opts) = c.include_node-inner.ensures ∙ ap include_node c.fresh.ensures in
+    let inner_here : c.include_node-inner.result ≡ include_node (fresh c.args.ctx.now.opts) = c.include_node-inner.ensures ∙ ap include_node c.fresh.ensures in
     let a = c.args in
     let skips = tags_to_skip (skip_list a.own a.run.now) in record {
-      kept = kept_in (omega arith) (omega (arith, c.node_end-to.ensures)) c.write-w.ensures.kept;
+      kept = kept_in (omega arith) (omega (arith, c.node_end-to.ensures)) c.write.ensures.kept;
       writes_forest = record {
         for = λ parent f anc h x.
-            alike (head_other skips a.levels anc a.ctx (take a.len a.text.now) a.sheet.now a.nodes.now parent a.c f h c.requires.0.later (sym c.requires.1 ∙ c.if-not-li.true)
+            alike (head_other skips a.levels anc a.ctx.now (take a.len a.text.now) a.sheet.now a.nodes.now parent a.c f h c.requires.0.later (sym c.requires.1 ∙ c.if-not-li.true)
             ∙ ap (λ (o : FormatOpts). write_at skips a.levels anc o f (take a.len a.text.now)) (sym (c.packed.ensures ∙ inner_here)))
-            (c.write-w.ensures.writes_forest.for parent f anc (subst (λ (e : ℕ). Rep a.sheet.now a.nodes.now parent a.c e f) (sym c.node_end-to.ensures) h) x);
+            (c.write.ensures.writes_forest.for parent f anc (subst (λ (e : ℕ). Rep a.sheet.now a.nodes.now parent a.c e f) (sym c.node_end-to.ensures) h) x);
       };
-      ctx_value = sym (ap (λ (b : Bool). cond b (advance_ol_number a.ctx) a.ctx) (c.if-not-li.true));
+      ctx_value = sym (ap (λ (b : Bool). cond b (advance_ol_number a.ctx.now) a.ctx.now) (c.if-not-li.true));
     }
 
 pub item-overflow_add-c : goal.item-overflow_add-c
@@ -784,8 +789,8 @@ item-returns-then-has_blocks t c =
     let named_here : name_at c.args.sheet.now (place_at c.args.nodes.now c.args.c) ≡ 16 = eqb-true (name_at c.args.sheet.now (place_at c.args.nodes.now c.args.c)) 16 (sym c.requires.1 ∙ c.if-not-li.false) in
     let a = c.args in record {
       kept = c.blocks-then-has_blocks.ensures.kept;
-      writes_forest = head_item c.requires.0 (named_here) (self_at a.own a.run.now a.levels) a.ctx true c.node_end-to.ensures (λ parent f h. sym c.if-has_blocks.true ∙ c.has_blocks.ensures parent f h) c.blocks-then-has_blocks.ensures.writes_element;
-      ctx_value = c.blocks-then-has_blocks.ensures.ctx_value ∙ sym (ap (λ (b : Bool). cond b (advance_ol_number a.ctx) a.ctx) (c.if-not-li.false));
+      writes_forest = head_item c.requires.0 (named_here) (self_at a.own a.run.now a.levels) a.ctx.now true c.node_end-to.ensures (λ parent f h. sym c.if-has_blocks.true ∙ c.has_blocks.ensures parent f h) c.blocks-then-has_blocks.ensures.writes_element;
+      ctx_value = c.blocks-then-has_blocks.ensures.ctx_value ∙ sym (ap (λ (b : Bool). cond b (advance_ol_number a.ctx.now) a.ctx.now) (c.if-not-li.false));
     }
 
 pub item-returns : goal.item-returns
@@ -793,8 +798,8 @@ item-returns t c =
     let named_here : name_at c.args.sheet.now (place_at c.args.nodes.now c.args.c) ≡ 16 = eqb-true (name_at c.args.sheet.now (place_at c.args.nodes.now c.args.c)) 16 (sym c.requires.1 ∙ c.if-not-li.false) in
     let a = c.args in record {
       kept = c.flat.ensures.kept;
-      writes_forest = head_item c.requires.0 (named_here) (self_at a.own a.run.now a.levels) a.ctx false c.node_end-to.ensures (λ parent f h. sym c.if-has_blocks.false ∙ c.has_blocks.ensures parent f h) c.flat.ensures.writes_element;
-      ctx_value = c.flat.ensures.ctx_value ∙ sym (ap (λ (b : Bool). cond b (advance_ol_number a.ctx) a.ctx) (c.if-not-li.false));
+      writes_forest = head_item c.requires.0 (named_here) (self_at a.own a.run.now a.levels) a.ctx.now false c.node_end-to.ensures (λ parent f h. sym c.if-has_blocks.false ∙ c.has_blocks.ensures parent f h) c.flat.ensures.writes_element;
+      ctx_value = c.flat.ensures.ctx_value ∙ sym (ap (λ (b : Bool). cond b (advance_ol_number a.ctx.now) a.ctx.now) (c.if-not-li.false));
     }
 
 pub items-loop-c-init : goal.items-loop-c-init
@@ -820,61 +825,61 @@ items-node_name-li-requires t c =
     let node_here : NodeAt c.args.sheet.now c.loop-c.nodes c.loop-c.c = placeds_at (here_here).alone (here_here).later in
     node_here
 
-pub items-renumbered-numbered-requires : goal.items-renumbered-numbered-requires
-items-renumbered-numbered-requires t c =
+pub items-renumbered-ctx-requires : goal.items-renumbered-ctx-requires
+items-renumbered-ctx-requires t c =
     let here_here : PlacedNode c.args.sheet.now c.loop-c.nodes c.loop-c.c = node_kept c.loop-c.invariant.2 (placeds_first c.loop-c.invariant.4 c.loop-c-test.true) in
     let node_here : NodeAt c.args.sheet.now c.loop-c.nodes c.loop-c.c = placeds_at (here_here).alone (here_here).later in
     omega (arith, c.node_place-place.ensures, (node_here).placed)
 
-pub items-item-written-requires : goal.items-item-written-requires
-items-item-written-requires t c =
+pub items-item-requires : goal.items-item-requires
+items-item-requires t c =
     let here_here : PlacedNode c.args.sheet.now c.loop-c.nodes c.loop-c.c = node_kept c.loop-c.invariant.2 (placeds_first c.loop-c.invariant.4 c.loop-c-test.true) in
-    let fits_here : FitsIn c.renumbered-numbered.result c.args.levels = fits_child c.args.levels (eqb c.node_name-li.result 16) (number_of (attr (ascii "value") (attrs_behind c.args.sheet.now c.node_place-place.result))) c.loop-c.ctx c.renumbered-numbered.result c.renumbered-numbered.ensures c.loop-c.invariant.5 in
+    let fits_here : FitsIn c.renumbered-ctx.result c.args.levels = fits_child c.args.levels (eqb c.node_name-li.result 16) (number_of (attr (ascii "value") (attrs_behind c.args.sheet.now c.node_place-place.result))) c.loop-c.ctx c.renumbered-ctx.result c.renumbered-ctx.ensures c.loop-c.invariant.5 in
     (falls_in c.args.levels c.decreases (lit< tt), (here_here, ap (λ (k : ℕ). eqb k 16) c.node_name-li.ensures, (c.loop-c.invariant.0, c.requires.1.1), fits_here))
 
-pub items-returns-in-Full : goal.items-returns-in-Full
-items-returns-in-Full t c =
-    let kept_here : Kept c.args.from c.args.to c.args.nodes.now c.item-written.new.nodes = let l = c.loop-c in let lt = c.loop-c-test.true in kept_then l.invariant.2 (kept_in l.invariant.3 (omega (arith, end_kept l.invariant.2 l.c, placeds_within l.invariant.4 lt)) c.item-written.ensures.kept) in
-    let parts_here : (next : ListContext) → next ≡ cond (eqb c.node_name-li.result 16) (advance_ol_number c.renumbered-numbered.result) c.renumbered-numbered.result → (parent : ℕ) (anc : Ancestors) (g : Forest) → Rep c.args.sheet.now c.args.nodes.now parent c.loop-c.c c.args.to g → (u : Bytes) → list_children (self_at c.args.own c.args.run.now c.args.levels) anc g c.loop-c.ctx u ≡ and_then (list_head (self_at c.args.own c.args.run.now c.args.levels) anc (head_of g) c.renumbered-numbered.result u) (list_children (self_at c.args.own c.args.run.now c.args.levels) anc (rest_of g) next) = λ next b parent anc g h u. let l = c.loop-c in let k = place_kept l.invariant.2 l.c in list_first (self_at c.args.own c.args.run.now c.args.levels) anc l.ctx u c.args.sheet.now c.args.nodes.now parent l.c c.args.to g h c.loop-c-test.true c.node_place-place.result (eqb c.node_name-li.result 16) c.renumbered-numbered.result next (c.node_place-place.ensures ∙ k) (ap (λ (j : ℕ). eqb j 16) (c.node_name-li.ensures ∙ ap (name_at c.args.sheet.now) k)) c.renumbered-numbered.ensures b in
-    let wrote_here : WritesForest c.args.sheet.now c.args.nodes.now c.loop-c.c (end_at c.args.nodes.now c.loop-c.c) (λ anc f. list_head (self_at c.args.own c.args.run.now c.args.levels) anc f c.renumbered-numbered.result) (take c.loop-c.end c.loop-c.text) (length c.loop-c.text) c.item-written.new.text c.item-written.result.wrote = writes_before c.loop-c.invariant.2 c.item-written.ensures.writes_forest in
+pub items-returns-in_err-end : goal.items-returns-in_err-end
+items-returns-in_err-end t c =
+    let kept_here : Kept c.args.from c.args.to c.args.nodes.now c.item.new.nodes = let l = c.loop-c in let lt = c.loop-c-test.true in kept_then l.invariant.2 (kept_in l.invariant.3 (omega (arith, end_kept l.invariant.2 l.c, placeds_within l.invariant.4 lt)) c.item.ensures.kept) in
+    let parts_here : (next : ListContext) → next ≡ cond (eqb c.node_name-li.result 16) (advance_ol_number c.renumbered-ctx.result) c.renumbered-ctx.result → (parent : ℕ) (anc : Ancestors) (g : Forest) → Rep c.args.sheet.now c.args.nodes.now parent c.loop-c.c c.args.to g → (u : Bytes) → list_children (self_at c.args.own c.args.run.now c.args.levels) anc g c.loop-c.ctx u ≡ and_then (list_head (self_at c.args.own c.args.run.now c.args.levels) anc (head_of g) c.renumbered-ctx.result u) (list_children (self_at c.args.own c.args.run.now c.args.levels) anc (rest_of g) next) = λ next b parent anc g h u. let l = c.loop-c in let k = place_kept l.invariant.2 l.c in list_first (self_at c.args.own c.args.run.now c.args.levels) anc l.ctx u c.args.sheet.now c.args.nodes.now parent l.c c.args.to g h c.loop-c-test.true c.node_place-place.result (eqb c.node_name-li.result 16) c.renumbered-ctx.result next (c.node_place-place.ensures ∙ k) (ap (λ (j : ℕ). eqb j 16) (c.node_name-li.ensures ∙ ap (name_at c.args.sheet.now) k)) c.renumbered-ctx.ensures b in
+    let wrote_here : WritesForest c.args.sheet.now c.args.nodes.now c.loop-c.c (end_at c.args.nodes.now c.loop-c.c) (λ anc f. list_head (self_at c.args.own c.args.run.now c.args.levels) anc f c.renumbered-ctx.result) (take c.loop-c.end c.loop-c.text) (length c.loop-c.text) c.item.new.text c.item.result = writes_before c.loop-c.invariant.2 c.item.ensures.writes_forest in
     let self = self_at c.args.own c.args.run.now c.args.levels in
-    let next = cond (eqb c.node_name-li.result 16) (advance_ol_number c.renumbered-numbered.result) c.renumbered-numbered.result in record {
+    let next = cond (eqb c.node_name-li.result 16) (advance_ol_number c.renumbered-ctx.result) c.renumbered-ctx.result in record {
       kept = kept_here;
-      writes_forest = record {
+      writes_forest = stops_forest c.from_residual.ensures.0 (record {
         for = λ parent f anc h a.
-            turn_stop c.loop-c.invariant.6 (λ anc f. list_head self anc f c.renumbered-numbered.result) (λ anc f. list_children self anc f next) (parts_here next refl) c.loop-c-test.true (wrote_here) c.in-Full.is parent f anc h a;
-      };
+            turn_stop c.loop-c.invariant.6 (λ anc f. list_head self anc f c.renumbered-ctx.result) (λ anc f. list_children self anc f next) (parts_here next refl) c.loop-c-test.true (wrote_here) c.in_err-end.was parent f anc h a;
+      });
     }
 
 pub items-node_end-c-requires : goal.items-node_end-c-requires
 items-node_end-c-requires t c =
-    let kept_here : Kept c.args.from c.args.to c.args.nodes.now c.item-written.new.nodes = let l = c.loop-c in let lt = c.loop-c-test.true in kept_then l.invariant.2 (kept_in l.invariant.3 (omega (arith, end_kept l.invariant.2 l.c, placeds_within l.invariant.4 lt)) c.item-written.ensures.kept) in
+    let kept_here : Kept c.args.from c.args.to c.args.nodes.now c.item.new.nodes = let l = c.loop-c in let lt = c.loop-c-test.true in kept_then l.invariant.2 (kept_in l.invariant.3 (omega (arith, end_kept l.invariant.2 l.c, placeds_within l.invariant.4 lt)) c.item.ensures.kept) in
     omega (arith, (placeds_at c.loop-c.invariant.4 c.loop-c-test.true).inside, (kept_here).long)
 
 pub items-loop-c-smaller : goal.items-loop-c-smaller
 items-loop-c-smaller t c =
-    let kept_here : Kept c.args.from c.args.to c.args.nodes.now c.item-written.new.nodes = let l = c.loop-c in let lt = c.loop-c-test.true in kept_then l.invariant.2 (kept_in l.invariant.3 (omega (arith, end_kept l.invariant.2 l.c, placeds_within l.invariant.4 lt)) c.item-written.ensures.kept) in
+    let kept_here : Kept c.args.from c.args.to c.args.nodes.now c.item.new.nodes = let l = c.loop-c in let lt = c.loop-c-test.true in kept_then l.invariant.2 (kept_in l.invariant.3 (omega (arith, end_kept l.invariant.2 l.c, placeds_within l.invariant.4 lt)) c.item.ensures.kept) in
     omega (arith, placeds_later c.loop-c.invariant.4 c.loop-c-test.true, c.node_end-c.ensures, end_kept (kept_here) c.loop-c.c, c.loop-c-test.true)
 
 pub items-loop-c-preserved : goal.items-loop-c-preserved
 items-loop-c-preserved t c =
-    let kept_here : Kept c.args.from c.args.to c.args.nodes.now c.item-written.new.nodes = let l = c.loop-c in let lt = c.loop-c-test.true in kept_then l.invariant.2 (kept_in l.invariant.3 (omega (arith, end_kept l.invariant.2 l.c, placeds_within l.invariant.4 lt)) c.item-written.ensures.kept) in
+    let kept_here : Kept c.args.from c.args.to c.args.nodes.now c.item.new.nodes = let l = c.loop-c in let lt = c.loop-c-test.true in kept_then l.invariant.2 (kept_in l.invariant.3 (omega (arith, end_kept l.invariant.2 l.c, placeds_within l.invariant.4 lt)) c.item.ensures.kept) in
     let here_here : PlacedNode c.args.sheet.now c.loop-c.nodes c.loop-c.c = node_kept c.loop-c.invariant.2 (placeds_first c.loop-c.invariant.4 c.loop-c-test.true) in
-    let fits_here : FitsIn c.renumbered-numbered.result c.args.levels = fits_child c.args.levels (eqb c.node_name-li.result 16) (number_of (attr (ascii "value") (attrs_behind c.args.sheet.now c.node_place-place.result))) c.loop-c.ctx c.renumbered-numbered.result c.renumbered-numbered.ensures c.loop-c.invariant.5 in
-    let parts_here : (next : ListContext) → next ≡ cond (eqb c.node_name-li.result 16) (advance_ol_number c.renumbered-numbered.result) c.renumbered-numbered.result → (parent : ℕ) (anc : Ancestors) (g : Forest) → Rep c.args.sheet.now c.args.nodes.now parent c.loop-c.c c.args.to g → (u : Bytes) → list_children (self_at c.args.own c.args.run.now c.args.levels) anc g c.loop-c.ctx u ≡ and_then (list_head (self_at c.args.own c.args.run.now c.args.levels) anc (head_of g) c.renumbered-numbered.result u) (list_children (self_at c.args.own c.args.run.now c.args.levels) anc (rest_of g) next) = λ next b parent anc g h u. let l = c.loop-c in let k = place_kept l.invariant.2 l.c in list_first (self_at c.args.own c.args.run.now c.args.levels) anc l.ctx u c.args.sheet.now c.args.nodes.now parent l.c c.args.to g h c.loop-c-test.true c.node_place-place.result (eqb c.node_name-li.result 16) c.renumbered-numbered.result next (c.node_place-place.ensures ∙ k) (ap (λ (j : ℕ). eqb j 16) (c.node_name-li.ensures ∙ ap (name_at c.args.sheet.now) k)) c.renumbered-numbered.ensures b in
-    let wrote_here : WritesForest c.args.sheet.now c.args.nodes.now c.loop-c.c (end_at c.args.nodes.now c.loop-c.c) (λ anc f. list_head (self_at c.args.own c.args.run.now c.args.levels) anc f c.renumbered-numbered.result) (take c.loop-c.end c.loop-c.text) (length c.loop-c.text) c.item-written.new.text c.item-written.result.wrote = writes_before c.loop-c.invariant.2 c.item-written.ensures.writes_forest in
+    let fits_here : FitsIn c.renumbered-ctx.result c.args.levels = fits_child c.args.levels (eqb c.node_name-li.result 16) (number_of (attr (ascii "value") (attrs_behind c.args.sheet.now c.node_place-place.result))) c.loop-c.ctx c.renumbered-ctx.result c.renumbered-ctx.ensures c.loop-c.invariant.5 in
+    let parts_here : (next : ListContext) → next ≡ cond (eqb c.node_name-li.result 16) (advance_ol_number c.renumbered-ctx.result) c.renumbered-ctx.result → (parent : ℕ) (anc : Ancestors) (g : Forest) → Rep c.args.sheet.now c.args.nodes.now parent c.loop-c.c c.args.to g → (u : Bytes) → list_children (self_at c.args.own c.args.run.now c.args.levels) anc g c.loop-c.ctx u ≡ and_then (list_head (self_at c.args.own c.args.run.now c.args.levels) anc (head_of g) c.renumbered-ctx.result u) (list_children (self_at c.args.own c.args.run.now c.args.levels) anc (rest_of g) next) = λ next b parent anc g h u. let l = c.loop-c in let k = place_kept l.invariant.2 l.c in list_first (self_at c.args.own c.args.run.now c.args.levels) anc l.ctx u c.args.sheet.now c.args.nodes.now parent l.c c.args.to g h c.loop-c-test.true c.node_place-place.result (eqb c.node_name-li.result 16) c.renumbered-ctx.result next (c.node_place-place.ensures ∙ k) (ap (λ (j : ℕ). eqb j 16) (c.node_name-li.ensures ∙ ap (name_at c.args.sheet.now) k)) c.renumbered-ctx.ensures b in
+    let wrote_here : WritesForest c.args.sheet.now c.args.nodes.now c.loop-c.c (end_at c.args.nodes.now c.loop-c.c) (λ anc f. list_head (self_at c.args.own c.args.run.now c.args.levels) anc f c.renumbered-ctx.result) (take c.loop-c.end c.loop-c.text) (length c.loop-c.text) c.item.new.text c.item.result = writes_before c.loop-c.invariant.2 c.item.ensures.writes_forest in
     let l = c.loop-c in
     let lt = c.loop-c-test.true in
     let K = kept_here in
     let q = c.node_end-c.ensures ∙ end_kept K l.c in
     let self = self_at c.args.own c.args.run.now c.args.levels in (
-      forest-reaches c.item-written.ensures.writes_forest (here_here).alone c.in-Done.is,
-      forest-long c.item-written.ensures.writes_forest (here_here).alone c.in-Done.is ∙ l.invariant.1,
+      forest-reaches c.item.ensures.writes_forest (here_here).alone c.in_ok-end.was,
+      forest-long c.item.ensures.writes_forest (here_here).alone c.in_ok-end.was ∙ l.invariant.1,
       K,
       omega (arith, placeds_later l.invariant.4 lt, l.invariant.3, q),
       subst (λ (k : ℕ). Placeds c.args.sheet.now c.args.nodes.now k c.args.to) (sym q) (placeds_on l.invariant.4 lt),
-      fits_behind c.args.levels (eqb c.node_name-li.result 16) c.renumbered-numbered.result c.item-written.result.ctx c.item-written.ensures.ctx_value (fits_here),
-      turn_on l.invariant.6 (λ anc f. list_head self anc f c.renumbered-numbered.result) (λ anc f. list_children self anc f c.item-written.result.ctx) (parts_here c.item-written.result.ctx c.item-written.ensures.ctx_value) lt (wrote_here) q c.in-Done.is,
+      fits_behind c.args.levels (eqb c.node_name-li.result 16) c.renumbered-ctx.result c.item.new.ctx c.item.ensures.ctx_value (fits_here),
+      turn_on l.invariant.6 (λ anc f. list_head self anc f c.renumbered-ctx.result) (λ anc f. list_children self anc f c.item.new.ctx) (parts_here c.item.new.ctx c.item.ensures.ctx_value) lt (wrote_here) q c.in_ok-end.was,
     )
 
 pub items-returns : goal.items-returns
@@ -886,15 +891,6 @@ items-returns t c =
             turn_last l.invariant.6 c.loop-c-test.false (λ anc u. list_none (self_at c.args.own c.args.run.now c.args.levels) anc l.ctx u) parent f anc h a;
       };
     }
-
-pub items-shape_of-nodes-in-Full : goal.items-shape_of-nodes-in-Full
-items-shape_of-nodes-in-Full t c =
-    let kept_here : Kept c.args.from c.args.to c.args.nodes.now c.item-written.new.nodes = let l = c.loop-c in let lt = c.loop-c-test.true in kept_then l.invariant.2 (kept_in l.invariant.3 (omega (arith, end_kept l.invariant.2 l.c, placeds_within l.invariant.4 lt)) c.item-written.ensures.kept) in
-    (kept_here).long
-
-pub items-shape_of-text-in-Full : goal.items-shape_of-text-in-Full
-items-shape_of-text-in-Full t c =
-    c.item-written.auto.text ∙ c.loop-c.invariant.1
 
 pub kids-node_end-to-requires : goal.kids-node_end-to-requires
 kids-node_end-to-requires t c =
@@ -945,51 +941,51 @@ kids-write-requires t c =
 
 pub kids-trim_space-requires : goal.kids-trim_space-requires
 kids-trim_space-requires t c =
-    forest-reaches c.write.ensures.writes_forest (placed_kids c.args.sheet.now c.args.nodes.now c.args.at c.requires.0 c.node_end-to.ensures) c.in-Done.is
+    forest-reaches c.write.ensures.writes_forest (placed_kids c.args.sheet.now c.args.nodes.now c.args.at c.requires.0 c.node_end-to.ensures) c.in_ok-n.was
 
-pub kids-returns-in-Full : goal.kids-returns-in-Full
-kids-returns-in-Full t c =
+pub kids-returns-in_err-n : goal.kids-returns-in_err-n
+kids-returns-in_err-n t c =
     let a = c.args in record {
       kept = kept_in (omega arith) (omega (arith, c.node_end-to.ensures)) c.write.ensures.kept;
-      writes_element = record { for = λ name attrs kids anc x h. both-full a.text.now a.len c.requires.1.0 (write_kids (self_at a.own a.run.now a.levels) anc (unpacked a.bits) (element name attrs kids nothing)) ((self_at a.own a.run.now a.levels).below (attrs ∷ anc) (unpacked a.bits) kids) trim_space (kids_is (self_at a.own a.run.now a.levels) anc (unpacked a.bits) name attrs kids (take a.len a.text.now)) (below-wrote a.own a.run.now a.levels (unpacked a.bits) anc x h c.node_end-to.ensures c.write.ensures.writes_forest) c.in-Full.is };
+      writes_element = stops_element c.from_residual.ensures.0 (record { for = λ name attrs kids anc x h. both-full a.text.now a.len c.requires.1.0 (write_kids (self_at a.own a.run.now a.levels) anc (unpacked a.bits) (element name attrs kids nothing)) ((self_at a.own a.run.now a.levels).below (attrs ∷ anc) (unpacked a.bits) kids) trim_space (kids_is (self_at a.own a.run.now a.levels) anc (unpacked a.bits) name attrs kids (take a.len a.text.now)) (below-wrote a.own a.run.now a.levels (unpacked a.bits) anc x h c.node_end-to.ensures c.write.ensures.writes_forest) c.in_err-n.was });
     }
 
-pub kids-returns-in-Done : goal.kids-returns-in-Done
-kids-returns-in-Done t c =
+pub kids-returns : goal.kids-returns
+kids-returns t c =
     let a = c.args in record {
       kept = kept_in (omega arith) (omega (arith, c.node_end-to.ensures)) c.write.ensures.kept;
-      writes_element = record { for = λ name attrs kids anc x h. both-done a.text.now a.len c.requires.1.0 (write_kids (self_at a.own a.run.now a.levels) anc (unpacked a.bits) (element name attrs kids nothing)) ((self_at a.own a.run.now a.levels).below (attrs ∷ anc) (unpacked a.bits) kids) trim_space (kids_is (self_at a.own a.run.now a.levels) anc (unpacked a.bits) name attrs kids (take a.len a.text.now)) (below-wrote a.own a.run.now a.levels (unpacked a.bits) anc x h c.node_end-to.ensures c.write.ensures.writes_forest) c.in-Done.is (record { says = c.trim_space.ensures }) };
+      writes_element = record { for = λ name attrs kids anc x h. both-done a.text.now a.len c.requires.1.0 (write_kids (self_at a.own a.run.now a.levels) anc (unpacked a.bits) (element name attrs kids nothing)) ((self_at a.own a.run.now a.levels).below (attrs ∷ anc) (unpacked a.bits) kids) trim_space (kids_is (self_at a.own a.run.now a.levels) anc (unpacked a.bits) name attrs kids (take a.len a.text.now)) (below-wrote a.own a.run.now a.levels (unpacked a.bits) anc x h c.node_end-to.ensures c.write.ensures.writes_forest) c.in_ok-n.was (record { says = c.trim_space.ensures }) };
     }
 
 pub led-flow-requires : goal.led-flow-requires
 led-flow-requires t c = (
   falls_in c.args.levels c.decreases (lit< tt),
-  (c.requires.0, c.requires.1, (reaches (done c.in-Done.is c.push_block_lead.ensures), c.requires.2.1), c.requires.3),
+  (c.requires.0, c.requires.1, (reaches (done c.in_ok-n.was c.push_block_lead.ensures), c.requires.2.1), c.requires.3),
 )
 
 pub led-push_linebreak-requires : goal.led-push_linebreak-requires
 led-push_linebreak-requires t c =
-    element_reaches c.requires.0 c.flow.ensures.writes_element c.in-Done-flow.is
+    element_reaches c.requires.0 c.flow.ensures.writes_element c.in_ok-m.was
 
-pub led-returns-in-Done-flow : goal.led-returns-in-Done-flow
-led-returns-in-Done-flow t c =
+pub led-returns : goal.led-returns
+led-returns t c =
     record {
       kept = c.flow.ensures.kept;
-      writes_element = led_done c.args.sheet.now c.args.nodes.now c.args.c c.requires.1 (self_at c.args.own c.args.run.now c.args.levels) (item_of c.args.item) c.args.first c.args.text.now c.args.len c.requires.2.0 c.push_block_lead.ensures c.in-Done.is c.flow.ensures.writes_element c.in-Done-flow.is c.push_linebreak.ensures;
+      writes_element = led_done c.args.sheet.now c.args.nodes.now c.args.c c.requires.1 (self_at c.args.own c.args.run.now c.args.levels) (item_of c.args.item) c.args.first c.args.text.now c.args.len c.requires.2.0 c.push_block_lead.ensures c.in_ok-n.was c.flow.ensures.writes_element c.in_ok-m.was c.push_linebreak.ensures;
     }
 
-pub led-returns-in-Full-flow : goal.led-returns-in-Full-flow
-led-returns-in-Full-flow t c =
+pub led-returns-in_err-m : goal.led-returns-in_err-m
+led-returns-in_err-m t c =
     record {
       kept = c.flow.ensures.kept;
-      writes_element = led_full c.args.sheet.now c.args.nodes.now c.args.c c.requires.1 (self_at c.args.own c.args.run.now c.args.levels) (item_of c.args.item) c.args.first c.args.text.now c.args.len c.requires.2.0 c.push_block_lead.ensures c.in-Done.is c.flow.ensures.writes_element c.in-Full-flow.is;
+      writes_element = stops_element c.from_residual-in_err-m.ensures.0 (led_full c.args.sheet.now c.args.nodes.now c.args.c c.requires.1 (self_at c.args.own c.args.run.now c.args.levels) (item_of c.args.item) c.args.first c.args.text.now c.args.len c.requires.2.0 c.push_block_lead.ensures c.in_ok-n.was c.flow.ensures.writes_element c.in_err-m.was);
     }
 
-pub led-returns-in-Full : goal.led-returns-in-Full
-led-returns-in-Full t c =
+pub led-returns-in_err-n : goal.led-returns-in_err-n
+led-returns-in_err-n t c =
     record {
       kept = kept_none c.args.nodes.now;
-      writes_element = led_none c.args.sheet.now c.args.nodes.now c.args.c c.requires.1 (self_at c.args.own c.args.run.now c.args.levels) (item_of c.args.item) c.args.first c.args.text.now c.args.len c.requires.2.0 c.push_block_lead.ensures c.in-Full.is;
+      writes_element = stops_element c.from_residual.ensures.0 (led_none c.args.sheet.now c.args.nodes.now c.args.c c.requires.1 (self_at c.args.own c.args.run.now c.args.levels) (item_of c.args.item) c.args.first c.args.text.now c.args.len c.requires.2.0 c.push_block_lead.ensures c.in_err-n.was);
     }
 
 pub link-node_end-end-requires : goal.link-node_end-end-requires
@@ -1035,7 +1031,7 @@ link-body-requires-then-n-eq0 t c =
     let wrote_here : (name : Bytes) (attrs : List Attr) (kids : Forest) → ElementAt c.args.sheet.now c.args.nodes.now c.args.at name attrs kids → Writes (length (lent c.args.text.now c.args.len)) c.write_text.new.text c.write_text.result (shown_text c.args.opts kids) = λ name attrs kids x. let a = c.args in subst (λ (o : FormatOpts). Writes (length (lent a.text.now a.len)) c.write_text.new.text c.write_text.result (write_text o kids [])) (c.skip_escape-plain.ensures ∙ ap skip_escape (c.include_node.ensures ∙ ap include_node c.fresh-fresh.ensures)) (c.write_text.ensures a.at kids (element_kids x c.node_end-end.ensures)) in
     let a = c.args in
     let p = c.requires.0 in
-    let w = done c.in-Done.is (wrote_here _ _ _ p.0.3) in
+    let w = done c.in_ok-n.was (wrote_here _ _ _ p.0.3) in
     (falls_in a.levels c.decreases (lit< tt), (p, (omega (arith, back_length a.text.now a.len c.requires.1.0 (shown_text a.opts p.0.2) w, c.requires.1.0), c.requires.1.1), subst (λ (o : FormatOpts). Fits o a.levels) (sym c.fresh-fresh.ensures) (omega (arith, c.requires.2)), c.requires.3, c.requires.4))
 
 pub link-returns-then-n-eq0 : goal.link-returns-then-n-eq0
@@ -1047,7 +1043,7 @@ link-returns-then-n-eq0 t c =
       kept = c.body-then-n-eq0.ensures.kept;
       writes_element = record {
         for = λ name attrs kids anc x h.
-            let w = done c.in-Done.is (wrote_here _ _ _ x) in
+            let w = done c.in_ok-n.was (wrote_here _ _ _ x) in
             alike (to_body (self_at a.own a.run.now a.levels) anc a.opts href name attrs kids (take a.len a.text.now) (bare_here _ _ _ x) (null_none (shown_text a.opts kids).text (sym w.count ∙ c.if-n-eq0.true)))
             (subst₂ (λ (k : ℕ) (u : Bytes). Writes k c.body-then-n-eq0.new.text c.body-then-n-eq0.result (link_of attrs href (write_kids (self_at a.own a.run.now a.levels) anc (fresh a.opts) (element name attrs kids nothing) []) push u)) (back_length a.text.now a.len c.requires.1.0 (shown_text a.opts kids) w) (back_text a.text.now a.len c.requires.1.0 (shown_text a.opts kids) w)
             (subst (λ (o : FormatOpts). Writes (length (back a.text.now a.len c.write_text.new.text)) c.body-then-n-eq0.new.text c.body-then-n-eq0.result (link_of attrs href (write_kids (self_at a.own a.run.now a.levels) anc o (element name attrs kids nothing) []) push (take a.len (back a.text.now a.len c.write_text.new.text)))) c.fresh-fresh.ensures (c.body-then-n-eq0.ensures.writes_element.for name attrs kids anc x h)));
@@ -1062,7 +1058,7 @@ pub link-push_text_link-requires : goal.link-push_text_link-requires
 link-push_text_link-requires t c =
     let wrote_here : (name : Bytes) (attrs : List Attr) (kids : Forest) → ElementAt c.args.sheet.now c.args.nodes.now c.args.at name attrs kids → Writes (length (lent c.args.text.now c.args.len)) c.write_text.new.text c.write_text.result (shown_text c.args.opts kids) = λ name attrs kids x. let a = c.args in subst (λ (o : FormatOpts). Writes (length (lent a.text.now a.len)) c.write_text.new.text c.write_text.result (write_text o kids [])) (c.skip_escape-plain.ensures ∙ ap skip_escape (c.include_node.ensures ∙ ap include_node c.fresh-fresh.ensures)) (c.write_text.ensures a.at kids (element_kids x c.node_end-end.ensures)) in
     let p = c.requires.0 in
-    (nest-fits c.args.text.now c.args.len c.requires.1.0 (wrote_here _ _ _ p.0.3) c.in-Done.is, omega (arith, c.node_place-place.ensures, (placed_node c.args.sheet.now c.args.nodes.now c.args.at p).placed), c.requires.3, c.requires.4, c.requires.1.1)
+    (nest-fits c.args.text.now c.args.len c.requires.1.0 (wrote_here _ _ _ p.0.3) c.in_ok-n.was, omega (arith, c.node_place-place.ensures, (placed_node c.args.sheet.now c.args.nodes.now c.args.at p).placed), c.requires.3, c.requires.4, c.requires.1.1)
 
 pub link-returns-else-n-eq0 : goal.link-returns-else-n-eq0
 link-returns-else-n-eq0 t c =
@@ -1073,25 +1069,25 @@ link-returns-else-n-eq0 t c =
       kept = kept_none a.nodes.now;
       writes_element = record {
         for = λ name attrs kids anc x h.
-            let w = done c.in-Done.is (wrote_here _ _ _ x) in
+            let w = done c.in_ok-n.was (wrote_here _ _ _ x) in
             alike (to_text (self_at a.own a.run.now a.levels) anc a.opts href name attrs kids (take a.len a.text.now) (bare_here _ _ _ x) (null_more (shown_text a.opts kids).text (λ z. c.if-n-eq0.false (w.count ∙ z))))
-            (nest-done a.text.now a.len c.requires.1.0 (wrote_here _ _ _ x) (λ z. text_link_step a.opts attrs href z) c.in-Done.is
-            (subst (λ (l : List Attr). Writes (length (back a.text.now a.len c.write_text.new.text)) c.push_text_link.new.text c.push_text_link.result (text_link_step a.opts l href (take c.in-Done.n (drop a.len (back a.text.now a.len c.write_text.new.text))) (take a.len (back a.text.now a.len c.write_text.new.text)))) (ap (attrs_behind a.sheet.now) c.node_place-place.ensures ∙ sym x.attrs_are) c.push_text_link.ensures));
+            (nest-done a.text.now a.len c.requires.1.0 (wrote_here _ _ _ x) (λ z. text_link_step a.opts attrs href z) c.in_ok-n.was
+            (subst (λ (l : List Attr). Writes (length (back a.text.now a.len c.write_text.new.text)) c.push_text_link.new.text c.push_text_link.result (text_link_step a.opts l href (take c.in_ok-n.n (drop a.len (back a.text.now a.len c.write_text.new.text))) (take a.len (back a.text.now a.len c.write_text.new.text)))) (ap (attrs_behind a.sheet.now) c.node_place-place.ensures ∙ sym x.attrs_are) c.push_text_link.ensures));
       };
     }
 
-pub link-returns-in-Full : goal.link-returns-in-Full
-link-returns-in-Full t c =
+pub link-returns-in_err-n : goal.link-returns-in_err-n
+link-returns-in_err-n t c =
     let bare_here : (name : Bytes) (attrs : List Attr) (kids : Forest) → ElementAt c.args.sheet.now c.args.nodes.now c.args.at name attrs kids → has_element 22 kids ≡ false = λ _ _ kids x. sym (c.has_element.ensures c.args.at kids (element_kids x c.node_end-end.ensures)) ∙ c.if-has_element.false in
     let wrote_here : (name : Bytes) (attrs : List Attr) (kids : Forest) → ElementAt c.args.sheet.now c.args.nodes.now c.args.at name attrs kids → Writes (length (lent c.args.text.now c.args.len)) c.write_text.new.text c.write_text.result (shown_text c.args.opts kids) = λ name attrs kids x. let a = c.args in subst (λ (o : FormatOpts). Writes (length (lent a.text.now a.len)) c.write_text.new.text c.write_text.result (write_text o kids [])) (c.skip_escape-plain.ensures ∙ ap skip_escape (c.include_node.ensures ∙ ap include_node c.fresh-fresh.ensures)) (c.write_text.ensures a.at kids (element_kids x c.node_end-end.ensures)) in
     let a = c.args in
     let href = take (a.to - a.from) (drop a.from a.sheet.now) in record {
       kept = kept_none a.nodes.now;
-      writes_element = record {
+      writes_element = stops_element c.from_residual.ensures.0 (record {
         for = λ name attrs kids anc x h.
-            alike (to_text (self_at a.own a.run.now a.levels) anc a.opts href name attrs kids (take a.len a.text.now) (bare_here _ _ _ x) (shown_null (shown_text a.opts kids) (text_grown (skip_escape (include_node (fresh a.opts))) kids []) (full c.in-Full.is (wrote_here _ _ _ x))))
-            (nest-full a.text.now a.len c.requires.1.0 (wrote_here _ _ _ x) (text_link_step a.opts attrs href (shown_text a.opts kids).text) c.in-Full.is);
-      };
+            alike (to_text (self_at a.own a.run.now a.levels) anc a.opts href name attrs kids (take a.len a.text.now) (bare_here _ _ _ x) (shown_null (shown_text a.opts kids) (text_grown (skip_escape (include_node (fresh a.opts))) kids []) (full c.in_err-n.was (wrote_here _ _ _ x))))
+            (nest-full a.text.now a.len c.requires.1.0 (wrote_here _ _ _ x) (text_link_step a.opts attrs href (shown_text a.opts kids).text) c.in_err-n.was);
+      });
     }
 
 pub link-slice_bounds-write_text-count : goal.link-slice_bounds-write_text-count
@@ -1158,11 +1154,11 @@ node-inside-requires t c =
     let tagged_here : get_or c.args.sheet.now (place_at c.args.nodes.now c.args.at) 0 ≡ 1 = omega (arith, c.if-tag_at-ne1.false, c.tag_at.ensures ∙ ap (λ (k : ℕ). get_or c.args.sheet.now k 0) c.node_place-place.ensures) in
     let placed_here : Placed c.args.sheet.now c.args.nodes.now c.args.at = node_placed c.requires.0 (tagged_here) in
     let p = placed_here in
-    (falls_in c.args.levels c.decreases (lit< tt), (p, (reaches (done c.in-Done.is (c.opened.ensures p.0.0 p.0.1 p.0.2 p.0.3)), c.requires.1.1), c.requires.2))
+    (falls_in c.args.levels c.decreases (lit< tt), (p, (reaches (done c.in_ok-n.was (c.opened.ensures p.0.0 p.0.1 p.0.2 p.0.3)), c.requires.1.1), c.requires.2))
 
-pub node-returns-in-Done : goal.node-returns-in-Done
+pub node-returns : goal.node-returns
 unfolding serializer
-node-returns-in-Done t c =
+node-returns t c =
     let tagged_here : get_or c.args.sheet.now (place_at c.args.nodes.now c.args.at) 0 ≡ 1 = omega (arith, c.if-tag_at-ne1.false, c.tag_at.ensures ∙ ap (λ (k : ℕ). get_or c.args.sheet.now k 0) c.node_place-place.ensures) in
     let tagged_here_2 : get_or c.args.sheet.now (place_at c.args.nodes.now c.args.at) 0 ≡ 1 = omega (arith, c.if-tag_at-ne1.false, c.tag_at.ensures ∙ ap (λ (k : ℕ). get_or c.args.sheet.now k 0) c.node_place-place.ensures) in
     let skips_here : among (body_at c.args.sheet.now (place_at c.args.nodes.now c.args.at)) (tags_to_skip (skip_list c.args.own c.args.run.now)) ≡ c.node_is_skipped.result = let a = c.args in sym (first_skipped a.sheet.now (place_at a.nodes.now a.at) (tags_to_skip (skip_list a.own a.run.now)) (tagged_here_2)) ∙ sym c.node_is_skipped.ensures in
@@ -1175,14 +1171,14 @@ node-returns-in-Done t c =
       writes_forest = record {
         for = λ parent f anc h q.
             both-done a.text.now a.len c.requires.1.0 (write_nodes (self_at a.own a.run.now a.levels) anc (unpacked a.bits) f) (opened (unpacked a.bits) (tag_of (body_at a.sheet.now (place_at a.nodes.now a.at))) (attrs_behind a.sheet.now (place_at a.nodes.now a.at)) (kids_of f))
-            (in_element (self_at a.own a.run.now a.levels) anc (unpacked a.bits) (body_at a.sheet.now (place_at a.nodes.now a.at)) (attrs_behind a.sheet.now (place_at a.nodes.now a.at)) (kids_of f)) (goes_here parent f anc h) (opens_here parent f h) c.in-Done.is
+            (in_element (self_at a.own a.run.now a.levels) anc (unpacked a.bits) (body_at a.sheet.now (place_at a.nodes.now a.at)) (attrs_behind a.sheet.now (place_at a.nodes.now a.at)) (kids_of f)) (goes_here parent f anc h) (opens_here parent f h) c.in_ok-n.was
             (alone_writes c.requires.0 (tagged_here_4) c.inside.ensures.writes_element parent f anc h q);
       };
     }
 
-pub node-returns-in-Full : goal.node-returns-in-Full
+pub node-returns-in_err-n : goal.node-returns-in_err-n
 unfolding serializer
-node-returns-in-Full t c =
+node-returns-in_err-n t c =
     let tagged_here : get_or c.args.sheet.now (place_at c.args.nodes.now c.args.at) 0 ≡ 1 = omega (arith, c.if-tag_at-ne1.false, c.tag_at.ensures ∙ ap (λ (k : ℕ). get_or c.args.sheet.now k 0) c.node_place-place.ensures) in
     let tagged_here_2 : get_or c.args.sheet.now (place_at c.args.nodes.now c.args.at) 0 ≡ 1 = omega (arith, c.if-tag_at-ne1.false, c.tag_at.ensures ∙ ap (λ (k : ℕ). get_or c.args.sheet.now k 0) c.node_place-place.ensures) in
     let skips_here : among (body_at c.args.sheet.now (place_at c.args.nodes.now c.args.at)) (tags_to_skip (skip_list c.args.own c.args.run.now)) ≡ c.node_is_skipped.result = let a = c.args in sym (first_skipped a.sheet.now (place_at a.nodes.now a.at) (tags_to_skip (skip_list a.own a.run.now)) (tagged_here_2)) ∙ sym c.node_is_skipped.ensures in
@@ -1191,11 +1187,11 @@ node-returns-in-Full t c =
     let opens_here : (parent : ℕ) (f : Forest) → Rep c.args.sheet.now c.args.nodes.now parent c.args.at (end_at c.args.nodes.now c.args.at) f → Writes (length c.args.text.now) c.opened.new.text c.opened.result (opened (unpacked c.args.bits) (tag_of (body_at c.args.sheet.now (place_at c.args.nodes.now c.args.at))) (attrs_behind c.args.sheet.now (place_at c.args.nodes.now c.args.at)) (kids_of f) (take c.args.len c.args.text.now)) = λ parent f h. let a = c.args in subst (λ (o : FormatOpts). Writes (length a.text.now) c.opened.new.text c.opened.result (opened o (tag_of (body_at a.sheet.now (place_at a.nodes.now a.at))) (attrs_behind a.sheet.now (place_at a.nodes.now a.at)) (kids_of f) (take a.len a.text.now))) c.unpacked-opts-2.ensures (c.opened.ensures (body_at c.args.sheet.now (place_at c.args.nodes.now c.args.at)) (attrs_behind c.args.sheet.now (place_at c.args.nodes.now c.args.at)) (kids_of f) (node_element c.args.sheet.now c.args.nodes.now parent c.args.at (end_at c.args.nodes.now c.args.at) f h c.requires.0.later c.requires.0.alone.positive (tagged_here_3))) in
     let a = c.args in record {
       kept = kept_none a.nodes.now;
-      writes_forest = record {
+      writes_forest = stops_forest c.from_residual.ensures.0 (record {
         for = λ parent f anc h q.
             both-full a.text.now a.len c.requires.1.0 (write_nodes (self_at a.own a.run.now a.levels) anc (unpacked a.bits) f) (opened (unpacked a.bits) (tag_of (body_at a.sheet.now (place_at a.nodes.now a.at))) (attrs_behind a.sheet.now (place_at a.nodes.now a.at)) (kids_of f))
-            (in_element (self_at a.own a.run.now a.levels) anc (unpacked a.bits) (body_at a.sheet.now (place_at a.nodes.now a.at)) (attrs_behind a.sheet.now (place_at a.nodes.now a.at)) (kids_of f)) (goes_here parent f anc h) (opens_here parent f h) c.in-Full.is;
-      };
+            (in_element (self_at a.own a.run.now a.levels) anc (unpacked a.bits) (body_at a.sheet.now (place_at a.nodes.now a.at)) (attrs_behind a.sheet.now (place_at a.nodes.now a.at)) (kids_of f)) (goes_here parent f anc h) (opens_here parent f h) c.in_err-n.was;
+      });
     }
 
 pub row-node_end-to-requires : goal.row-node_end-to-requires
@@ -1240,23 +1236,15 @@ row-store_span-requires t c =
 pub row-overflow_add-end : goal.row-overflow_add-end
 row-overflow_add-end t c =
     let p = c.loop-c.invariant in
-    let w = done c.in-Done.is (row_writes p c.loop-c-test.true c.cell.ensures.writes p.some.0 p.some.1) in
+    let w = done c.in_ok-n.was (row_writes p c.loop-c-test.true c.cell.ensures.writes p.some.0 p.some.1) in
     omega (arith, temp_fits c.loop-c.text c.loop-c.end (row_reach p) _ w, back_length c.loop-c.text c.loop-c.end (row_reach p) _ w, row_long p, c.well_formed)
 
-pub row-shape_of-nodes-in-Full : goal.row-shape_of-nodes-in-Full
-row-shape_of-nodes-in-Full t c =
-    c.cell.ensures.kept.long ∙ c.loop-c.invariant.kept.long
-
-pub row-shape_of-text-in-Full : goal.row-shape_of-text-in-Full
-row-shape_of-text-in-Full t c =
-    same_len_mid c.loop-c.end (length c.loop-c.text - c.loop-c.end) c.loop-c.text c.cell.new.text c.cell.auto.text ∙ row_long c.loop-c.invariant
-
-pub row-returns-in-Full : goal.row-returns-in-Full
-row-returns-in-Full t c =
+pub row-returns-in_err-n : goal.row-returns-in_err-n
+row-returns-in_err-n t c =
     let p = c.loop-c.invariant in
     record {
       kept = row_kept p c.loop-c-test.true c.cell.ensures.kept;
-      row_writes = row_stop p c.loop-c-test.true (row_writes p c.loop-c-test.true c.cell.ensures.writes) c.in-Full.is _ _;
+      row_writes = λ cells x. stops_row c.from_residual.ensures.0 (row_stop p c.loop-c-test.true (row_writes p c.loop-c-test.true c.cell.ensures.writes) c.in_err-n.was _ _ cells x);
     }
 
 pub row-node_end-after-requires : goal.row-node_end-after-requires
@@ -1274,7 +1262,7 @@ row-loop-c-smaller t c =
 pub row-loop-c-preserved : goal.row-loop-c-preserved
 row-loop-c-preserved t c =
     let p = c.loop-c.invariant in
-    row_on p c.loop-c-test.true (row_writes p c.loop-c-test.true c.cell.ensures.writes) c.in-Done.is c.cell.ensures.kept c.store_span.ensures.0 c.store_span.ensures.2 c.node_end-after.ensures c.next_cell-c-in-loop-c.ensures.later c.next_cell-c-in-loop-c.ensures.cells
+    row_on p c.loop-c-test.true (row_writes p c.loop-c-test.true c.cell.ensures.writes) c.in_ok-n.was c.cell.ensures.kept c.store_span.ensures.0 c.store_span.ensures.2 c.node_end-after.ensures c.next_cell-c-in-loop-c.ensures.later c.next_cell-c-in-loop-c.ensures.cells
 
 pub row-shape_of-nodes : goal.row-shape_of-nodes
 row-shape_of-nodes t c =
@@ -1351,16 +1339,16 @@ write-node-requires t c =
     let p : 0 < c.args.levels = omega (arith, c.if-levels-eq0.false) in
     (falls_out c.args.levels c.decreases p (lit< tt), (node_kept l.invariant.2 (placeds_first l.invariant.4 c.loop-at-test.true), (l.invariant.0, c.requires.1.1), omega (arith, p, c.requires.2)))
 
-pub write-returns-in-Full : goal.write-returns-in-Full
-write-returns-in-Full t c =
+pub write-returns-in_err-end : goal.write-returns-in_err-end
+write-returns-in_err-end t c =
     let kept_here : Kept c.args.from c.args.to c.args.nodes.now c.node.new.nodes = let l = c.loop-at in let lt = c.loop-at-test.true in kept_then l.invariant.2 (kept_in l.invariant.3 (omega (arith, end_kept l.invariant.2 l.at, placeds_within l.invariant.4 lt)) c.node.ensures.kept) in
     let wrote_here : WritesForest c.args.sheet.now c.args.nodes.now c.loop-at.at (end_at c.args.nodes.now c.loop-at.at) (λ anc f. write_nodes (self_at c.args.own c.args.run.now (c.args.levels - 1)) anc (unpacked c.args.bits) f) (take c.loop-at.end c.loop-at.text) (length c.loop-at.text) c.node.new.text c.node.result = writes_before c.loop-at.invariant.2 c.node.ensures.writes_forest in
     record {
       kept = kept_here;
-      writes_forest = record {
+      writes_forest = stops_forest c.from_residual.ensures.0 (record {
         for = λ parent f anc h a. alike (write_some (tags_to_skip (skip_list c.args.own c.args.run.now)) c.args.levels anc (unpacked c.args.bits) f (take c.args.len c.args.text.now) (omega (arith, c.if-levels-eq0.false)))
-            (turn_stop c.loop-at.invariant.5 (λ anc f. write_nodes (self_at c.args.own c.args.run.now (c.args.levels - 1)) anc (unpacked c.args.bits) f) (λ anc f. write_nodes (self_at c.args.own c.args.run.now (c.args.levels - 1)) anc (unpacked c.args.bits) f) (λ parent anc g h u. nodes_first (self_at c.args.own c.args.run.now (c.args.levels - 1)) anc (unpacked c.args.bits) g u) c.loop-at-test.true (wrote_here) c.in-Full.is parent f anc h a);
-      };
+            (turn_stop c.loop-at.invariant.5 (λ anc f. write_nodes (self_at c.args.own c.args.run.now (c.args.levels - 1)) anc (unpacked c.args.bits) f) (λ anc f. write_nodes (self_at c.args.own c.args.run.now (c.args.levels - 1)) anc (unpacked c.args.bits) f) (λ parent anc g h u. nodes_first (self_at c.args.own c.args.run.now (c.args.levels - 1)) anc (unpacked c.args.bits) g u) c.loop-at-test.true (wrote_here) c.in_err-end.was parent f anc h a);
+      });
     }
 
 pub write-node_end-at-requires : goal.write-node_end-at-requires
@@ -1381,13 +1369,13 @@ write-loop-at-preserved t c =
     let lt = c.loop-at-test.true in
     let K = kept_here in
     let q = c.node_end-at.ensures ∙ end_kept K l.at in
-    let d = done c.in-Done.is (c.node.ensures.writes_forest.for (node_kept l.invariant.2 (placeds_first l.invariant.4 lt)).alone.parent (node_kept l.invariant.2 (placeds_first l.invariant.4 lt)).alone.forest (node_kept l.invariant.2 (placeds_first l.invariant.4 lt)).alone.anc (node_kept l.invariant.2 (placeds_first l.invariant.4 lt)).alone.rep (node_kept l.invariant.2 (placeds_first l.invariant.4 lt)).alone.around) in (
+    let d = done c.in_ok-end.was (c.node.ensures.writes_forest.for (node_kept l.invariant.2 (placeds_first l.invariant.4 lt)).alone.parent (node_kept l.invariant.2 (placeds_first l.invariant.4 lt)).alone.forest (node_kept l.invariant.2 (placeds_first l.invariant.4 lt)).alone.anc (node_kept l.invariant.2 (placeds_first l.invariant.4 lt)).alone.rep (node_kept l.invariant.2 (placeds_first l.invariant.4 lt)).alone.around) in (
       reaches d,
       d.long ∙ l.invariant.1,
       K,
       omega (arith, placeds_later l.invariant.4 lt, l.invariant.3, q),
       subst (λ (k : ℕ). Placeds c.args.sheet.now c.args.nodes.now k c.args.to) (sym q) (placeds_on l.invariant.4 lt),
-      turn_on l.invariant.5 (λ anc f. write_nodes (self_at c.args.own c.args.run.now (c.args.levels - 1)) anc (unpacked c.args.bits) f) (λ anc f. write_nodes (self_at c.args.own c.args.run.now (c.args.levels - 1)) anc (unpacked c.args.bits) f) (λ parent anc g h u. nodes_first (self_at c.args.own c.args.run.now (c.args.levels - 1)) anc (unpacked c.args.bits) g u) lt (wrote_here) q c.in-Done.is,
+      turn_on l.invariant.5 (λ anc f. write_nodes (self_at c.args.own c.args.run.now (c.args.levels - 1)) anc (unpacked c.args.bits) f) (λ anc f. write_nodes (self_at c.args.own c.args.run.now (c.args.levels - 1)) anc (unpacked c.args.bits) f) (λ parent anc g h u. nodes_first (self_at c.args.own c.args.run.now (c.args.levels - 1)) anc (unpacked c.args.bits) g u) lt (wrote_here) q c.in_ok-end.was,
     )
 
 pub write-returns : goal.write-returns
@@ -1547,29 +1535,29 @@ pub write_emphasis-push_emphasis_by-requires : goal.write_emphasis-push_emphasis
 write_emphasis-push_emphasis_by-requires t c =
     let wrote_here : (name : Bytes) (attrs : List Attr) (kids : Forest) (anc : Ancestors) → ElementAt c.args.sheet.now c.args.nodes.now c.args.at name attrs kids → Around c.args.sheet.now c.args.nodes.now (parent_at c.args.nodes.now c.args.at) anc → Writes (length (lent c.args.text.now c.args.len)) c.write.new.text c.write.result ((self_at c.args.own c.args.run.now c.args.levels).below (attrs ∷ anc) (emphasis_scope (scope_of (md_emphasis (tag_of name))) (inline (include_node c.args.opts))) kids []) = λ name attrs kids anc x h. let a = c.args in subst (λ (o : FormatOpts). Writes (length (lent a.text.now a.len)) c.write.new.text c.write.result ((self_at a.own a.run.now a.levels).below (attrs ∷ anc) o kids [])) (c.packed.ensures ∙ c.emphasis_opts-inner.ensures ∙ ap (λ (k : ℕ). emphasis_scope (scope_of (md_emphasis k)) (inline (include_node a.opts))) (c.requires.1 ∙ element_name x)) (below-wrote a.own a.run.now a.levels (unpacked c.packed.result) anc x h c.node_end-to.ensures c.write.ensures.writes_forest) in
     let p = c.requires.0 in
-    nest-fits c.args.text.now c.args.len c.requires.2.0 (wrote_here _ _ _ p.1.0 p.0.3 p.1.1) c.in-Done.is
+    nest-fits c.args.text.now c.args.len c.requires.2.0 (wrote_here _ _ _ p.1.0 p.0.3 p.1.1) c.in_ok-n.was
 
-pub write_emphasis-returns-in-Done : goal.write_emphasis-returns-in-Done
-write_emphasis-returns-in-Done t c =
+pub write_emphasis-returns : goal.write_emphasis-returns
+write_emphasis-returns t c =
     let wrote_here : (name : Bytes) (attrs : List Attr) (kids : Forest) (anc : Ancestors) → ElementAt c.args.sheet.now c.args.nodes.now c.args.at name attrs kids → Around c.args.sheet.now c.args.nodes.now (parent_at c.args.nodes.now c.args.at) anc → Writes (length (lent c.args.text.now c.args.len)) c.write.new.text c.write.result ((self_at c.args.own c.args.run.now c.args.levels).below (attrs ∷ anc) (emphasis_scope (scope_of (md_emphasis (tag_of name))) (inline (include_node c.args.opts))) kids []) = λ name attrs kids anc x h. let a = c.args in subst (λ (o : FormatOpts). Writes (length (lent a.text.now a.len)) c.write.new.text c.write.result ((self_at a.own a.run.now a.levels).below (attrs ∷ anc) o kids [])) (c.packed.ensures ∙ c.emphasis_opts-inner.ensures ∙ ap (λ (k : ℕ). emphasis_scope (scope_of (md_emphasis k)) (inline (include_node a.opts))) (c.requires.1 ∙ element_name x)) (below-wrote a.own a.run.now a.levels (unpacked c.packed.result) anc x h c.node_end-to.ensures c.write.ensures.writes_forest) in
     let a = c.args in record {
       kept = kept_in (omega arith) (omega (arith, c.node_end-to.ensures)) c.write.ensures.kept;
       writes_element = record {
         for = λ name attrs kids anc x h. alike (ap (λ (f : Step). f (take a.len a.text.now)) (emphasis_is (self_at a.own a.run.now a.levels) anc a.opts (tag_of name) attrs kids))
-            (nest-done a.text.now a.len c.requires.2.0 (wrote_here _ _ _ anc x h) (λ z. emphasis_step a.opts (tag_of name) z) c.in-Done.is
-            (subst (λ (k : ℕ). Writes (length (back a.text.now a.len c.write.new.text)) c.push_emphasis_by.new.text c.push_emphasis_by.result (emphasis_step a.opts k (take c.in-Done.n (drop a.len (back a.text.now a.len c.write.new.text))) (take a.len (back a.text.now a.len c.write.new.text)))) (c.requires.1 ∙ element_name x) c.push_emphasis_by.ensures));
+            (nest-done a.text.now a.len c.requires.2.0 (wrote_here _ _ _ anc x h) (λ z. emphasis_step a.opts (tag_of name) z) c.in_ok-n.was
+            (subst (λ (k : ℕ). Writes (length (back a.text.now a.len c.write.new.text)) c.push_emphasis_by.new.text c.push_emphasis_by.result (emphasis_step a.opts k (take c.in_ok-n.n (drop a.len (back a.text.now a.len c.write.new.text))) (take a.len (back a.text.now a.len c.write.new.text)))) (c.requires.1 ∙ element_name x) c.push_emphasis_by.ensures));
       };
     }
 
-pub write_emphasis-returns-in-Full : goal.write_emphasis-returns-in-Full
-write_emphasis-returns-in-Full t c =
+pub write_emphasis-returns-in_err-n : goal.write_emphasis-returns-in_err-n
+write_emphasis-returns-in_err-n t c =
     let wrote_here : (name : Bytes) (attrs : List Attr) (kids : Forest) (anc : Ancestors) → ElementAt c.args.sheet.now c.args.nodes.now c.args.at name attrs kids → Around c.args.sheet.now c.args.nodes.now (parent_at c.args.nodes.now c.args.at) anc → Writes (length (lent c.args.text.now c.args.len)) c.write.new.text c.write.result ((self_at c.args.own c.args.run.now c.args.levels).below (attrs ∷ anc) (emphasis_scope (scope_of (md_emphasis (tag_of name))) (inline (include_node c.args.opts))) kids []) = λ name attrs kids anc x h. let a = c.args in subst (λ (o : FormatOpts). Writes (length (lent a.text.now a.len)) c.write.new.text c.write.result ((self_at a.own a.run.now a.levels).below (attrs ∷ anc) o kids [])) (c.packed.ensures ∙ c.emphasis_opts-inner.ensures ∙ ap (λ (k : ℕ). emphasis_scope (scope_of (md_emphasis k)) (inline (include_node a.opts))) (c.requires.1 ∙ element_name x)) (below-wrote a.own a.run.now a.levels (unpacked c.packed.result) anc x h c.node_end-to.ensures c.write.ensures.writes_forest) in
     let a = c.args in record {
       kept = kept_in (omega arith) (omega (arith, c.node_end-to.ensures)) c.write.ensures.kept;
-      writes_element = record {
+      writes_element = stops_element c.from_residual.ensures.0 (record {
         for = λ name attrs kids anc x h. alike (ap (λ (f : Step). f (take a.len a.text.now)) (emphasis_is (self_at a.own a.run.now a.levels) anc a.opts (tag_of name) attrs kids))
-            (nest-full a.text.now a.len c.requires.2.0 (wrote_here _ _ _ anc x h) (emphasis_step a.opts (tag_of name) ((self_at a.own a.run.now a.levels).below (attrs ∷ anc) (emphasis_scope (scope_of (md_emphasis (tag_of name))) (inline (include_node a.opts))) kids []).text) c.in-Full.is);
-      };
+            (nest-full a.text.now a.len c.requires.2.0 (wrote_here _ _ _ anc x h) (emphasis_step a.opts (tag_of name) ((self_at a.own a.run.now a.levels).below (attrs ∷ anc) (emphasis_scope (scope_of (md_emphasis (tag_of name))) (inline (include_node a.opts))) kids []).text) c.in_err-n.was);
+      });
     }
 
 pub write_link-node_place-place-requires : goal.write_link-node_place-place-requires
@@ -1647,10 +1635,10 @@ write_list-items-requires t c =
 
 pub write_list-end_list-requires : goal.write_list-end_list-requires
 write_list-end_list-requires t c =
-    forest-reaches c.items.ensures.writes_forest (placed_kids c.args.sheet.now c.args.nodes.now c.args.at c.requires.0 c.node_end-to.ensures) c.in-Done.is
+    forest-reaches c.items.ensures.writes_forest (placed_kids c.args.sheet.now c.args.nodes.now c.args.at c.requires.0 c.node_end-to.ensures) c.in_ok-n.was
 
-pub write_list-returns-in-Done : goal.write_list-returns-in-Done
-write_list-returns-in-Done t c =
+pub write_list-returns : goal.write_list-returns
+write_list-returns t c =
     let a = c.args in
     let self = self_at a.own a.run.now a.levels in record {
       kept = kept_in (omega arith) (omega (arith, c.node_end-to.ensures)) c.items.ensures.kept;
@@ -1658,21 +1646,21 @@ write_list-returns-in-Done t c =
         for = λ name attrs kids anc x h.
             both-done a.text.now a.len c.requires.2.0 (write_list self anc a.opts (tag_of name) attrs kids) (list_children self (attrs ∷ anc) kids c.new-ctx.result) (ended_list a.opts)
             (list_parts a.sheet.now c.node_place-place.result a.name a.opts c.new-ctx.ensures c.kind_of-kind.ensures self anc (take a.len a.text.now) c.node_place-place.ensures c.requires.1 x)
-            (c.items.ensures.writes_forest.for a.at kids (attrs ∷ anc) (element_kids x c.node_end-to.ensures) (around_it anc x h)) c.in-Done.is c.end_list.ensures;
+            (c.items.ensures.writes_forest.for a.at kids (attrs ∷ anc) (element_kids x c.node_end-to.ensures) (around_it anc x h)) c.in_ok-n.was c.end_list.ensures;
       };
     }
 
-pub write_list-returns-in-Full : goal.write_list-returns-in-Full
-write_list-returns-in-Full t c =
+pub write_list-returns-in_err-n : goal.write_list-returns-in_err-n
+write_list-returns-in_err-n t c =
     let a = c.args in
     let self = self_at a.own a.run.now a.levels in record {
       kept = kept_in (omega arith) (omega (arith, c.node_end-to.ensures)) c.items.ensures.kept;
-      writes_element = record {
+      writes_element = stops_element c.from_residual.ensures.0 (record {
         for = λ name attrs kids anc x h.
             both-full a.text.now a.len c.requires.2.0 (write_list self anc a.opts (tag_of name) attrs kids) (list_children self (attrs ∷ anc) kids c.new-ctx.result) (ended_list a.opts)
             (list_parts a.sheet.now c.node_place-place.result a.name a.opts c.new-ctx.ensures c.kind_of-kind.ensures self anc (take a.len a.text.now) c.node_place-place.ensures c.requires.1 x)
-            (c.items.ensures.writes_forest.for a.at kids (attrs ∷ anc) (element_kids x c.node_end-to.ensures) (around_it anc x h)) c.in-Full.is;
-      };
+            (c.items.ensures.writes_forest.for a.at kids (attrs ∷ anc) (element_kids x c.node_end-to.ensures) (around_it anc x h)) c.in_err-n.was;
+      });
     }
 
 pub write_table-node_end-to-requires : goal.write_table-node_end-to-requires
@@ -1745,7 +1733,7 @@ write_table-overflow_sub-end t c =
     let wrote_here : (name : Bytes) (attrs : List Attr) (kids : Forest) (anc : Ancestors) → ElementAt c.args.sheet.now c.args.nodes.now c.args.at name attrs kids → Around c.args.sheet.now c.args.nodes.now (parent_at c.args.nodes.now c.args.at) anc → RowsWrites (length c.args.text.now) c.cells.new.text (table_lengths c.args.sheet.now c.cells.new.nodes c.next_filled_row-first.result c.node_end-to.result) c.cells.result (rows_texts (self_at c.args.own c.args.run.now c.args.levels) c.args.opts (from_cells (rows_of (attrs ∷ anc) kids))) (take c.args.len c.args.text.now) = λ name attrs kids anc x h. let a = c.args in c.cells.ensures.rows_writes (from_cells (rows_of (attrs ∷ anc) kids)) (rows_at a.sheet.now a.nodes.now c.next_filled_row-first.result c.node_end-to.result (from_cells (rows_of (attrs ∷ anc) kids)) (filled_here _ _ _ anc x h)) in
     let a = c.args in
     let p = c.requires.0 in
-    omega (arith, behind_count a.text.now a.len (concat (rows_texts (self_at a.own a.run.now a.levels) a.opts (from_cells (rows_of (p.0.1 ∷ p.1.0) p.0.2)))) c.requires.1.0 (done c.in-Done.is (wrote_here _ _ _ p.1.0 p.0.3 p.1.1).writes))
+    omega (arith, behind_count a.text.now a.len (concat (rows_texts (self_at a.own a.run.now a.levels) a.opts (from_cells (rows_of (p.0.1 ∷ p.1.0) p.0.2)))) c.requires.1.0 (done c.in_ok-end.was (wrote_here _ _ _ p.1.0 p.0.3 p.1.1).writes))
 
 pub write_table-push_table-requires : goal.write_table-push_table-requires
 write_table-push_table-requires t c =
@@ -1765,16 +1753,16 @@ write_table-push_table-requires t c =
     let R = from_cells (rows_of (p.0.1 ∷ p.1.0) p.0.2) in
     let k = c.cells.ensures.kept in
     let w = wrote_here _ _ _ p.1.0 p.0.3 p.1.1 in
-    let d = done c.in-Done.is w.writes in (
+    let d = done c.in_ok-end.was w.writes in (
       table_at a.sheet.now c.cells.new.nodes a.at (a.at + 1) c.next_filled_row-first.result c.node_end-to.result p.0.2 (p.0.1 ∷ p.1.0)
           (rep_kept k a.sheet.now a.at (a.at + 1) c.node_end-to.result p.0.2 (element_kids p.0.3 c.node_end-to.ensures)) (omega arith) c.next_filled_row-first.ensures.later (some_here)
           (rows_at_kept k a.sheet.now c.next_filled_row-first.result c.node_end-to.result R (filled_here_4 _ _ _ p.1.0 p.0.3 p.1.1)),
       omega (arith, reaches d, behind_count a.text.now a.len (concat (rows_texts (self_at a.own a.run.now a.levels) a.opts R)) c.requires.1.0 d),
-      table_sum (self_at a.own a.run.now a.levels) a.opts R a.text.now a.len c.requires.1.0 d (w.lengths_are c.in-Done.end c.in-Done.is),
+      table_sum (self_at a.own a.run.now a.levels) a.opts R a.text.now a.len c.requires.1.0 d (w.lengths_are c.in_ok-end.end c.in_ok-end.was),
     )
 
-pub write_table-returns-in-Done : goal.write_table-returns-in-Done
-write_table-returns-in-Done t c =
+pub write_table-returns : goal.write_table-returns
+write_table-returns t c =
     let rows_here : (name : Bytes) (attrs : List Attr) (kids : Forest) (anc : Ancestors) → ElementAt c.args.sheet.now c.args.nodes.now c.args.at name attrs kids → Around c.args.sheet.now c.args.nodes.now (parent_at c.args.nodes.now c.args.at) anc → Rows c.args.sheet.now c.args.nodes.now (c.args.at + 1) c.node_end-to.result (rows_of (attrs ∷ anc) kids) = λ name attrs kids anc x h. let a = c.args in rows_of_lem a.sheet.now a.nodes.now a.at (a.at + 1) c.node_end-to.result kids (attrs ∷ anc) (element_kids x c.node_end-to.ensures) (around_it anc x h) (omega arith) in
     let filled_here : (name : Bytes) (attrs : List Attr) (kids : Forest) (anc : Ancestors) → ElementAt c.args.sheet.now c.args.nodes.now c.args.at name attrs kids → Around c.args.sheet.now c.args.nodes.now (parent_at c.args.nodes.now c.args.at) anc → RowsAt c.args.sheet.now c.args.nodes.now c.next_filled_row-first.result c.node_end-to.result (from_cells (rows_of (attrs ∷ anc) kids)) = λ name attrs kids anc x h. c.next_filled_row-first.ensures.rows (rows_of (attrs ∷ anc) kids) (rows_here _ _ _ anc x h) in
     let wrote_here : (name : Bytes) (attrs : List Attr) (kids : Forest) (anc : Ancestors) → ElementAt c.args.sheet.now c.args.nodes.now c.args.at name attrs kids → Around c.args.sheet.now c.args.nodes.now (parent_at c.args.nodes.now c.args.at) anc → RowsWrites (length c.args.text.now) c.cells.new.text (table_lengths c.args.sheet.now c.cells.new.nodes c.next_filled_row-first.result c.node_end-to.result) c.cells.result (rows_texts (self_at c.args.own c.args.run.now c.args.levels) c.args.opts (from_cells (rows_of (attrs ∷ anc) kids))) (take c.args.len c.args.text.now) = λ name attrs kids anc x h. let a = c.args in c.cells.ensures.rows_writes (from_cells (rows_of (attrs ∷ anc) kids)) (rows_at a.sheet.now a.nodes.now c.next_filled_row-first.result c.node_end-to.result (from_cells (rows_of (attrs ∷ anc) kids)) (filled_here _ _ _ anc x h)) in
@@ -1789,16 +1777,16 @@ write_table-returns-in-Done t c =
         for = λ name attrs kids anc x h.
             let R = from_cells (rows_of (attrs ∷ anc) kids) in
             let w = wrote_here _ _ _ anc x h in
-            let d = done c.in-Done.is w.writes in
+            let d = done c.in_ok-end.was w.writes in
             alike (table_written (self_at a.own a.run.now a.levels) anc a.opts name attrs kids (take a.len a.text.now) (sym (writable_here _ _ _ anc x h) ∙ c.if-not-is_table_node_writable.false))
             (table_done (self_at a.own a.run.now a.levels) a.opts R a.text.now a.len c.requires.1.0 d
-            (c.push_table.ensures (self_at a.own a.run.now a.levels) a.opts R (rows_at_kept c.cells.ensures.kept a.sheet.now c.next_filled_row-first.result c.node_end-to.result R (filled_here_3 _ _ _ anc x h)) (w.lengths_are c.in-Done.end c.in-Done.is)
+            (c.push_table.ensures (self_at a.own a.run.now a.levels) a.opts R (rows_at_kept c.cells.ensures.kept a.sheet.now c.next_filled_row-first.result c.node_end-to.result R (filled_here_3 _ _ _ anc x h)) (w.lengths_are c.in_ok-end.end c.in_ok-end.was)
             (behind_bytes a.text.now a.len (concat (rows_texts (self_at a.own a.run.now a.levels) a.opts R)) c.requires.1.0 d)));
       };
     }
 
-pub write_table-returns-in-Full : goal.write_table-returns-in-Full
-write_table-returns-in-Full t c =
+pub write_table-returns-in_err-end : goal.write_table-returns-in_err-end
+write_table-returns-in_err-end t c =
     let rows_here : (name : Bytes) (attrs : List Attr) (kids : Forest) (anc : Ancestors) → ElementAt c.args.sheet.now c.args.nodes.now c.args.at name attrs kids → Around c.args.sheet.now c.args.nodes.now (parent_at c.args.nodes.now c.args.at) anc → Rows c.args.sheet.now c.args.nodes.now (c.args.at + 1) c.node_end-to.result (rows_of (attrs ∷ anc) kids) = λ name attrs kids anc x h. let a = c.args in rows_of_lem a.sheet.now a.nodes.now a.at (a.at + 1) c.node_end-to.result kids (attrs ∷ anc) (element_kids x c.node_end-to.ensures) (around_it anc x h) (omega arith) in
     let filled_here : (name : Bytes) (attrs : List Attr) (kids : Forest) (anc : Ancestors) → ElementAt c.args.sheet.now c.args.nodes.now c.args.at name attrs kids → Around c.args.sheet.now c.args.nodes.now (parent_at c.args.nodes.now c.args.at) anc → RowsAt c.args.sheet.now c.args.nodes.now c.next_filled_row-first.result c.node_end-to.result (from_cells (rows_of (attrs ∷ anc) kids)) = λ name attrs kids anc x h. c.next_filled_row-first.ensures.rows (rows_of (attrs ∷ anc) kids) (rows_here _ _ _ anc x h) in
     let writable_here : (name : Bytes) (attrs : List Attr) (kids : Forest) (anc : Ancestors) → ElementAt c.args.sheet.now c.args.nodes.now c.args.at name attrs kids → Around c.args.sheet.now c.args.nodes.now (parent_at c.args.nodes.now c.args.at) anc → c.is_table_node_writable.result ≡ is_table_node_writable kids (from_cells (rows_of (attrs ∷ anc) kids)) = λ name attrs kids anc x h. c.is_table_node_writable.ensures c.args.at kids (from_cells (rows_of (attrs ∷ anc) kids)) (element_kids x c.node_end-to.ensures) (filled_here _ _ _ anc x h) in
@@ -1807,10 +1795,10 @@ write_table-returns-in-Full t c =
     let wrote_here : (name : Bytes) (attrs : List Attr) (kids : Forest) (anc : Ancestors) → ElementAt c.args.sheet.now c.args.nodes.now c.args.at name attrs kids → Around c.args.sheet.now c.args.nodes.now (parent_at c.args.nodes.now c.args.at) anc → RowsWrites (length c.args.text.now) c.cells.new.text (table_lengths c.args.sheet.now c.cells.new.nodes c.next_filled_row-first.result c.node_end-to.result) c.cells.result (rows_texts (self_at c.args.own c.args.run.now c.args.levels) c.args.opts (from_cells (rows_of (attrs ∷ anc) kids))) (take c.args.len c.args.text.now) = λ name attrs kids anc x h. let a = c.args in c.cells.ensures.rows_writes (from_cells (rows_of (attrs ∷ anc) kids)) (rows_at a.sheet.now a.nodes.now c.next_filled_row-first.result c.node_end-to.result (from_cells (rows_of (attrs ∷ anc) kids)) (filled_here_2 _ _ _ anc x h)) in
     let a = c.args in record {
       kept = kept_in (omega (arith, c.next_filled_row-first.ensures.later)) (omega (arith, c.node_end-to.ensures)) c.cells.ensures.kept;
-      writes_element = record {
+      writes_element = stops_element c.from_residual.ensures.0 (record {
         for = λ name attrs kids anc x h.
             let R = from_cells (rows_of (attrs ∷ anc) kids) in
             alike (table_written (self_at a.own a.run.now a.levels) anc a.opts name attrs kids (take a.len a.text.now) (sym (writable_here _ _ _ anc x h) ∙ c.if-not-is_table_node_writable.false))
-            (record { says = table_full (self_at a.own a.run.now a.levels) a.opts R a.text.now a.len (full c.in-Full.is (wrote_here _ _ _ anc x h).writes) });
-      };
+            (record { says = table_full (self_at a.own a.run.now a.levels) a.opts R a.text.now a.len (full c.in_err-end.was (wrote_here _ _ _ anc x h).writes) });
+      });
     }

@@ -7,7 +7,7 @@ use Rattle.serializer.proofs.RowWriting.{RowProgress}
 use Rattle.serializer.proofs.RowsWriting.{RowsProgress}
 use Rattle.serializer.proofs.Turns.{Turn}
 use Rattle.serializer.specs.Options.{unpacked}
-use Rattle.serializer.specs.Writers.{self_at, progress_at, FitsIn}
+use Rattle.serializer.specs.Writers.{self_at, progress_of, FitsIn}
 use Rattle.spec.specs.Call.{tags_to_skip}
 use Rattle.spec.specs.Md.Elements.List.{item_children, list_children}
 use Rattle.spec.specs.Md.Serializer.{serializer, write_nodes}
@@ -104,8 +104,8 @@ abbrev pub decreases-cells-loop-r : goal.decreases-cells-loop-r
 decreases-cells-loop-r l = l.to - l.r
 
 abbrev pub invariant-children-loop-c : goal.invariant-children-loop-c
-invariant-children-loop-c l = (l.end ≤ length l.text) × (length l.text ≡ length l.initial.text) × Kept l.from l.to l.initial.nodes l.nodes × (l.from ≤ l.c) × Placeds l.sheet l.initial.nodes l.c l.to
-    × GoingOn l.sheet l.initial.nodes l.from l.to (λ anc f. item_children (self_at l.own l.run l.levels) anc f (item_of l.item) (progress_at l.first l.due (take l.len l.initial.text))) (length l.initial.text) (self_at l.own l.run l.levels) (item_of l.item) l.text l.c l.end l.is_first l.is_due
+invariant-children-loop-c l = (l.going.len ≤ length l.text) × (length l.text ≡ length l.initial.text) × Kept l.from l.to l.initial.nodes l.nodes × (l.from ≤ l.c) × Placeds l.sheet l.initial.nodes l.c l.to
+    × GoingOn l.sheet l.initial.nodes l.from l.to (λ anc f. item_children (self_at l.own l.run l.levels) anc f (item_of l.item) (progress_of l.initial.going l.initial.text)) (length l.initial.text) (self_at l.own l.run l.levels) (item_of l.item) l.text l.c l.going
 
 abbrev pub decreases-children-loop-c : goal.decreases-children-loop-c
 decreases-children-loop-c l = l.to - l.c
