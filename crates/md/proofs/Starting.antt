@@ -25,7 +25,7 @@ use Rattle.tree.proofs.Ancestry.{FoundAt, around_in, start_at_lem}
 use Rattle.tree.proofs.Ranges.{rep_size}
 use Rattle.text.specs.Writes.{Written, Writes}
 use Rattle.text.specs.Writes.{Wrote, no_room}
-use Rattle.std.specs.Prelude.{Ok, Err}
+use Rattle.std.specs.Prelude.{Ok}
 use Rattle.text.proofs.Writing.{yes, no, done, reaches, alike}
 use Rattle.nodes.specs.Stands.{Placeds}
 use Rattle.serializer.specs.Writers.{WritesForest}

@@ -7,7 +7,7 @@ use crate::setup::{
     parsed, truth,
 };
 use input::fields::is_same;
-use text::buffer::{Wrote};
+use text::buffer::Wrote;
 
 // No case has this answer.
 fn unknown() -> Wrote {

@@ -88,7 +88,7 @@ pub fn indented(text: &mut [u8], len: usize, case: Case, a: &[u8]) -> Wrote
         return Err(Full);
     }
     push_all(text, len, a)?;
-lists_links::list_indented::push_indented(text, len, n, it)
+    lists_links::list_indented::push_indented(text, len, n, it)
 }
 
 // a stands behind the text; 32 says that it counts.
@@ -101,10 +101,10 @@ pub fn code(text: &mut [u8], len: usize, case: Case, a: &[u8]) -> Wrote
     }
     let counts = has(case, 32);
     push_all(text, len, a)?;
-if counts {
-                return marks::code::push_code_text(text, len, len, n, n);
-            }
-            marks::code::push_code_text(text, len, len, n, 0)
+    if counts {
+        return marks::code::push_code_text(text, len, len, n, n);
+    }
+    marks::code::push_code_text(text, len, len, n, 0)
 }
 
 // a stands behind the text, b is the language.
@@ -116,7 +116,7 @@ pub fn fenced(text: &mut [u8], len: usize, a: &[u8], b: &[u8]) -> Wrote
         return Err(Full);
     }
     push_all(text, len, a)?;
-marks::code::push_fenced_block(text, len, len, n, b)
+    marks::code::push_fenced_block(text, len, len, n, b)
 }
 
 // a stands behind the text, b is the marker.
@@ -128,7 +128,7 @@ pub fn emphasized(text: &mut [u8], len: usize, a: &[u8], b: &[u8]) -> Wrote
         return Err(Full);
     }
     push_all(text, len, a)?;
-marks::emphasis::push_emphasis(text, len, n, b)
+    marks::emphasis::push_emphasis(text, len, n, b)
 }
 
 // A destination is no longer than a sheet.

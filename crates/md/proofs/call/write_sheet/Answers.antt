@@ -19,17 +19,17 @@ serialize-requires c =
 
 pub clear_behind-requires : goal.clear_behind-requires
 clear_behind-requires c =
-    reaches (done c.in-Done.is c.serialize.ensures)
+    reaches (done c.in-Ok.is c.serialize.ensures)
 
-pub returns-in-Done : goal.returns-in-Done
-returns-in-Done c =
+pub returns-in-Ok : goal.returns-in-Ok
+returns-in-Ok c =
     let a = c.args in
     answers_written (written a.sheet.now (skip_list a.own a.run.now) a.start a.include_node) a.nodes.now a.text.now c.serialize.new.nodes c.clear.ensures
-    (c.serialize.auto.nodes ∙ c.store_nodes.auto.nodes) (done c.in-Done.is c.serialize.ensures) c.clear_behind.ensures
+    (c.serialize.auto.nodes ∙ c.store_nodes.auto.nodes) (done c.in-Ok.is c.serialize.ensures) c.clear_behind.ensures
 
-pub returns-in-Full : goal.returns-in-Full
-returns-in-Full c =
+pub returns-in-Err : goal.returns-in-Err
+returns-in-Err c =
     let a = c.args in
-    answers_full (written a.sheet.now (skip_list a.own a.run.now) a.start a.include_node) a.nodes.now a.text.now c.serialize.new.nodes c.clear-in-Full.ensures
-    (c.serialize.auto.nodes ∙ c.store_nodes.auto.nodes) c.serialize.new.text (full c.in-Full.is c.serialize.ensures) c.clear-in-Full-2.ensures
+    answers_full (written a.sheet.now (skip_list a.own a.run.now) a.start a.include_node) a.nodes.now a.text.now c.serialize.new.nodes c.clear-in-Err.ensures
+    (c.serialize.auto.nodes ∙ c.store_nodes.auto.nodes) c.serialize.new.text (full c.in-Err.is c.serialize.ensures) c.clear-in-Err-2.ensures
     c.serialize.auto.text
