@@ -166,7 +166,10 @@ pub fn drop_front(text: &mut [u8], from: usize, n: usize)
     requires { from + n ≤ length text.old }
     ensures { (take n text.new ≡ take n (drop from text.old)) × (length text.new ≡ length text.old) }
 {
-    text.copy_within(from..from + n, 0);
+    // most texts stand there already
+    if from != 0 {
+        text.copy_within(from..from + n, 0);
+    }
 }
 
 // Moves n bytes from `from` up to `to`.
