@@ -1,10 +1,9 @@
 -- Numbers of several bytes in memory: reading them, and storing them. Assumes nothing.
 use Prim.Native.Nat.{ℕ, ◌+◌, ◌/◌, ◌%◌, ◌≤◌, ◌<◌}
 use native.Mathlib.Omega.{arith}
-use native.Mathlib.Numerals.{add-one}
-use mathlib.Core.Path.{◌≡◌, ◌∙◌, ap, sym}
-use lib.ListN.{length, get_or, take, set, replicate, length-set, replicate-append-replicate}
-use lib.Seq.{get_or-set_same, get_or-set_other, take-suc-set, take_all}
+use mathlib.Core.Path.{◌≡◌, ◌∙◌}
+use lib.ListN.{length, get_or, set, length-set}
+use lib.Seq.{get_or-set_same, get_or-set_other}
 use Rattle.spec.specs.Bytes.{Bytes}
 use Rattle.spec.specs.Fields.{word}
 use Rattle.tree.specs.Memory.{word_at, quad_at, long_at, Stored}
@@ -62,14 +61,3 @@ stored_long {a} {b} {c} {j} v p q =
       before = λ i l. q.before i (omega arith) ∙ p.before i l;
       behind = λ i l. q.behind i (omega arith) ∙ p.behind i (omega arith);
     }
-
--- ---- clearing
-
-pub clear_turn : (m : Bytes) (i : ℕ) → i < length m → take i m ≡ replicate i 0 → take (i + 1) (set m i 0) ≡ replicate (i + 1) 0
-clear_turn m i h e =
-    rw (add-one, take-suc-set m i 0 h, e) (replicate-append-replicate i 1 0 ∙ ap (λ (n : ℕ). replicate n 0) (add-one i))
-
-pub clear_end : (m : Bytes) (i n : ℕ) → length m ≤ i → i ≤ length m → length m ≡ n → take i m ≡ replicate i 0 → m ≡ replicate n 0
-clear_end m i n h k l e =
-    let q : i ≡ n = omega arith in
-    sym (take_all i m h) ∙ (e ∙ ap (λ (x : ℕ). replicate x 0) q)

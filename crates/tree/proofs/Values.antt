@@ -1,29 +1,33 @@
 -- What an answer about an attribute says. Assumes nothing.
-use Prim.Native.Nat.{ℕ, ◌-◌, ◌≤◌}
+use Prim.Native.Nat.{◌-◌, ◌≤◌}
 use mathlib.Core.Path.{◌≡◌, refl, ap, ◌∙◌, sym, subst}
 use mathlib.Core.Bool.{Bool, true, false, cond, ◌||◌, or-false, or_self}
 use mathlib.Core.List.{List, [], ◌∷◌}
 use mathlib.Core.Option.{Option, none, some, map}
-use lib.ListN.{length, take, drop}
+use lib.ListN.{length, drop, length-take, length-drop}
+use native.Mathlib.Omega.{arith}
 use Rattle.spec.specs.Bytes.{Bytes, ascii, same, among}
 use Rattle.spec.specs.Tree.{Attr, attr}
 use Rattle.spec.specs.Md.Elements.Code.{sanitize_attr_value, find_code_lang_attribute}
-use Rattle.tree.specs.Attributes.{either_attr, language_attr, InSheet, value_in, Valued}
-use Rattle.tree.specs.declared.attributes.Value.{Value}
-use Rattle.tree.specs.declared.attributes.Value.TheVariants.{At, Missing}
+use Rattle.std.specs.Prelude.{Option as Answer, Some, None}
+use Rattle.std.specs.Borrow.{Bor}
+use Rattle.tree.specs.Attributes.{either_attr, language_attr, PartOf, InSheet, value_in, Valued}
 use Rattle.input.proofs.Walking.{same_comm}
 
-module _ {sh : Bytes} {r : Value} {v : Option Bytes} (h : Valued sh r v) where
+module _ {sh : Bytes} {r : Answer (Bor Bytes)} {v : Option Bytes} (h : Valued sh r v) where
   pub valued_as : {w : Option Bytes} → v ≡ w → Valued sh r w
   valued_as e = record { inside = h.inside; value_is = sym e ∙ h.value_is }
 
-  pub found : {a b : ℕ} → r ≡ At a b → (a ≤ b) × (b ≤ length sh) × (v ≡ some (take (b - a) (drop a sh)))
-  found e =
-      let i = subst (InSheet sh) e h.inside in
-      (i.0, i.1, h.value_is ∙ ap (value_in sh) e)
+  pub found : {x : Bor Bytes} → r ≡ Some x → PartOf sh x.now × (v ≡ some x.now)
+  found e = (subst (InSheet sh) e h.inside, h.value_is ∙ ap value_in e)
 
-  pub missing : r ≡ Missing → v ≡ none
-  missing e = h.value_is ∙ ap (value_in sh) e
+  pub missing : r ≡ None → v ≡ none
+  missing e = h.value_is ∙ ap value_in e
+
+-- ---- parts of the sheet
+
+pub part_short : (sh x : Bytes) → PartOf sh x → length x ≤ length sh
+part_short sh x p = omega (arith, ap length p.4, length-take (p.1 - p.0) (drop p.0 sh), length-drop p.0 sh)
 
 pub either_same : (name : Bytes) (attrs : List Attr) → either_attr name name attrs ≡ attr name attrs
 unfolding either_attr attr

@@ -59,9 +59,5 @@ pub fn store_long(ns: &mut [u8], j: usize, v: usize)
 pub fn clear(m: &mut [u8])
     ensures { m.new ≡ replicate (length m.old) 0 }
 {
-    let mut i = 0;
-    while i < m.len() {
-        m[i] = 0;
-        i += 1;
-    }
+    m.fill(0);
 }

@@ -4,21 +4,9 @@ ghost use Rattle.tree.specs.Memory.{place_at, number_at, end_at, parent_at};
 ghost use Rattle.tree.specs.Nodes.{text_at, PartIs, first_child, next_sibling};
 
 use crate::memory::{read_quad, read_word};
+use crate::tags::TEXT;
 use input::fields::span_at;
-
-// A part of the sheet.
-#[derive(Clone, Copy)]
-pub struct Part {
-    pub start: usize,
-    pub end: usize,
-}
-
-// A node, or none.
-#[derive(Clone, Copy)]
-pub enum Node {
-    At(usize),
-    Nothing,
-}
+use std::ops::Range;
 
 // Where in the sheet the field of node i stands.
 pub fn node_place(ns: &[u8], i: usize) -> usize
@@ -53,26 +41,31 @@ pub fn node_parent(ns: &[u8], i: usize) -> usize
     read_word(ns, i * 24 + 6)
 }
 
-pub fn first_child(ns: &[u8], i: usize) -> Node
+// The first child of node i, if it has one.
+pub fn first_child(ns: &[u8], i: usize) -> Option<usize>
     requires { i * 24 + 24 ≤ length ns.now }
     ensures { result ≡ first_child ns.now i }
 {
-    if i + 1 < node_end(ns, i) {
-        return Node::At(i + 1);
+    let next = i + 1;
+    if next < node_end(ns, i) {
+        Some(next)
+    } else {
+        None
     }
-    Node::Nothing
 }
 
-pub fn next_sibling(ns: &[u8], i: usize) -> Node
+// The node that follows node i among its siblings, if it is not the last.
+pub fn next_sibling(ns: &[u8], i: usize) -> Option<usize>
     requires { (i * 24 + 24 ≤ length ns.now) × (parent_at ns.now i * 24 + 24 ≤ length ns.now) }
     ensures { result ≡ next_sibling ns.now i }
 {
     let next = node_end(ns, i);
     let up = node_parent(ns, i);
     if next < node_end(ns, up) {
-        return Node::At(next);
+        Some(next)
+    } else {
+        None
     }
-    Node::Nothing
 }
 
 // What kind of node has its field at `place`: the tag of that field.
@@ -83,24 +76,14 @@ pub fn tag_at(sheet: &[u8], place: usize) -> u8
     sheet[place]
 }
 
-// The bytes of that node where it is a text; else no bytes. Over the nodes of a range, one after the other, these are the
+// Where in the sheet the bytes of that node stand, where it is a text; else no bytes. Over the nodes of a range, one after the other, these are the
 // pieces of `text_of`.
-pub fn text_at(sheet: &[u8], place: usize) -> Part
+pub fn text_at(sheet: &[u8], place: usize) -> Range<usize>
     requires { place + 3 ≤ length sheet.now }
     ensures { PartIs sheet.now result (text_at sheet.now place) }
 {
     let f = span_at(sheet, place);
-    let tag = f.tag;
     let start = f.start;
-    let end = f.end;
-    if tag != 4 {
-        return Part {
-            start: start,
-            end: start,
-        };
-    }
-    Part {
-        start: start,
-        end: end,
-    }
+    let end = if f.tag == TEXT { f.end } else { start };
+    start..end
 }

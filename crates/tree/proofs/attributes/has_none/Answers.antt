@@ -6,10 +6,10 @@ use Rattle.tree.proofs.attributes.has_none.Goals as goal
 
 pub returns-then-s-p-lt3 : goal.returns-then-s-p-lt3
 returns-then-s-p-lt3 c h =
-    let s = c.args.s.now in let e = c.span_at-e in
+    let s = c.args.s.now in let e = c.span_at-p in
     rw e.ensures.at at (attrs_none s e.result.end c.if-s-p-lt3.true)
 
-pub returns : goal.returns
-returns c h =
-    let s = c.args.s.now in let e = c.span_at-e in
+pub returns-else-s-p-lt3 : goal.returns-else-s-p-lt3
+returns-else-s-p-lt3 c h =
+    let s = c.args.s.now in let e = c.span_at-p in
     rw e.ensures.at at (attrs_end s e.result.end (span_at s e.result.end) (omega arith) refl (sym c.ends_attributes.ensures ∙ h))
