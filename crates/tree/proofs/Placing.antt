@@ -19,15 +19,3 @@ placed i entry end parent {a} {b} {c} {d} p q r =
       before = λ j l. r.before j (omega arith) ∙ (q.before j (omega arith) ∙ p.before j l);
       behind = λ j l. r.behind j (omega arith) ∙ (q.behind j (omega arith) ∙ p.behind j (omega arith));
     }
-
-module _ (tag : ℕ) where
-  pub is_open : tag ≡ 1 → kind_of tag ≡ opens
-  is_open e = rw (eq-eqb tag 1 e)
-
-  module _ (n1 : tag ≡ 1 → ⊥) (n6 : tag ≡ 6 → ⊥) where
-    pub is_text_lem : tag ≡ 4 → kind_of tag ≡ texts
-    is_text_lem e = rw (ne_eqb tag 1 n1, ne_eqb tag 6 n6, eq-eqb tag 4 e)
-
-    module _ (n4 : tag ≡ 4 → ⊥) where
-      pub is_comment : tag ≡ 5 → kind_of tag ≡ comments
-      is_comment e = rw (ne_eqb tag 1 n1, ne_eqb tag 6 n6, ne_eqb tag 4 n4, eq-eqb tag 5 e)

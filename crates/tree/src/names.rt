@@ -29,106 +29,41 @@ fn place_in(run: &[u8], name: &[u8]) -> usize
     0
 }
 
-// The number of a name of one byte.
-fn number_of_one(a: u8) -> usize
-    ensures { result ≡ tag_of (a ∷ []) }
-{
-    match a {
-        b'p' => 4,
-        b'a' => 21,
-        b'b' => 26,
-        b'i' => 28,
-        _ => 0,
-    }
-}
-
-// The names of two bytes, each as one number with the first byte above the second.
-const H1: u16 = 0x6831;
-
-const H2: u16 = 0x6832;
-
-const H3: u16 = 0x6833;
-
-const H4: u16 = 0x6834;
-
-const H5: u16 = 0x6835;
-
-const H6: u16 = 0x6836;
-
-const UL: u16 = 0x756c;
-
-const OL: u16 = 0x6f6c;
-
-const DL: u16 = 0x646c;
-
-const HR: u16 = 0x6872;
-
-const LI: u16 = 0x6c69;
-
-const TR: u16 = 0x7472;
-
-const TH: u16 = 0x7468;
-
-const TD: u16 = 0x7464;
-
-const BR: u16 = 0x6272;
-
-const EM: u16 = 0x656d;
-
-// The number of a name of two bytes.
-fn number_of_two(a: u8, b: u8) -> usize
-    ensures { result ≡ tag_of (a ∷ b ∷ []) }
-{
-    match a as u16 * 256 + b as u16 {
-        H1 => 5,
-        H2 => 6,
-        H3 => 7,
-        H4 => 8,
-        H5 => 9,
-        H6 => 10,
-        UL => 11,
-        OL => 12,
-        DL => 13,
-        HR => 15,
-        LI => 16,
-        TR => 17,
-        TH => 18,
-        TD => 19,
-        BR => 20,
-        EM => 27,
-        _ => 0,
-    }
-}
-
-// `number` where the name is `known`, else `other`.
-fn number_or(name: &[u8], known: &[u8], number: usize, other: usize) -> usize
-    ensures { result ≡ cond (same name.now known.now) number other }
-{
-    if is_same(name, known) { number } else { other }
-}
-
-// The number of a name, by its length.
+// The number of a name.
 fn name_number(name: &[u8]) -> usize
     ensures { result ≡ tag_of name.now }
 {
-    match name.len() {
-        1 => number_of_one(name[0]),
-        2 => number_of_two(name[0], name[1]),
-        3 => number_or(
-            name,
-            b"div",
-            3,
-            number_or(name, b"img", 22, number_or(name, b"pre", 23, 0)),
-        ),
-        4 => number_or(name, b"code", 24, 0),
-        5 => number_or(
-            name,
-            b"table",
-            14,
-            number_or(name, b"thead", 29, number_or(name, b"tbody", 30, 0)),
-        ),
-        6 => number_or(name, b"strong", 25, 0),
-        7 => number_or(name, b"article", 1, number_or(name, b"section", 2, 0)),
+    match name {
+        b"article" => 1,
+        b"section" => 2,
+        b"div" => 3,
+        b"p" => 4,
+        b"h1" => 5,
+        b"h2" => 6,
+        b"h3" => 7,
+        b"h4" => 8,
+        b"h5" => 9,
+        b"h6" => 10,
+        b"ul" => 11,
+        b"ol" => 12,
+        b"dl" => 13,
+        b"table" => 14,
+        b"hr" => 15,
+        b"li" => 16,
+        b"tr" => 17,
+        b"th" => 18,
+        b"td" => 19,
+        b"br" => 20,
+        b"a" => 21,
+        b"img" => 22,
+        b"pre" => 23,
+        b"code" => 24,
+        b"strong" => 25,
+        b"b" => 26,
+        b"em" => 27,
+        b"i" => 28,
+        b"thead" => 29,
+        b"tbody" => 30,
         _ => 0,
     }
 }

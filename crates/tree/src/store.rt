@@ -7,6 +7,7 @@ ghost use Rattle.tree.specs.Kinds.{kind_of, Placed, FitsAs, TurnedAs, Storable};
 
 use crate::memory::{read_word, store_quad, store_word};
 use crate::names::name_at;
+use crate::tags::{CLOSE, COMMENT, OPEN, TEXT};
 use input::fields::length_at;
 
 // How far storing has come: the nodes begun, and the innermost open one.
@@ -41,30 +42,22 @@ fn store_field(ns: &mut [u8], tag: u8, entry: usize, count: usize, cur: usize) -
     requires { (entry < 4294967296) × FitsAs (kind_of tag) count cur ns.old × (tag ≡ 6 → ⊥) }
     ensures { TurnedAs (kind_of tag) entry count cur ns.old ns.new result }
 {
-    if tag == 1 {
-        store_record(ns, count, entry, count + 1, cur);
-        return Turn {
-            count: count + 1,
-            cur: count,
-        };
-    }
-    if tag == 4 {
-        store_record(ns, count, entry, count + 1, cur);
-        return Turn {
-            count: count + 1,
-            cur: cur,
-        };
-    }
-    if tag == 5 {
-        store_record(ns, count, entry, count + 1, cur);
-        return Turn {
-            count: count + 1,
-            cur: cur,
-        };
-    }
-    Turn {
-        count: count,
-        cur: cur,
+    match tag {
+        OPEN => {
+            store_record(ns, count, entry, count + 1, cur);
+            Turn {
+                count: count + 1,
+                cur: count,
+            }
+        }
+        TEXT | COMMENT => {
+            store_record(ns, count, entry, count + 1, cur);
+            Turn {
+                count: count + 1,
+                cur,
+            }
+        }
+        _ => Turn { count, cur },
     }
 }
 
@@ -88,7 +81,7 @@ fn store_rest(sheet: &[u8], nodes: &mut [u8]) -> usize
     // that its length is not read.
     while p + 3 <= sheet.len() {
         let tag = sheet[p];
-        if tag == 6 {
+        if tag == CLOSE {
             cur = close_node(nodes, count, cur);
             p += 3;
             continue;

@@ -15,16 +15,16 @@ pub close_node-cur-requires : goal.close_node-cur-requires
 close_node-cur-requires c =
     let a = c.args in let l = c.loop-p in
     let room : Storable a.sheet.now (length l.nodes) = subst (Storable a.sheet.now) (sym l.invariant.1) c.requires.0 in
-    fits_close a.sheet.now l.nodes l.p l.count l.cur l.invariant.2 (omega arith) room c.if-tag-eq6.true
+    fits_close a.sheet.now l.nodes l.p l.count l.cur l.invariant.2 (omega arith) room c.if-tag-eq-CLOSE.true
 
-pub loop-p-preserved-then-tag-eq6 : goal.loop-p-preserved-then-tag-eq6
-loop-p-preserved-then-tag-eq6 c =
+pub loop-p-preserved-then-tag-eq-CLOSE : goal.loop-p-preserved-then-tag-eq-CLOSE
+loop-p-preserved-then-tag-eq-CLOSE c =
     let a = c.args in let l = c.loop-p in
     let room : Storable a.sheet.now (length l.nodes) = subst (Storable a.sheet.now) (sym l.invariant.1) c.requires.0 in
     let f = c.close_node-cur in (
       omega arith,
       f.auto.ns ∙ l.invariant.1,
-      stored_close a.sheet.now l.nodes l.p l.count l.cur l.invariant.2 (omega arith) room c.if-tag-eq6.true _ f.result f.ensures.0 f.ensures.1,
+      stored_close a.sheet.now l.nodes l.p l.count l.cur l.invariant.2 (omega arith) room c.if-tag-eq-CLOSE.true _ f.result f.ensures.0 f.ensures.1,
     )
 
 pub entry_of-entry-requires : goal.entry_of-entry-requires
@@ -34,7 +34,7 @@ pub store_field-t-requires : goal.store_field-t-requires
 store_field-t-requires c =
     let a = c.args in let l = c.loop-p in
     let room : Storable a.sheet.now (length l.nodes) = subst (Storable a.sheet.now) (sym l.invariant.1) c.requires.0 in
-    (c.entry_of-entry.ensures.1, fits_field a.sheet.now l.nodes l.p l.count l.cur l.invariant.2 (omega arith) room, c.if-tag-eq6.false)
+    (c.entry_of-entry.ensures.1, fits_field a.sheet.now l.nodes l.p l.count l.cur l.invariant.2 (omega arith) room, c.if-tag-eq-CLOSE.false)
 
 pub loop-p-preserved : goal.loop-p-preserved
 loop-p-preserved c =
