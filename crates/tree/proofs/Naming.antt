@@ -17,6 +17,7 @@ use Rattle.input.specs.Spans.{span_at, field_of}
 use Rattle.input.specs.declared.fields.Span.{Span}
 use Rattle.input.proofs.Walking.{span_fields}
 use Rattle.input.proofs.Every.{none_left}
+use Rattle.std.proofs.lemmas.Bool.Decides.{nat_tests}
 
 module _ (x run : Bytes) (n p : ℕ) (so_far : place 1 x (bodies (fields run)) ≡ place n x (bodies (fields (drop p run)))) where
   module _ (r : Span) (h : p + 3 ≤ length run) (r-is : r ≡ span_at run p) where
@@ -46,7 +47,7 @@ among_place n x (y ∷ ys) = go (same x y) (among_place (suc n) x ys)
     go true e = rw (eqb-suc-zero n)
     go false e = e
 
--- ---- the names that can be the same
+-- ---- the number of a name by its length and its bytes
 
 differ : (x y : Bytes) → (x ≡ y → ⊥) → same x y ≡ false
 differ x y ne = go (same x y) refl
@@ -75,77 +76,100 @@ number_of_lem : (k : ℕ) (x : Bytes) → length x ≡ k → tag_of x ≡ place_
 unfolding tag_of
 number_of_lem k x e = rw (← e) (place_of_lem 1 x names)
 
-pub of_three : (x : Bytes) → length x ≡ 3 → tag_of x ≡ cond (same x (ascii "div")) 3 (cond (same x (ascii "img")) 22 (cond (same x (ascii "pre")) 23 0))
-unfolding place_of names
-of_three x e = number_of_lem 3 x e
+one_bytes : (x : Bytes) → length x ≡ 1 → x ≡ get_or x 0 0 ∷ []
+one_bytes [] e = absurd (omega arith)
+one_bytes (x0 ∷ []) e = refl
+one_bytes (x0 ∷ x1 ∷ x) e = absurd (omega arith)
 
-pub of_four : (x : Bytes) → length x ≡ 4 → tag_of x ≡ cond (same x (ascii "code")) 24 0
-unfolding place_of names
-of_four x e = number_of_lem 4 x e
-
-pub of_five : (x : Bytes) → length x ≡ 5 → tag_of x ≡ cond (same x (ascii "table")) 14 (cond (same x (ascii "thead")) 29 (cond (same x (ascii "tbody")) 30 0))
-unfolding place_of names
-of_five x e = number_of_lem 5 x e
-
-pub of_six : (x : Bytes) → length x ≡ 6 → tag_of x ≡ cond (same x (ascii "strong")) 25 0
-unfolding place_of names
-of_six x e = number_of_lem 6 x e
-
-pub of_seven : (x : Bytes) → length x ≡ 7 → tag_of x ≡ cond (same x (ascii "article")) 1 (cond (same x (ascii "section")) 2 0)
-unfolding place_of names
-of_seven x e = number_of_lem 7 x e
-
-pub one_byte : (x : Bytes) → length x ≡ 1 → x ≡ get_or x 0 0 ∷ []
-one_byte [] e = absurd (omega arith)
-one_byte (a ∷ []) e = refl
-one_byte (a ∷ b ∷ x) e = absurd (omega arith)
-
-pub two_bytes : (x : Bytes) → length x ≡ 2 → x ≡ get_or x 0 0 ∷ get_or x 1 0 ∷ []
+two_bytes : (x : Bytes) → length x ≡ 2 → x ≡ get_or x 0 0 ∷ get_or x 1 0 ∷ []
 two_bytes [] e = absurd (omega arith)
-two_bytes (a ∷ []) e = absurd (omega arith)
-two_bytes (a ∷ b ∷ []) e = refl
-two_bytes (a ∷ b ∷ c ∷ x) e = absurd (omega arith)
+two_bytes (x0 ∷ []) e = absurd (omega arith)
+two_bytes (x0 ∷ x1 ∷ []) e = refl
+two_bytes (x0 ∷ x1 ∷ x2 ∷ x) e = absurd (omega arith)
 
--- ---- a name that is none of a list: where q holds, f has one of the values ks in the list, and another one for the name
+three_bytes : (x : Bytes) → length x ≡ 3 → x ≡ get_or x 0 0 ∷ get_or x 1 0 ∷ get_or x 2 0 ∷ []
+three_bytes [] e = absurd (omega arith)
+three_bytes (x0 ∷ []) e = absurd (omega arith)
+three_bytes (x0 ∷ x1 ∷ []) e = absurd (omega arith)
+three_bytes (x0 ∷ x1 ∷ x2 ∷ []) e = refl
+three_bytes (x0 ∷ x1 ∷ x2 ∷ x3 ∷ x) e = absurd (omega arith)
 
-unfoldable pub covered : (Bytes → Bool) → (Bytes → ℕ) → List ℕ → List Bytes → Bool
-covered q f ks [] = true
-covered q f ks (y ∷ ys) = cond (q y) (isin (f y) ks) true && covered q f ks ys
+four_bytes : (x : Bytes) → length x ≡ 4 → x ≡ get_or x 0 0 ∷ get_or x 1 0 ∷ get_or x 2 0 ∷ get_or x 3 0 ∷ []
+four_bytes [] e = absurd (omega arith)
+four_bytes (x0 ∷ []) e = absurd (omega arith)
+four_bytes (x0 ∷ x1 ∷ []) e = absurd (omega arith)
+four_bytes (x0 ∷ x1 ∷ x2 ∷ []) e = absurd (omega arith)
+four_bytes (x0 ∷ x1 ∷ x2 ∷ x3 ∷ []) e = refl
+four_bytes (x0 ∷ x1 ∷ x2 ∷ x3 ∷ x4 ∷ x) e = absurd (omega arith)
 
--- x is none of ks, as a `match` has it
-abbrev pub Others : ℕ → List ℕ → Type 0
-Others x [] = Unit {0}
-Others x (k ∷ ks) = Others x ks × (x ≡ k → ⊥)
+five_bytes : (x : Bytes) → length x ≡ 5 → x ≡ get_or x 0 0 ∷ get_or x 1 0 ∷ get_or x 2 0 ∷ get_or x 3 0 ∷ get_or x 4 0 ∷ []
+five_bytes [] e = absurd (omega arith)
+five_bytes (x0 ∷ []) e = absurd (omega arith)
+five_bytes (x0 ∷ x1 ∷ []) e = absurd (omega arith)
+five_bytes (x0 ∷ x1 ∷ x2 ∷ []) e = absurd (omega arith)
+five_bytes (x0 ∷ x1 ∷ x2 ∷ x3 ∷ []) e = absurd (omega arith)
+five_bytes (x0 ∷ x1 ∷ x2 ∷ x3 ∷ x4 ∷ []) e = refl
+five_bytes (x0 ∷ x1 ∷ x2 ∷ x3 ∷ x4 ∷ x5 ∷ x) e = absurd (omega arith)
 
-others : (x : ℕ) (ks : List ℕ) → Others x ks → isin x ks ≡ false
-unfolding isin
-others x [] h = refl
-others x (k ∷ ks) h = rw (ne_eqb x k h.1) (others x ks h.0)
+six_bytes : (x : Bytes) → length x ≡ 6 → x ≡ get_or x 0 0 ∷ get_or x 1 0 ∷ get_or x 2 0 ∷ get_or x 3 0 ∷ get_or x 4 0 ∷ get_or x 5 0 ∷ []
+six_bytes [] e = absurd (omega arith)
+six_bytes (x0 ∷ []) e = absurd (omega arith)
+six_bytes (x0 ∷ x1 ∷ []) e = absurd (omega arith)
+six_bytes (x0 ∷ x1 ∷ x2 ∷ []) e = absurd (omega arith)
+six_bytes (x0 ∷ x1 ∷ x2 ∷ x3 ∷ []) e = absurd (omega arith)
+six_bytes (x0 ∷ x1 ∷ x2 ∷ x3 ∷ x4 ∷ []) e = absurd (omega arith)
+six_bytes (x0 ∷ x1 ∷ x2 ∷ x3 ∷ x4 ∷ x5 ∷ []) e = refl
+six_bytes (x0 ∷ x1 ∷ x2 ∷ x3 ∷ x4 ∷ x5 ∷ x6 ∷ x) e = absurd (omega arith)
 
-module _ (q : Bytes → Bool) (f : Bytes → ℕ) (ks : List ℕ) (x : Bytes) (qx : q x ≡ true) (fx : isin (f x) ks ≡ false) where
-  outside : (y : Bytes) → cond (q y) (isin (f y) ks) true ≡ true → same x y ≡ false
-  outside y e = differ x y no
-    where
-      no : x ≡ y → ⊥
-      no p =
-          let t : cond (q x) (isin (f x) ks) true ≡ true = rw p e in
-          false≢true (rw (qx, fx) at t)
+seven_bytes : (x : Bytes) → length x ≡ 7 → x ≡ get_or x 0 0 ∷ get_or x 1 0 ∷ get_or x 2 0 ∷ get_or x 3 0 ∷ get_or x 4 0 ∷ get_or x 5 0 ∷ get_or x 6 0 ∷ []
+seven_bytes [] e = absurd (omega arith)
+seven_bytes (x0 ∷ []) e = absurd (omega arith)
+seven_bytes (x0 ∷ x1 ∷ []) e = absurd (omega arith)
+seven_bytes (x0 ∷ x1 ∷ x2 ∷ []) e = absurd (omega arith)
+seven_bytes (x0 ∷ x1 ∷ x2 ∷ x3 ∷ []) e = absurd (omega arith)
+seven_bytes (x0 ∷ x1 ∷ x2 ∷ x3 ∷ x4 ∷ []) e = absurd (omega arith)
+seven_bytes (x0 ∷ x1 ∷ x2 ∷ x3 ∷ x4 ∷ x5 ∷ []) e = absurd (omega arith)
+seven_bytes (x0 ∷ x1 ∷ x2 ∷ x3 ∷ x4 ∷ x5 ∷ x6 ∷ []) e = refl
+seven_bytes (x0 ∷ x1 ∷ x2 ∷ x3 ∷ x4 ∷ x5 ∷ x6 ∷ x7 ∷ x) e = absurd (omega arith)
 
-  none : (n : ℕ) (ys : List Bytes) → covered q f ks ys ≡ true → place n x ys ≡ 0
-  unfolding place covered
-  none n [] e = refl
-  none n (y ∷ ys) e =
-      let p : (cond (q y) (isin (f y) ks) true ≡ true) × (covered q f ks ys ≡ true) = (and-eq-true_iff _ _).0 e in
-      rw (outside y p.0) (none (suc n) ys p.1)
+pub of_one : (x : Bytes) → length x ≡ 1 → tag_of x ≡ place_of 1 1 (get_or x 0 0 ∷ []) names
+of_one x e = number_of_lem 1 x e ∙ ap (λ (y : Bytes). place_of 1 1 y names) (one_bytes x e)
 
-pub no_number : (q : Bytes → Bool) (f : Bytes → ℕ) (ks : List ℕ) (x : Bytes) → q x ≡ true → Others (f x) ks
-    → covered q f ks names ≡ true → 0 ≡ tag_of x
-unfolding tag_of
-no_number q f ks x qx h e = sym (none q f ks x qx (others (f x) ks h) 1 names e)
+pub of_two : (x : Bytes) → length x ≡ 2 → tag_of x ≡ place_of 2 1 (get_or x 0 0 ∷ get_or x 1 0 ∷ []) names
+of_two x e = number_of_lem 2 x e ∙ ap (λ (y : Bytes). place_of 2 1 y names) (two_bytes x e)
 
--- two bytes, known by the number that they make
-pub two_at : (a b : ℕ) {k : ℕ} → b < 256 → a * 256 + b ≡ k → tag_of (k / 256 ∷ k % 256 ∷ []) ≡ tag_of (a ∷ b ∷ [])
-two_at a b {k} l e =
-    let p : k / 256 ≡ a = omega arith in
-    let q : k % 256 ≡ b = omega arith in
-    rw (p, q)
+pub of_three : (x : Bytes) → length x ≡ 3 → tag_of x ≡ place_of 3 1 (get_or x 0 0 ∷ get_or x 1 0 ∷ get_or x 2 0 ∷ []) names
+of_three x e = number_of_lem 3 x e ∙ ap (λ (y : Bytes). place_of 3 1 y names) (three_bytes x e)
+
+pub of_four : (x : Bytes) → length x ≡ 4 → tag_of x ≡ place_of 4 1 (get_or x 0 0 ∷ get_or x 1 0 ∷ get_or x 2 0 ∷ get_or x 3 0 ∷ []) names
+of_four x e = number_of_lem 4 x e ∙ ap (λ (y : Bytes). place_of 4 1 y names) (four_bytes x e)
+
+pub of_five : (x : Bytes) → length x ≡ 5 → tag_of x ≡ place_of 5 1 (get_or x 0 0 ∷ get_or x 1 0 ∷ get_or x 2 0 ∷ get_or x 3 0 ∷ get_or x 4 0 ∷ []) names
+of_five x e = number_of_lem 5 x e ∙ ap (λ (y : Bytes). place_of 5 1 y names) (five_bytes x e)
+
+pub of_six : (x : Bytes) → length x ≡ 6 → tag_of x ≡ place_of 6 1 (get_or x 0 0 ∷ get_or x 1 0 ∷ get_or x 2 0 ∷ get_or x 3 0 ∷ get_or x 4 0 ∷ get_or x 5 0 ∷ []) names
+of_six x e = number_of_lem 6 x e ∙ ap (λ (y : Bytes). place_of 6 1 y names) (six_bytes x e)
+
+pub of_seven : (x : Bytes) → length x ≡ 7 → tag_of x ≡ place_of 7 1 (get_or x 0 0 ∷ get_or x 1 0 ∷ get_or x 2 0 ∷ get_or x 3 0 ∷ get_or x 4 0 ∷ get_or x 5 0 ∷ get_or x 6 0 ∷ []) names
+of_seven x e = number_of_lem 7 x e ∙ ap (λ (y : Bytes). place_of 7 1 y names) (seven_bytes x e)
+
+-- no name is so short or so long
+pub of_none : (x : Bytes) → length x < 1 → tag_of x ≡ 0
+unfolding place_of names
+of_none x l = let e : length x ≡ 0 = omega arith in number_of_lem 0 x e
+
+pub of_more : (x : Bytes) → 8 ≤ length x → tag_of x ≡ 0
+unfolding place_of names
+of_more x l =
+    number_of_lem (length x) x refl
+    ∙ simp (
+      ne_eqb (length x) 1 (λ e. omega arith),
+      ne_eqb (length x) 2 (λ e. omega arith),
+      ne_eqb (length x) 3 (λ e. omega arith),
+      ne_eqb (length x) 4 (λ e. omega arith),
+      ne_eqb (length x) 5 (λ e. omega arith),
+      ne_eqb (length x) 6 (λ e. omega arith),
+      ne_eqb (length x) 7 (λ e. omega arith),
+    )
+
+pub ruleset by_bytes = (nat_tests, of_none, of_one, of_two, of_three, of_four, of_five, of_six, of_seven, of_more)

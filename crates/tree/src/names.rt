@@ -30,6 +30,7 @@ fn place_in(run: &[u8], name: &[u8]) -> usize
 }
 
 // The number of a name.
+#[tactic(auto, using(crate::proofs::Naming::by_bytes), unfolding(crate::proofs::Naming::place_of, spec::specs::Names::names, spec::specs::Bytes::same))]
 fn name_number(name: &[u8]) -> usize
     ensures { result ≡ tag_of name.now }
 {
