@@ -1,14 +1,13 @@
--- The place of a name among the bytes of a run's fields, from field to field. Assumes nothing.
-use Prim.Native.Nat.{ℕ, suc, ◌+◌, ◌-◌, ◌*◌, ◌/◌, ◌%◌, ◌<◌, ◌≤◌}
-use native.Mathlib.Numerals.{add-one}
+-- A name among the bytes of a run's fields, from field to field, and the number of a name. Assumes nothing.
+use Prim.Native.Nat.{ℕ, suc, ◌+◌, ◌-◌, ◌<◌, ◌≤◌}
 use mathlib.Core.Path.{◌≡◌, refl, ap, ◌∙◌, sym}
 use native.Mathlib.Omega.{arith}
-use mathlib.Core.Bool.{Bool, true, false, cond, not, ◌&&◌, ◌||◌, and-eq-true_iff, false≢true}
+use mathlib.Core.Bool.{Bool, true, false, cond, ◌&&◌, ◌||◌}
 use mathlib.Core.List.{List, [], ◌∷◌}
 use lib.ListN.{length, get_or, drop}
-use lib.Dec.{eqb, eqb-suc-zero}
+use lib.Dec.{eqb, eqb-suc-suc}
 use borrow.Author.Tests.{eqb-false, ne_eqb}
-use Rattle.spec.specs.Bytes.{Bytes, ascii, same, isin, among}
+use Rattle.spec.specs.Bytes.{Bytes, same, among}
 use Rattle.spec.specs.Fields.{fields}
 use Rattle.spec.specs.Names.{place, names, tag_of}
 use Rattle.spec.specs.Call.{bodies}
@@ -19,35 +18,49 @@ use Rattle.input.proofs.Walking.{span_fields}
 use Rattle.input.proofs.Every.{none_left}
 use Rattle.std.proofs.lemmas.Bool.Decides.{nat_tests}
 
-module _ (x run : Bytes) (n p : ℕ) (so_far : place 1 x (bodies (fields run)) ≡ place n x (bodies (fields (drop p run)))) where
+module _ (x run : Bytes) (p : ℕ) (so_far : among x (bodies (fields run)) ≡ among x (bodies (fields (drop p run)))) where
   module _ (r : Span) (h : p + 3 ≤ length run) (r-is : r ≡ span_at run p) where
-    place_step : place 1 x (bodies (fields run))
-        ≡ cond (same x (field_of run r).body) n (place (suc n) x (bodies (fields (drop r.end run))))
-    unfolding place bodies
-    place_step = so_far ∙ rw (r-is, span_fields run p h)
+    among_step : among x (bodies (fields run)) ≡ (same x (field_of run r).body || among x (bodies (fields (drop r.end run))))
+    unfolding among bodies
+    among_step = so_far ∙ rw (r-is, span_fields run p h)
 
-    pub place_here : same x (field_of run r).body ≡ true → n ≡ place 1 x (bodies (fields run))
-    place_here e = sym (place_step ∙ rw e)
+    pub among_here : same x (field_of run r).body ≡ true → true ≡ among x (bodies (fields run))
+    among_here e = sym (among_step ∙ rw e)
 
-    pub place_on : same x (field_of run r).body ≡ false
-        → place 1 x (bodies (fields run)) ≡ place (n + 1) x (bodies (fields (drop r.end run)))
-    place_on e = place_step ∙ rw (e, add-one)
+    pub among_on : same x (field_of run r).body ≡ false → among x (bodies (fields run)) ≡ among x (bodies (fields (drop r.end run)))
+    among_on e = among_step ∙ rw e
 
-  pub place_none : length run - p < 3 → 0 ≡ place 1 x (bodies (fields run))
-  unfolding place bodies
-  place_none h = sym (so_far ∙ rw (none_left run p h))
+  pub among_none : length run - p < 3 → false ≡ among x (bodies (fields run))
+  unfolding among bodies
+  among_none h = sym (so_far ∙ rw (none_left run p h))
 
-pub among_place : (n : ℕ) (x : Bytes) (ys : List Bytes) → not (eqb (place (suc n) x ys) 0) ≡ among x ys
-unfolding place among
-among_place n x [] = refl
-among_place n x (y ∷ ys) = go (same x y) (among_place (suc n) x ys)
-  where
-    go : (t : Bool) → not (eqb (place (suc (suc n)) x ys) 0) ≡ among x ys
-        → not (eqb (cond t (suc n) (place (suc (suc n)) x ys)) 0) ≡ (t || among x ys)
-    go true e = rw (eqb-suc-zero n)
-    go false e = e
+-- ---- whether names are the same, by their lengths and their bytes
 
--- ---- the number of a name by its length and its bytes
+-- the bytes of y stand in x from index i on
+abbrev pub reads : Bytes → ℕ → Bytes → Bool
+reads x i [] = true
+reads x i (b ∷ y) = eqb (get_or x i 0) b && reads x (suc i) y
+
+reads_behind : (a : ℕ) (x : Bytes) (i : ℕ) (y : Bytes) → reads (a ∷ x) (suc i) y ≡ reads x i y
+reads_behind a x i [] = refl
+reads_behind a x i (b ∷ y) = ap (λ (t : Bool). eqb (get_or x i 0) b && t) (reads_behind a x (suc i) y)
+
+and_swap : (s t u : Bool) → (s && (t && u)) ≡ (t && (s && u))
+and_swap true t u = refl
+and_swap false true u = refl
+and_swap false false u = refl
+
+pub same_reads : (x y : Bytes) → same x y ≡ (eqb (length x) (length y) && reads x 0 y)
+unfolding same
+same_reads [] [] = refl
+same_reads [] (b ∷ y) = rw (ne_eqb 0 (length (b ∷ y)) (λ e. omega arith))
+same_reads (a ∷ x) [] = rw (ne_eqb (length (a ∷ x)) 0 (λ e. omega arith))
+same_reads (a ∷ x) (b ∷ y) =
+    rw (same_reads x y, eqb-suc-suc (length x) (length y), reads_behind a x 0 y) (and_swap (eqb a b) (eqb (length x) (length y)) (reads x 0 y))
+
+pub ruleset same_bytes = (nat_tests, same_reads)
+
+-- ---- the number of a name by its length
 
 differ : (x y : Bytes) → (x ≡ y → ⊥) → same x y ≡ false
 differ x y ne = go (same x y) refl
@@ -76,82 +89,26 @@ number_of_lem : (k : ℕ) (x : Bytes) → length x ≡ k → tag_of x ≡ place_
 unfolding tag_of
 number_of_lem k x e = rw (← e) (place_of_lem 1 x names)
 
-one_bytes : (x : Bytes) → length x ≡ 1 → x ≡ get_or x 0 0 ∷ []
-one_bytes [] e = absurd (omega arith)
-one_bytes (x0 ∷ []) e = refl
-one_bytes (x0 ∷ x1 ∷ x) e = absurd (omega arith)
+pub of_one : (x : Bytes) → length x ≡ 1 → tag_of x ≡ place_of 1 1 x names
+of_one x e = number_of_lem 1 x e
 
-two_bytes : (x : Bytes) → length x ≡ 2 → x ≡ get_or x 0 0 ∷ get_or x 1 0 ∷ []
-two_bytes [] e = absurd (omega arith)
-two_bytes (x0 ∷ []) e = absurd (omega arith)
-two_bytes (x0 ∷ x1 ∷ []) e = refl
-two_bytes (x0 ∷ x1 ∷ x2 ∷ x) e = absurd (omega arith)
+pub of_two : (x : Bytes) → length x ≡ 2 → tag_of x ≡ place_of 2 1 x names
+of_two x e = number_of_lem 2 x e
 
-three_bytes : (x : Bytes) → length x ≡ 3 → x ≡ get_or x 0 0 ∷ get_or x 1 0 ∷ get_or x 2 0 ∷ []
-three_bytes [] e = absurd (omega arith)
-three_bytes (x0 ∷ []) e = absurd (omega arith)
-three_bytes (x0 ∷ x1 ∷ []) e = absurd (omega arith)
-three_bytes (x0 ∷ x1 ∷ x2 ∷ []) e = refl
-three_bytes (x0 ∷ x1 ∷ x2 ∷ x3 ∷ x) e = absurd (omega arith)
+pub of_three : (x : Bytes) → length x ≡ 3 → tag_of x ≡ place_of 3 1 x names
+of_three x e = number_of_lem 3 x e
 
-four_bytes : (x : Bytes) → length x ≡ 4 → x ≡ get_or x 0 0 ∷ get_or x 1 0 ∷ get_or x 2 0 ∷ get_or x 3 0 ∷ []
-four_bytes [] e = absurd (omega arith)
-four_bytes (x0 ∷ []) e = absurd (omega arith)
-four_bytes (x0 ∷ x1 ∷ []) e = absurd (omega arith)
-four_bytes (x0 ∷ x1 ∷ x2 ∷ []) e = absurd (omega arith)
-four_bytes (x0 ∷ x1 ∷ x2 ∷ x3 ∷ []) e = refl
-four_bytes (x0 ∷ x1 ∷ x2 ∷ x3 ∷ x4 ∷ x) e = absurd (omega arith)
+pub of_four : (x : Bytes) → length x ≡ 4 → tag_of x ≡ place_of 4 1 x names
+of_four x e = number_of_lem 4 x e
 
-five_bytes : (x : Bytes) → length x ≡ 5 → x ≡ get_or x 0 0 ∷ get_or x 1 0 ∷ get_or x 2 0 ∷ get_or x 3 0 ∷ get_or x 4 0 ∷ []
-five_bytes [] e = absurd (omega arith)
-five_bytes (x0 ∷ []) e = absurd (omega arith)
-five_bytes (x0 ∷ x1 ∷ []) e = absurd (omega arith)
-five_bytes (x0 ∷ x1 ∷ x2 ∷ []) e = absurd (omega arith)
-five_bytes (x0 ∷ x1 ∷ x2 ∷ x3 ∷ []) e = absurd (omega arith)
-five_bytes (x0 ∷ x1 ∷ x2 ∷ x3 ∷ x4 ∷ []) e = refl
-five_bytes (x0 ∷ x1 ∷ x2 ∷ x3 ∷ x4 ∷ x5 ∷ x) e = absurd (omega arith)
+pub of_five : (x : Bytes) → length x ≡ 5 → tag_of x ≡ place_of 5 1 x names
+of_five x e = number_of_lem 5 x e
 
-six_bytes : (x : Bytes) → length x ≡ 6 → x ≡ get_or x 0 0 ∷ get_or x 1 0 ∷ get_or x 2 0 ∷ get_or x 3 0 ∷ get_or x 4 0 ∷ get_or x 5 0 ∷ []
-six_bytes [] e = absurd (omega arith)
-six_bytes (x0 ∷ []) e = absurd (omega arith)
-six_bytes (x0 ∷ x1 ∷ []) e = absurd (omega arith)
-six_bytes (x0 ∷ x1 ∷ x2 ∷ []) e = absurd (omega arith)
-six_bytes (x0 ∷ x1 ∷ x2 ∷ x3 ∷ []) e = absurd (omega arith)
-six_bytes (x0 ∷ x1 ∷ x2 ∷ x3 ∷ x4 ∷ []) e = absurd (omega arith)
-six_bytes (x0 ∷ x1 ∷ x2 ∷ x3 ∷ x4 ∷ x5 ∷ []) e = refl
-six_bytes (x0 ∷ x1 ∷ x2 ∷ x3 ∷ x4 ∷ x5 ∷ x6 ∷ x) e = absurd (omega arith)
+pub of_six : (x : Bytes) → length x ≡ 6 → tag_of x ≡ place_of 6 1 x names
+of_six x e = number_of_lem 6 x e
 
-seven_bytes : (x : Bytes) → length x ≡ 7 → x ≡ get_or x 0 0 ∷ get_or x 1 0 ∷ get_or x 2 0 ∷ get_or x 3 0 ∷ get_or x 4 0 ∷ get_or x 5 0 ∷ get_or x 6 0 ∷ []
-seven_bytes [] e = absurd (omega arith)
-seven_bytes (x0 ∷ []) e = absurd (omega arith)
-seven_bytes (x0 ∷ x1 ∷ []) e = absurd (omega arith)
-seven_bytes (x0 ∷ x1 ∷ x2 ∷ []) e = absurd (omega arith)
-seven_bytes (x0 ∷ x1 ∷ x2 ∷ x3 ∷ []) e = absurd (omega arith)
-seven_bytes (x0 ∷ x1 ∷ x2 ∷ x3 ∷ x4 ∷ []) e = absurd (omega arith)
-seven_bytes (x0 ∷ x1 ∷ x2 ∷ x3 ∷ x4 ∷ x5 ∷ []) e = absurd (omega arith)
-seven_bytes (x0 ∷ x1 ∷ x2 ∷ x3 ∷ x4 ∷ x5 ∷ x6 ∷ []) e = refl
-seven_bytes (x0 ∷ x1 ∷ x2 ∷ x3 ∷ x4 ∷ x5 ∷ x6 ∷ x7 ∷ x) e = absurd (omega arith)
-
-pub of_one : (x : Bytes) → length x ≡ 1 → tag_of x ≡ place_of 1 1 (get_or x 0 0 ∷ []) names
-of_one x e = number_of_lem 1 x e ∙ ap (λ (y : Bytes). place_of 1 1 y names) (one_bytes x e)
-
-pub of_two : (x : Bytes) → length x ≡ 2 → tag_of x ≡ place_of 2 1 (get_or x 0 0 ∷ get_or x 1 0 ∷ []) names
-of_two x e = number_of_lem 2 x e ∙ ap (λ (y : Bytes). place_of 2 1 y names) (two_bytes x e)
-
-pub of_three : (x : Bytes) → length x ≡ 3 → tag_of x ≡ place_of 3 1 (get_or x 0 0 ∷ get_or x 1 0 ∷ get_or x 2 0 ∷ []) names
-of_three x e = number_of_lem 3 x e ∙ ap (λ (y : Bytes). place_of 3 1 y names) (three_bytes x e)
-
-pub of_four : (x : Bytes) → length x ≡ 4 → tag_of x ≡ place_of 4 1 (get_or x 0 0 ∷ get_or x 1 0 ∷ get_or x 2 0 ∷ get_or x 3 0 ∷ []) names
-of_four x e = number_of_lem 4 x e ∙ ap (λ (y : Bytes). place_of 4 1 y names) (four_bytes x e)
-
-pub of_five : (x : Bytes) → length x ≡ 5 → tag_of x ≡ place_of 5 1 (get_or x 0 0 ∷ get_or x 1 0 ∷ get_or x 2 0 ∷ get_or x 3 0 ∷ get_or x 4 0 ∷ []) names
-of_five x e = number_of_lem 5 x e ∙ ap (λ (y : Bytes). place_of 5 1 y names) (five_bytes x e)
-
-pub of_six : (x : Bytes) → length x ≡ 6 → tag_of x ≡ place_of 6 1 (get_or x 0 0 ∷ get_or x 1 0 ∷ get_or x 2 0 ∷ get_or x 3 0 ∷ get_or x 4 0 ∷ get_or x 5 0 ∷ []) names
-of_six x e = number_of_lem 6 x e ∙ ap (λ (y : Bytes). place_of 6 1 y names) (six_bytes x e)
-
-pub of_seven : (x : Bytes) → length x ≡ 7 → tag_of x ≡ place_of 7 1 (get_or x 0 0 ∷ get_or x 1 0 ∷ get_or x 2 0 ∷ get_or x 3 0 ∷ get_or x 4 0 ∷ get_or x 5 0 ∷ get_or x 6 0 ∷ []) names
-of_seven x e = number_of_lem 7 x e ∙ ap (λ (y : Bytes). place_of 7 1 y names) (seven_bytes x e)
+pub of_seven : (x : Bytes) → length x ≡ 7 → tag_of x ≡ place_of 7 1 x names
+of_seven x e = number_of_lem 7 x e
 
 -- no name is so short or so long
 pub of_none : (x : Bytes) → length x < 1 → tag_of x ≡ 0
@@ -172,4 +129,4 @@ of_more x l =
       ne_eqb (length x) 7 (λ e. omega arith),
     )
 
-pub ruleset by_bytes = (nat_tests, of_none, of_one, of_two, of_three, of_four, of_five, of_six, of_seven, of_more)
+pub ruleset by_bytes = (same_bytes, of_none, of_one, of_two, of_three, of_four, of_five, of_six, of_seven, of_more)

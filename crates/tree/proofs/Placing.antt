@@ -1,11 +1,10 @@
 -- Storing a record, and a field by its kind. Assumes nothing.
 use Prim.Native.Nat.{ℕ, ◌+◌, ◌*◌}
 use native.Mathlib.Omega.{arith}
-use mathlib.Core.Path.{◌≡◌, ◌∙◌}
-use borrow.Author.Tests.{eq-eqb, ne_eqb}
+use mathlib.Core.Path.{◌∙◌}
 use Rattle.spec.specs.Bytes.{Bytes}
 use Rattle.tree.specs.Memory.{word_at, quad_at, Stored}
-use Rattle.tree.specs.Kinds.{opens, texts, comments, kind_of, Placed}
+use Rattle.tree.specs.Kinds.{Placed}
 use Rattle.tree.proofs.Numbers.{word_same, quad_same}
 
 pub placed : (i entry end parent : ℕ) {a b c d : Bytes} → Stored quad_at 4 (i * 24) entry a b → Stored word_at 2 (i * 24 + 4) end b c

@@ -1,6 +1,6 @@
 use mathlib.Core.Path.{sym, ap, ◌∙◌}
 use lib.ListN.{length}
-use lib.Seq.{take_all, length-take-le}
+use lib.Seq.{take_all}
 use native.Mathlib.Omega.{arith}
 use Rattle.spec.specs.Bytes.{Bytes}
 use Rattle.tree.specs.Attributes.{either_attr}

@@ -1,5 +1,3 @@
-use mathlib.Core.Path.{sym, subst}
-use Rattle.tree.specs.Kinds.{Storable}
 use Rattle.tree.proofs.Stages.{one_node}
 use native.Mathlib.Omega.{arith}
 use Rattle.tree.proofs.store.store_nodes.Goals as goal
