@@ -3,42 +3,46 @@ ghost use Rattle.std.specs.Prelude.{◌≡◌, ◌+◌, ◌*◌, ◌≤◌, ◌<
 ghost use Rattle.tree.specs.Memory.{place_at, number_at, end_at, parent_at};
 ghost use Rattle.tree.specs.Nodes.{text_at, PartIs, first_child, next_sibling};
 
-use crate::memory::{read_quad, read_word};
+use crate::memory::read;
 use crate::tags::TEXT;
 use input::fields::span_at;
 use std::ops::Range;
 
 // Where in the sheet the field of node i stands.
+#[tactic(auto, using(crate::proofs::Numbers::quad_is))]
 pub fn node_place(ns: &[u8], i: usize) -> usize
     requires { i * 24 + 24 ≤ length ns.now }
     ensures { result ≡ place_at ns.now i }
 {
-    read_quad(ns, i * 24) / 256
+    read::<4>(ns, i * 24) / 256
 }
 
 // The number of its name; 0 where it is no element.
+#[tactic(auto, using(crate::proofs::Numbers::quad_is))]
 pub fn node_number(ns: &[u8], i: usize) -> usize
     requires { i * 24 + 24 ≤ length ns.now }
     ensures { result ≡ number_at ns.now i }
 {
-    read_quad(ns, i * 24) % 256
+    read::<4>(ns, i * 24) % 256
 }
 
 // The number of the node behind the last descendant of node i. The children of node i are i + 1, the end of that, and so
 // on up to the end of i.
+#[tactic(auto, using(crate::proofs::Numbers::word_is))]
 pub fn node_end(ns: &[u8], i: usize) -> usize
     requires { i * 24 + 24 ≤ length ns.now }
     ensures { result ≡ end_at ns.now i }
 {
-    read_word(ns, i * 24 + 4)
+    read::<2>(ns, i * 24 + 4)
 }
 
 // The number of the node in which node i stands; 0 for node 0 itself.
+#[tactic(auto, using(crate::proofs::Numbers::word_is))]
 pub fn node_parent(ns: &[u8], i: usize) -> usize
     requires { i * 24 + 24 ≤ length ns.now }
     ensures { result ≡ parent_at ns.now i }
 {
-    read_word(ns, i * 24 + 6)
+    read::<2>(ns, i * 24 + 6)
 }
 
 // The first child of node i, if it has one.

@@ -5,7 +5,7 @@ ghost use Rattle.tree.specs.Memory.{word_at, Stored, parent_at};
 ghost use Rattle.tree.specs.Represents.{entry_of, Holds};
 ghost use Rattle.tree.specs.Kinds.{kind_of, Placed, FitsAs, TurnedAs, Storable};
 
-use crate::memory::{read_word, store_quad, store_word};
+use crate::memory::{read, store};
 use crate::names::name_at;
 use crate::tags::{CLOSE, COMMENT, OPEN, TEXT};
 use input::fields::length_at;
@@ -22,9 +22,9 @@ fn store_record(ns: &mut [u8], i: usize, entry: usize, end: usize, parent: usize
     requires { (i * 24 + 24 ≤ length ns.old) × (entry < 4294967296) × (end < 65536) × (parent < 65536) }
     ensures { Placed i entry end parent ns.old ns.new }
 {
-    store_quad(ns, i * 24, entry);
-    store_word(ns, i * 24 + 4, end);
-    store_word(ns, i * 24 + 6, parent);
+    store::<4>(ns, i * 24, entry);
+    store::<2>(ns, i * 24 + 4, end);
+    store::<2>(ns, i * 24 + 6, parent);
 }
 
 // Stores that the node `cur` ends before the node with the number `count`, and says its parent.
@@ -32,8 +32,8 @@ fn close_node(ns: &mut [u8], count: usize, cur: usize) -> usize
     requires { (cur * 24 + 24 ≤ length ns.old) × (count < 65536) }
     ensures { Stored word_at 2 (cur * 24 + 4) count ns.old ns.new × (result ≡ parent_at ns.old cur) }
 {
-    let up = read_word(ns, cur * 24 + 6);
-    store_word(ns, cur * 24 + 4, count);
+    let up = read::<2>(ns, cur * 24 + 6);
+    store::<2>(ns, cur * 24 + 4, count);
     up
 }
 
@@ -93,7 +93,7 @@ fn store_rest(sheet: &[u8], nodes: &mut [u8]) -> usize
         cur = t.cur;
         p = p + 3 + n;
     }
-    store_word(nodes, 4, count);
+    store::<2>(nodes, 4, count);
     count
 }
 

@@ -2,7 +2,7 @@
 // repeated some number of times.
 ghost use Rattle.std.specs.Prelude.{◌+◌, ◌≤◌, ◌≡◌, length};
 
-use tree::memory::{read_quad, read_word};
+use tree::memory::read;
 
 // A call but for its sheet: the skip list is input[run..name], the attribute name input[name..end].
 #[derive(Clone, Copy)]
@@ -21,13 +21,13 @@ pub fn read_head(input: &[u8], at: usize) -> Head
     requires { at + 15 ≤ length input.now }
     ensures { (result.run ≡ at + 15) × (result.run ≤ result.name) × (result.name ≤ result.end) }
 {
-    let name = at + 15 + read_word(input, at + 1);
-    let end = name + read_word(input, at + 3);
+    let name = at + 15 + read::<2>(input, at + 1);
+    let end = name + read::<2>(input, at + 3);
     Head {
         own: input[at] == 1,
-        start: read_quad(input, at + 5),
-        memory: read_quad(input, at + 9),
-        pieces: read_word(input, at + 13),
+        start: read::<4>(input, at + 5),
+        memory: read::<4>(input, at + 9),
+        pieces: read::<2>(input, at + 13),
         run: at + 15,
         name: name,
         end: end,
@@ -95,8 +95,8 @@ pub fn build_sheet(input: &[u8], at: usize, pieces: usize, sheet: &mut [u8]) -> 
                 len: len,
             };
         }
-        let times = read_quad(input, p);
-        let size = read_word(input, p + 4);
+        let times = read::<4>(input, p);
+        let size = read::<2>(input, p + 4);
         let from = p + 6;
         if input.len() - from < size {
             return Built {

@@ -2,6 +2,7 @@ use mathlib.Core.Path.{◌≡◌, refl, sym, ◌∙◌, subst}
 use lib.ListN.{length}
 use Rattle.spec.specs.Questions.{node_count}
 use Rattle.tree.specs.Kinds.{Storable}
+use Rattle.tree.proofs.Numbers.{stored_word}
 use Rattle.tree.proofs.Stages.{fits_field, stored_on, fits_close, stored_close, stored_none, all_counted, finished}
 use native.Mathlib.Omega.{arith}
 use Rattle.tree.proofs.store.store_rest.Goals as goal
@@ -46,14 +47,14 @@ loop-p-preserved c =
       stored_on a.sheet.now l.nodes l.p l.count l.cur l.invariant.2 (omega arith) room n.result e.result n.ensures.0 e.ensures.0 _ f.result f.ensures,
     )
 
-pub store_word-requires : goal.store_word-requires
-store_word-requires c =
+pub store-requires : goal.store-requires
+store-requires c =
     let a = c.args in let l = c.loop-p in
     let n : l.count ≡ node_count a.sheet.now = all_counted a.sheet.now l.nodes l.p l.count l.cur l.invariant.2 (omega arith) in
-    (omega (arith, n, l.invariant.1, l.invariant.2.1.below, c.requires.0.room_for), omega (arith, n, c.requires.0.few))
+    (omega (arith, n, l.invariant.1, l.invariant.2.1.below, c.requires.0.room_for), omega arith, omega (arith, n, c.requires.0.few))
 
 pub returns : goal.returns
 returns c =
     let a = c.args in let l = c.loop-p in
     let room : Storable a.sheet.now (length l.nodes) = subst (Storable a.sheet.now) (sym l.invariant.1) c.requires.0 in
-    finished a.sheet.now l.nodes l.p l.count l.cur l.invariant.2 (omega arith) c.store_word.ensures room
+    finished a.sheet.now l.nodes l.p l.count l.cur l.invariant.2 (omega arith) (stored_word c.store.ensures) room
