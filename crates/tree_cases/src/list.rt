@@ -29,8 +29,8 @@ pub fn read_head(input: &[u8], at: usize) -> Head
         memory: read::<4>(input, at + 9),
         pieces: read::<2>(input, at + 13),
         run: at + 15,
-        name: name,
-        end: end,
+        name,
+        end,
     }
 }
 
@@ -41,72 +41,36 @@ pub struct Built {
     pub len: usize,
 }
 
-// Appends input[from..to] to a sheet of len bytes, as far as there is room.
-fn append(input: &[u8], from: usize, to: usize, sheet: &mut [u8], len: usize) -> usize
-    requires { (to ≤ length input.now) × (len ≤ length sheet.old) }
+// Appends a piece to a sheet of len bytes, as far as there is room.
+fn append(piece: &[u8], sheet: &mut [u8], len: usize) -> usize
+    requires { len ≤ length sheet.old }
     ensures { result ≤ length sheet.old }
 {
-    let mut i = from;
-    let mut n = len;
-    while i < to {
-        if n == sheet.len() {
-            return n;
-        }
-        sheet[n] = input[i];
-        n += 1;
-        i += 1;
-    }
-    n
+    let n = piece.len().min(sheet.len() - len);
+    sheet[len..len + n].copy_from_slice(&piece[..n]);
+    len + n
 }
 
-// The same so many times.
-fn append_times(
-    input: &[u8],
-    from: usize,
-    to: usize,
-    times: usize,
-    sheet: &mut [u8],
-    len: usize,
-) -> usize
-    requires { (to ≤ length input.now) × (len ≤ length sheet.old) }
-    ensures { result ≤ length sheet.old }
-{
-    let mut k = 0;
-    let mut n = len;
-    while k < times {
-        n = append(input, from, to, sheet, n);
-        k += 1;
-    }
-    n
-}
-
-// The sheet whose pieces stand at `at` of the input.
+// The sheet whose pieces stand at `at` of the input: each after the number of times that it comes, and its length.
 pub fn build_sheet(input: &[u8], at: usize, pieces: usize, sheet: &mut [u8]) -> Built
     requires { at ≤ length input.now }
     ensures { (at ≤ result.at) × (result.at ≤ length input.now) × (result.len ≤ length sheet.new) }
 {
-    let mut k = 0;
     let mut p = at;
     let mut len = 0;
-    while k < pieces {
-        if input.len() - p < 6 {
+    for _ in 0..pieces {
+        let rest = &input[p..];
+        if rest.len() < 6 || rest.len() - 6 < read::<2>(rest, 4) {
             return Built {
                 at: input.len(),
-                len: len,
+                len,
             };
         }
-        let times = read::<4>(input, p);
-        let size = read::<2>(input, p + 4);
-        let from = p + 6;
-        if input.len() - from < size {
-            return Built {
-                at: input.len(),
-                len: len,
-            };
+        let end = 6 + read::<2>(rest, 4);
+        for _ in 0..read::<4>(rest, 0) {
+            len = append(&rest[6..end], sheet, len);
         }
-        len = append_times(input, from, from + size, times, sheet, len);
-        p = from + size;
-        k += 1;
+        p += end;
     }
-    Built { at: p, len: len }
+    Built { at: p, len }
 }
