@@ -6,12 +6,12 @@ use mathlib.Core.Bool.{Bool, true, false, cond, ◌&&◌, ◌||◌}
 use mathlib.Core.List.{List, [], ◌∷◌}
 use lib.ListN.{length, get_or, drop}
 use lib.Dec.{eqb, eqb-suc-suc}
-use borrow.Author.Tests.{eqb-false, ne_eqb}
+use borrow.Author.Tests.{ne_eqb}
 use Rattle.spec.specs.Bytes.{Bytes, same, among}
 use Rattle.spec.specs.Fields.{fields}
 use Rattle.spec.specs.Names.{place, names, tag_of}
 use Rattle.spec.specs.Call.{bodies}
-use Rattle.spec.proofs.Tests.{same_eq}
+use Rattle.spec.specs.Md.Constants.{DEFAULT_SKIP_TAGS}
 use Rattle.input.specs.Spans.{span_at, field_of}
 use Rattle.input.specs.declared.fields.Span.{Span}
 use Rattle.input.proofs.Walking.{span_fields}
@@ -50,44 +50,32 @@ and_swap true t u = refl
 and_swap false true u = refl
 and_swap false false u = refl
 
-pub same_reads : (x y : Bytes) → same x y ≡ (eqb (length x) (length y) && reads x 0 y)
+-- where x has k bytes, so that a name of another length is known to differ by its length alone
+abbrev pub alike : ℕ → Bytes → Bytes → Bool
+alike k x y = eqb k (length y) && reads x 0 y
+
+same_alike : (x y : Bytes) → same x y ≡ alike (length x) x y
 unfolding same
-same_reads [] [] = refl
-same_reads [] (b ∷ y) = rw (ne_eqb 0 (length (b ∷ y)) (λ e. omega arith))
-same_reads (a ∷ x) [] = rw (ne_eqb (length (a ∷ x)) 0 (λ e. omega arith))
-same_reads (a ∷ x) (b ∷ y) =
-    rw (same_reads x y, eqb-suc-suc (length x) (length y), reads_behind a x 0 y) (and_swap (eqb a b) (eqb (length x) (length y)) (reads x 0 y))
+same_alike [] [] = refl
+same_alike [] (b ∷ y) = rw (ne_eqb 0 (length (b ∷ y)) (λ e. omega arith))
+same_alike (a ∷ x) [] = rw (ne_eqb (length (a ∷ x)) 0 (λ e. omega arith))
+same_alike (a ∷ x) (b ∷ y) =
+    rw (same_alike x y, eqb-suc-suc (length x) (length y), reads_behind a x 0 y) (and_swap (eqb a b) (eqb (length x) (length y)) (reads x 0 y))
 
-pub ruleset same_bytes = (nat_tests, same_reads)
+-- ---- the number of a name by its length and its bytes
 
--- ---- the number of a name by its length
-
-differ : (x y : Bytes) → (x ≡ y → ⊥) → same x y ≡ false
-differ x y ne = go (same x y) refl
-  where
-    go : (t : Bool) → same x y ≡ t → t ≡ false
-    go true e = absurd (ne (same_eq x y e))
-    go false e = refl
-
--- `place` where only the names of k bytes are compared
 unfoldable pub place_of : ℕ → ℕ → Bytes → List Bytes → ℕ
 place_of k n x [] = 0
-place_of k n x (y ∷ ys) = cond (eqb k (length y)) (cond (same x y) n (place_of k (suc n) x ys)) (place_of k (suc n) x ys)
+place_of k n x (y ∷ ys) = cond (alike k x y) n (place_of k (suc n) x ys)
 
-place_of_lem : (n : ℕ) (x : Bytes) (ys : List Bytes) → place n x ys ≡ place_of (length x) n x ys
+place_alike : (n : ℕ) (x : Bytes) (ys : List Bytes) → place n x ys ≡ place_of (length x) n x ys
 unfolding place place_of
-place_of_lem n x [] = refl
-place_of_lem n x (y ∷ ys) = rw (place_of_lem (suc n) x ys) (go (eqb (length x) (length y)) refl)
-  where
-    go : (t : Bool) → eqb (length x) (length y) ≡ t
-        → cond (same x y) n (place_of (length x) (suc n) x ys)
-        ≡ cond t (cond (same x y) n (place_of (length x) (suc n) x ys)) (place_of (length x) (suc n) x ys)
-    go true e = refl
-    go false e = rw (differ x y (λ q. eqb-false (length x) (length y) e (ap length q)))
+place_alike n x [] = refl
+place_alike n x (y ∷ ys) = rw (same_alike x y, place_alike (suc n) x ys)
 
 number_of_lem : (k : ℕ) (x : Bytes) → length x ≡ k → tag_of x ≡ place_of k 1 x names
 unfolding tag_of
-number_of_lem k x e = rw (← e) (place_of_lem 1 x names)
+number_of_lem k x e = rw (← e) (place_alike 1 x names)
 
 pub of_one : (x : Bytes) → length x ≡ 1 → tag_of x ≡ place_of 1 1 x names
 of_one x e = number_of_lem 1 x e
@@ -129,4 +117,38 @@ of_more x l =
       ne_eqb (length x) 7 (λ e. omega arith),
     )
 
-pub ruleset by_bytes = (same_bytes, of_none, of_one, of_two, of_three, of_four, of_five, of_six, of_seven, of_more)
+pub ruleset by_bytes = (nat_tests, of_none, of_one, of_two, of_three, of_four, of_five, of_six, of_seven, of_more)
+
+-- ---- whether a name is one of the default skip list, by its length and its bytes
+
+unfoldable pub among_of : ℕ → Bytes → List Bytes → Bool
+among_of k x [] = false
+among_of k x (y ∷ ys) = alike k x y || among_of k x ys
+
+among_alike : (k : ℕ) (x : Bytes) (ys : List Bytes) → length x ≡ k → among x ys ≡ among_of k x ys
+unfolding among among_of
+among_alike k x [] e = refl
+among_alike k x (y ∷ ys) e = rw (same_alike x y, e, among_alike k x ys e)
+
+pub skip_four : (x : Bytes) → length x ≡ 4 → among x DEFAULT_SKIP_TAGS ≡ among_of 4 x DEFAULT_SKIP_TAGS
+skip_four x e = among_alike 4 x DEFAULT_SKIP_TAGS e
+
+pub skip_five : (x : Bytes) → length x ≡ 5 → among x DEFAULT_SKIP_TAGS ≡ among_of 5 x DEFAULT_SKIP_TAGS
+skip_five x e = among_alike 5 x DEFAULT_SKIP_TAGS e
+
+pub skip_six : (x : Bytes) → length x ≡ 6 → among x DEFAULT_SKIP_TAGS ≡ among_of 6 x DEFAULT_SKIP_TAGS
+skip_six x e = among_alike 6 x DEFAULT_SKIP_TAGS e
+
+other_length : (x : Bytes) → (length x ≡ 4 → ⊥) → (length x ≡ 5 → ⊥) → (length x ≡ 6 → ⊥) → among x DEFAULT_SKIP_TAGS ≡ false
+unfolding among_of
+other_length x four five six =
+    among_alike (length x) x DEFAULT_SKIP_TAGS refl ∙ simp (ne_eqb (length x) 4 four, ne_eqb (length x) 5 five, ne_eqb (length x) 6 six)
+
+-- no skipped name is so short or so long
+pub skip_none : (x : Bytes) → length x < 4 → among x DEFAULT_SKIP_TAGS ≡ false
+skip_none x l = other_length x (λ e. omega arith) (λ e. omega arith) (λ e. omega arith)
+
+pub skip_more : (x : Bytes) → 7 ≤ length x → among x DEFAULT_SKIP_TAGS ≡ false
+skip_more x l = other_length x (λ e. omega arith) (λ e. omega arith) (λ e. omega arith)
+
+pub ruleset skips_by_bytes = (nat_tests, skip_none, skip_four, skip_five, skip_six, skip_more)

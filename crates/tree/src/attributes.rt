@@ -61,6 +61,7 @@ fn either_attribute<'a>(s: &'a [u8], place: usize, a: &[u8], b: &[u8]) -> Option
 }
 
 // Whether the element that opens at `place` is known to have no attributes.
+#[tactic(auto, using(crate::proofs::Attrs::attrs_none, crate::proofs::Attrs::attrs_end))]
 fn has_none(s: &[u8], place: usize) -> bool
     requires { place + 3 ≤ length s.now }
     ensures { result ≡ true → attrs_behind s.now place ≡ [] }

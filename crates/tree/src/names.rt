@@ -159,7 +159,7 @@ fn name_of(name: &[u8]) -> Name
 }
 
 // Whether a name is one of the default skip list.
-#[tactic(auto, using(crate::proofs::Naming::same_bytes), unfolding(spec::specs::Bytes::among))]
+#[tactic(auto, using(crate::proofs::Naming::skips_by_bytes), unfolding(crate::proofs::Naming::among_of))]
 fn is_default_skip_tag(name: &[u8]) -> bool
     ensures { result ≡ among name.now DEFAULT_SKIP_TAGS }
 {
@@ -179,6 +179,7 @@ fn is_skip_tag(own: bool, run: &[u8], name: &[u8]) -> bool
 }
 
 // The number of the name of the node whose field stands at `place`; 0 where it is no element.
+#[tactic(auto, using(crate::proofs::Access::no_name, crate::proofs::Access::its_name))]
 pub fn name_at(sheet: &[u8], place: usize) -> usize
     requires { place + 3 ≤ length sheet.now }
     ensures { result ≡ name_at sheet.now place }
@@ -191,6 +192,7 @@ pub fn name_at(sheet: &[u8], place: usize) -> usize
 }
 
 // Whether that node is an element that the skip list leaves out.
+#[tactic(auto, using(crate::proofs::Access::no_element, crate::proofs::Access::its_skip))]
 pub fn is_skipped(sheet: &[u8], place: usize, own: bool, run: &[u8]) -> bool
     requires { place + 3 ≤ length sheet.now }
     ensures { result ≡ skipped_at (tags_to_skip (skip_list own run.now)) sheet.now place }

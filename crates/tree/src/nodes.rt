@@ -51,11 +51,7 @@ pub fn first_child(ns: &[u8], i: usize) -> Option<usize>
     ensures { result ≡ first_child ns.now i }
 {
     let next = i + 1;
-    if next < node_end(ns, i) {
-        Some(next)
-    } else {
-        None
-    }
+    (next < node_end(ns, i)).then_some(next)
 }
 
 // The node that follows node i among its siblings, if it is not the last.
@@ -65,11 +61,7 @@ pub fn next_sibling(ns: &[u8], i: usize) -> Option<usize>
 {
     let next = node_end(ns, i);
     let up = node_parent(ns, i);
-    if next < node_end(ns, up) {
-        Some(next)
-    } else {
-        None
-    }
+    (next < node_end(ns, up)).then_some(next)
 }
 
 // What kind of node has its field at `place`: the tag of that field.
@@ -82,6 +74,7 @@ pub fn tag_at(sheet: &[u8], place: usize) -> u8
 
 // Where in the sheet the bytes of that node stand, where it is a text; else no bytes. Over the nodes of a range, one after the other, these are the
 // pieces of `text_of`.
+#[tactic(auto, using(crate::proofs::Access::no_text, crate::proofs::Access::its_text))]
 pub fn text_at(sheet: &[u8], place: usize) -> Range<usize>
     requires { place + 3 ≤ length sheet.now }
     ensures { PartIs sheet.now result (text_at sheet.now place) }

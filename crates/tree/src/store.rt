@@ -28,6 +28,7 @@ fn store_record(ns: &mut [u8], i: usize, entry: usize, end: usize, parent: usize
 }
 
 // Stores that the node `cur` ends before the node with the number `count`, and says its parent.
+#[tactic(auto, using(crate::proofs::Numbers::word_is, crate::proofs::Numbers::stored_word))]
 fn close_node(ns: &mut [u8], count: usize, cur: usize) -> usize
     requires { (cur * 24 + 24 ≤ length ns.old) × (count < 65536) }
     ensures { Stored word_at 2 (cur * 24 + 4) count ns.old ns.new × (result ≡ parent_at ns.old cur) }
@@ -62,6 +63,7 @@ fn store_field(ns: &mut [u8], tag: u8, entry: usize, count: usize, cur: usize) -
 }
 
 // The entry of a node whose field stands at p: its place, and the number of its name.
+#[tactic(auto, using(crate::proofs::Entries::name_low), unfolding(crate::specs::Represents::entry_of))]
 fn entry_of(sheet: &[u8], p: usize) -> usize
     requires { (p + 3 ≤ length sheet.now) × (length sheet.now ≤ 1048576) }
     ensures { (result ≡ entry_of sheet.now p) × (result < 4294967296) }

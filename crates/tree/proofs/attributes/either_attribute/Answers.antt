@@ -7,10 +7,6 @@ use Rattle.tree.proofs.Attrs.{either_ends, either_found, either_on, either_none}
 use native.Mathlib.Omega.{arith}
 use Rattle.tree.proofs.attributes.either_attribute.Goals as goal
 
-pub loop-p-init : goal.loop-p-init
-loop-p-init c =
-    (c.span_at-e.ensures.inside, rw c.span_at-e.ensures.at)
-
 pub returns-then-ends_attributes : goal.returns-then-ends_attributes
 returns-then-ends_attributes c =
     let a = c.args in let l = c.loop-p in let h = c.span_at-f in

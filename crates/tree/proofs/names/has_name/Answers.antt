@@ -1,11 +1,7 @@
-use mathlib.Core.Path.{refl, sym, ◌∙◌}
+use mathlib.Core.Path.{sym, ◌∙◌}
 use Rattle.tree.proofs.Naming.{among_here, among_on, among_none}
 use native.Mathlib.Omega.{arith}
 use Rattle.tree.proofs.names.has_name.Goals as goal
-
-pub loop-p-init : goal.loop-p-init
-loop-p-init c =
-    (omega arith, refl)
 
 pub returns-then-is_same : goal.returns-then-is_same
 returns-then-is_same c =

@@ -28,9 +28,6 @@ loop-p-preserved-then-tag-eq-CLOSE c =
       stored_close a.sheet.now l.nodes l.p l.count l.cur l.invariant.2 (omega arith) room c.if-tag-eq-CLOSE.true _ f.result f.ensures.0 f.ensures.1,
     )
 
-pub entry_of-entry-requires : goal.entry_of-entry-requires
-entry_of-entry-requires c = (omega arith, c.requires.0.short)
-
 pub store_field-t-requires : goal.store_field-t-requires
 store_field-t-requires c =
     let a = c.args in let l = c.loop-p in
