@@ -1,7 +1,7 @@
 // Element names: the number by which the writers know one, and the skip list.
-ghost use Rattle.std.specs.Prelude.{◌≡◌, cond, [], ◌∷◌, ◌+◌, ◌≤◌, length};
+ghost use Rattle.std.specs.Prelude.{◌≡◌, ◌+◌, ◌≤◌, length};
 ghost use Rattle.spec.specs.Fields.{fields};
-ghost use Rattle.spec.specs.Bytes.{same, among};
+ghost use Rattle.spec.specs.Bytes.{among};
 ghost use Rattle.spec.specs.Names.{tag_of};
 ghost use Rattle.spec.specs.Call.{bodies, tags_to_skip};
 ghost use Rattle.spec.specs.Md.Constants.{DEFAULT_SKIP_TAGS};

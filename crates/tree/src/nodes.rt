@@ -72,8 +72,8 @@ pub fn tag_at(sheet: &[u8], place: usize) -> u8
     sheet[place]
 }
 
-// Where in the sheet the bytes of that node stand, where it is a text; else no bytes. Over the nodes of a range, one after the other, these are the
-// pieces of `text_of`.
+// Where in the sheet the bytes of that node stand, where it is a text; else no bytes. Over the nodes of a range, one after the
+// other, these are the pieces of `text_of`. Callers read a few bytes behind it, so it is a range and no slice.
 #[tactic(auto, using(crate::proofs::Access::no_text, crate::proofs::Access::its_text))]
 pub fn text_at(sheet: &[u8], place: usize) -> Range<usize>
     requires { place + 3 ≤ length sheet.now }
