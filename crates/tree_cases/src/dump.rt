@@ -28,7 +28,7 @@ fn behind_node(n: Option<usize>, i: usize) -> usize {
 
 // How far behind `place` the first attribute stands that has one of two names and this value: as far as its value. 0 where there
 // is none.
-fn value_start(sheet: &[u8], place: usize, names: [&[u8]; 2], value: Option<&[u8]>) -> usize
+fn start_of_value(sheet: &[u8], place: usize, names: [&[u8]; 2], value: Option<&[u8]>) -> usize
     requires { place + 3 ≤ length sheet.now }
 {
     let Some(value) = value else {
@@ -74,10 +74,10 @@ fn read_values(sheet: &[u8], place: usize, name: &[u8], line: &mut [usize; 14])
     requires { place + 3 ≤ length sheet.now }
 {
     let value = attribute(sheet, place, name);
-    line[8] = value_start(sheet, place, [name, name], value);
+    line[8] = start_of_value(sheet, place, [name, name], value);
     line[9] = value.map_or(0, |v| v.len());
     let lang = language_attribute(sheet, place);
-    line[10] = value_start(sheet, place, [b"data-lang", b"data-language"], lang);
+    line[10] = start_of_value(sheet, place, [b"data-lang", b"data-language"], lang);
     line[11] = lang.map_or(0, |v| v.len());
 }
 
