@@ -16,7 +16,7 @@ use crate::bars::{at_least_one, put_byte_cells, put_column};
 use crate::rows::{all_th, count_cells, is_table_cell, next_filled_row};
 use nodes::nodes::node_name;
 use text::buffer::{Full, Wrote, lift, push_byte};
-use tree::memory::{read_long, store_long};
+use tree::memory::{read, store};
 use tree::nodes::node_end;
 
 // How many cells a row has, how long their texts are together, and how many of them are empty.
@@ -32,8 +32,8 @@ pub fn store_span(nodes: &mut [u8], c: usize, start: usize, n: usize)
     requires { c * 24 + 24 ≤ length nodes.old }
     ensures { Kept c (c + 1) nodes.old nodes.new × (start_at nodes.new c ≡ start) × (length_at nodes.new c ≡ n) }
 {
-    store_long(nodes, c * 24 + 8, start);
-    store_long(nodes, c * 24 + 16, n);
+    store::<8>(nodes, c * 24 + 8, start);
+    store::<8>(nodes, c * 24 + 16, n);
 }
 
 // The number of the first cell among the siblings, or `to`.
@@ -63,7 +63,7 @@ fn measure(sheet: &[u8], nodes: &[u8], row: usize, to: usize) -> Size
     let mut empty = 0;
     let mut c = next_cell(sheet, nodes, row + 1, to);
     while c < to {
-        let n = read_long(nodes, c * 24 + 16);
+        let n = read::<8>(nodes, c * 24 + 16);
         cells += 1;
         bytes += n;
         empty += at_least_one(n) - n;
@@ -104,7 +104,7 @@ fn put_columns(
     let mut at = src;
     let mut c = next_cell(sheet, nodes, row + 1, to);
     while c < to {
-        let n = read_long(nodes, c * 24 + 16);
+        let n = read::<8>(nodes, c * 24 + 16);
         end = put_column(text, end, at, n, under);
         at += n;
         let after = node_end(nodes, c);

@@ -1,18 +1,16 @@
 -- What the field of a node says of its kind, its name and its text, and what the records say of its siblings. Assumes nothing.
-use Prim.Native.Nat.{ℕ, ◌-◌, ◌<◌, ◌≤◌}
+use Prim.Native.Nat.{ℕ, ◌-◌, ◌≤◌}
 use native.Mathlib.Omega.{arith}
 use mathlib.Core.Path.{◌≡◌, ap, ◌∙◌, sym}
 use mathlib.Core.Bool.{false}
 use mathlib.Core.List.{List}
 use lib.ListN.{length, get_or}
-use borrow.Author.Tests.{lt-ltb, le-ltb, eq-eqb, ne_eqb}
+use borrow.Author.Tests.{eq-eqb, ne_eqb}
 use Rattle.spec.specs.Bytes.{Bytes, among}
 use Rattle.spec.specs.Names.{tag_of}
 use Rattle.input.specs.Spans.{span_at, field_of}
-use Rattle.tree.specs.Memory.{end_at, parent_at}
-use Rattle.tree.specs.Nodes.{name_at, skipped_at, text_at, PartIs, next_sibling}
+use Rattle.tree.specs.Nodes.{name_at, skipped_at, text_at, PartIs}
 use Rattle.input.specs.declared.fields.Span.{Span}
-use Rattle.tree.specs.declared.nodes.Node.TheVariants.{At, Nothing}
 
 module _ (sh : Bytes) (p : ℕ) (r : Span) (at : r ≡ span_at sh p) where
   tag_is : r.tag ≡ get_or sh p 0
@@ -53,17 +51,3 @@ module _ (sh : Bytes) (p : ℕ) (r : Span) (at : r ≡ span_at sh p) where
           inside = inside;
           bytes_are = rw (eq-eqb (get_or sh p 0) 4 (sym tag_is ∙ e)) (sym body_is);
         }
-
-module _ (ns : Bytes) (i next up last : ℕ) (n : next ≡ end_at ns i) (u : up ≡ parent_at ns i) (l : last ≡ end_at ns up) where
-  last_is_lem : last ≡ end_at ns (parent_at ns i)
-  last_is_lem = l ∙ ap (end_at ns) u
-
-  pub has_next : next < last → At next ≡ next_sibling ns i
-  has_next h =
-      let k : end_at ns i < end_at ns (parent_at ns i) = omega (arith, n, last_is_lem) in
-      rw (lt-ltb (end_at ns i) (end_at ns (parent_at ns i)) k) (ap At n)
-
-  pub is_last : last ≤ next → Nothing ≡ next_sibling ns i
-  is_last h =
-      let k : end_at ns (parent_at ns i) ≤ end_at ns i = omega (arith, n, last_is_lem) in
-      rw (le-ltb (end_at ns i) (end_at ns (parent_at ns i)) k)

@@ -2,11 +2,11 @@
 use Prim.Native.Nat.{ℕ, ◌+◌, ◌-◌, ◌<◌, ◌≤◌}
 use native.Mathlib.Omega.{arith}
 use mathlib.Core.Path.{◌≡◌, refl, ap, ◌∙◌, sym, subst}
-use mathlib.Core.Bool.{Bool, true, false, cond, ◌&&◌, ◌||◌, false≢true, or-false, and-eq-true_iff}
-use borrow.Author.Tests.{eqb-true, ne_eqb}
+use mathlib.Core.Bool.{Bool, true, false, cond, ◌&&◌, ◌||◌, false≢true, and-eq-true_iff}
+use borrow.Author.Tests.{eqb-true}
 use mathlib.Core.List.{List, [], ◌∷◌}
 use mathlib.Core.Option.{Option, some}
-use lib.ListN.{length, drop}
+use lib.ListN.{length, take, drop}
 use lib.Dec.{eqb}
 use Rattle.spec.specs.Bytes.{Bytes, same, isin}
 use Rattle.spec.specs.Fields.{Field, fields}
@@ -14,13 +14,10 @@ use Rattle.spec.specs.Tree.{Attr, Tail, text, comment, node_then, open_then, nam
 use Rattle.input.specs.Spans.{span_at, field_of}
 use Rattle.tree.specs.Attributes.{ends_attrs, either_attr, Valued}
 use Rattle.input.specs.declared.fields.Span.{Span}
-use Rattle.tree.specs.declared.attributes.Value.TheVariants.{At, Missing}
+use Rattle.std.specs.Prelude.{Some, None}
+use Rattle.std.specs.Borrow.{Bor}
 use Rattle.input.proofs.Walking.{span_fields}
 use Rattle.input.proofs.Every.{none_left}
-
-pub ends_last : (tag : ℕ) → (tag ≡ 1 → ⊥) → (tag ≡ 4 → ⊥) → (tag ≡ 5 → ⊥) → eqb tag 6 ≡ ends_attrs tag
-unfolding isin
-ends_last tag n1 n4 n5 = rw (ne_eqb tag 1 n1, ne_eqb tag 4 n4, ne_eqb tag 5 n5) (sym (or-false (eqb tag 6)))
 
 -- ---- one field
 
@@ -71,14 +68,23 @@ other_then f t e k = go (eqb f.tag 1) (eqb f.tag 6) (eqb f.tag 4) (eqb f.tag 5) 
 
 -- ---- the value at p
 
-empty_at : (s : Bytes) (p : ℕ) (v : Bytes) → p ≤ length s → v ≡ [] → Valued s (At p p) (some v)
-empty_at s p v h e =
-    let z : p - p ≡ 0 = omega arith in
-    record { inside = (omega arith, h); value_is = rw (e, z) }
+-- r is the part of s from a up to b
+abbrev pub Cut : Bytes → ℕ → ℕ → Bor Bytes → Type 0
+Cut s a b r = r.now ≡ take (b - a) (drop a s)
 
-pub value_none : (s : Bytes) (p : ℕ) → p ≤ length s → length s - p < 3 → Valued s (At p p) (some (tail (fields (drop p s))).value)
+valued_part : (s : Bytes) (a b : ℕ) (r : Bor Bytes) (v : Bytes) → a ≤ b → b ≤ length s → Cut s a b r → v ≡ take (b - a) (drop a s)
+    → Valued s (Some r) (some v)
+valued_part s a b r v o i n e = record { inside = (a, b, o, i, n); value_is = ap some (e ∙ sym n) }
+
+valued_empty : (s : Bytes) (p : ℕ) (r : Bor Bytes) (v : Bytes) → p ≤ length s → Cut s p p r → v ≡ [] → Valued s (Some r) (some v)
+valued_empty s p r v h n e =
+    let z : p - p ≡ 0 = omega arith in
+    valued_part s p p r v (omega arith) h n (rw (e, z))
+
+pub value_none : (s : Bytes) (p : ℕ) (r : Bor Bytes) → p ≤ length s → length s - p < 3 → Cut s p p r
+    → Valued s (Some r) (some (tail (fields (drop p s))).value)
 unfolding tail
-value_none s p h k = empty_at s p (tail (fields (drop p s))).value h (rw (none_left s p k))
+value_none s p r h k n = valued_empty s p r (tail (fields (drop p s))).value h n (rw (none_left s p k))
 
 -- ---- no attributes from p on
 
@@ -86,12 +92,12 @@ pub attrs_none : (s : Bytes) (p : ℕ) → length s - p < 3 → (tail (fields (d
 unfolding tail
 attrs_none s p h = rw (none_left s p h)
 
-pub either_missing : (s a b : Bytes) {attrs : List Attr} {v : Option Bytes} → attrs ≡ [] → v ≡ either_attr a b attrs → Valued s Missing v
+pub either_missing : (s a b : Bytes) {attrs : List Attr} {v : Option Bytes} → attrs ≡ [] → v ≡ either_attr a b attrs → Valued s None v
 unfolding either_attr
 either_missing s a b none-there so_far = record { inside = tt; value_is = so_far ∙ ap (either_attr a b) none-there }
 
 pub either_none : (s : Bytes) (p : ℕ) (a b : Bytes) (v : Option Bytes) → v ≡ either_attr a b (tail (fields (drop p s))).attrs
-    → length s - p < 3 → Valued s Missing v
+    → length s - p < 3 → Valued s None v
 either_none s p a b v so_far h = either_missing s a b (attrs_none s p h) so_far
 
 -- ---- the field at p
@@ -104,16 +110,17 @@ module _ (s : Bytes) (p : ℕ) (r : Span) (h : p + 3 ≤ length s) (r-is : r ≡
   pub attrs_end : ends_attrs r.tag ≡ true → (tail (fields (drop p s))).attrs ≡ []
   attrs_end e = ap (λ (t : Tail). t.attrs) tail_at ∙ (ends_then (field_of s r) _ e).0
 
-  pub value_ends : ends_attrs r.tag ≡ true → Valued s (At p p) (some (tail (fields (drop p s))).value)
-  value_ends e = empty_at s p _ (omega arith) (ap (λ (t : Tail). t.value) tail_at ∙ (ends_then (field_of s r) _ e).1)
+  module _ (v : Bor Bytes) where
+    pub value_ends : Cut s p p v → ends_attrs r.tag ≡ true → Valued s (Some v) (some (tail (fields (drop p s))).value)
+    value_ends n e = valued_empty s p v _ (omega arith) n (ap (λ (t : Tail). t.value) tail_at ∙ (ends_then (field_of s r) _ e).1)
 
-  pub value_name : r.tag ≡ 2 → Valued s (At p p) (some (tail (fields (drop p s))).value)
-  value_name e = empty_at s p _ (omega arith) (ap (λ (t : Tail). t.value) tail_at ∙ (name_then_lem (field_of s r) _ e).1)
+    pub value_name : Cut s p p v → r.tag ≡ 2 → Valued s (Some v) (some (tail (fields (drop p s))).value)
+    value_name n e = valued_empty s p v _ (omega arith) n (ap (λ (t : Tail). t.value) tail_at ∙ (name_then_lem (field_of s r) _ e).1)
 
-  pub value_here : ends_attrs r.tag ≡ false → eqb r.tag 2 ≡ false → r.start ≤ r.end → r.end ≤ length s
-      → Valued s (At r.start r.end) (some (tail (fields (drop p s))).value)
-  value_here e k l m =
-      record { inside = (l, m); value_is = ap some (ap (λ (t : Tail). t.value) tail_at ∙ (other_then (field_of s r) _ e k).1) }
+    pub value_here : Cut s r.start r.end v → ends_attrs r.tag ≡ false → eqb r.tag 2 ≡ false → r.start ≤ r.end → r.end ≤ length s
+        → Valued s (Some v) (some (tail (fields (drop p s))).value)
+    value_here n e k l m =
+        valued_part s r.start r.end v _ l m n (ap (λ (t : Tail). t.value) tail_at ∙ (other_then (field_of s r) _ e k).1)
 
   -- ---- the first attribute with one of two names, where those from p on decide
 
@@ -121,7 +128,7 @@ module _ (s : Bytes) (p : ℕ) (r : Span) (h : p + 3 ≤ length s) (r-is : r ≡
     here : v ≡ either_attr a b (field_then (field_of s r) (tail (fields (drop r.end s)))).attrs
     here = so_far ∙ ap (λ (t : Tail). either_attr a b t.attrs) tail_at
 
-    pub either_ends : ends_attrs r.tag ≡ true → Valued s Missing v
+    pub either_ends : ends_attrs r.tag ≡ true → Valued s None v
     either_ends e = either_missing s a b (attrs_end e) so_far
 
     pub either_found : (eqb r.tag 2 && (same a (field_of s r).body || same b (field_of s r).body)) ≡ true

@@ -14,7 +14,7 @@ use Rattle.spec.specs.Md.Elements.List.{name_of}
 use Rattle.tree.specs.Memory.{place_at, end_at, parent_at}
 use Rattle.tree.specs.Represents.{Rep, head_of, rest_of, Stands}
 use Rattle.tree.specs.Nodes.{body_at, name_at, skipped_at, text_at, node_if, first_child, next_sibling}
-use Rattle.tree.specs.declared.nodes.Node.TheVariants.{At, Nothing}
+use Rattle.std.specs.Prelude.{Some, None}
 use Rattle.tree.proofs.Firsts.{First, first, ended, its_tag, its_body}
 
 -- the number of its name
@@ -37,39 +37,39 @@ unfolding text_at
 first_text_lem sh p e = rw (eq-eqb (get_or sh p 0) 4 e)
 
 -- what is told by a node or none
-node_told : (a b k : ℕ) {j : ℕ} → node_if (ltb a b) k ≡ At j → (k ≡ j) × (a < b)
+node_told : (a b k : ℕ) {j : ℕ} → node_if (ltb a b) k ≡ Some j → (k ≡ j) × (a < b)
 node_told a b k {j} e = go (ltb a b) refl e
   where
-    go : (t : Bool) → ltb a b ≡ t → node_if t k ≡ At j → (k ≡ j) × (a < b)
+    go : (t : Bool) → ltb a b ≡ t → node_if t k ≡ Some j → (k ≡ j) × (a < b)
     go true q e = (cc, ltb-true a b q)
     go false q e = let z : ◌≡◌ {A = ℕ} 0 1 = cc in absurd (omega arith)
 
-none_told : (a b k : ℕ) → node_if (ltb a b) k ≡ Nothing → b ≤ a
+none_told : (a b k : ℕ) → node_if (ltb a b) k ≡ None → b ≤ a
 none_told a b k e = go (ltb a b) refl e
   where
-    go : (t : Bool) → ltb a b ≡ t → node_if t k ≡ Nothing → b ≤ a
+    go : (t : Bool) → ltb a b ≡ t → node_if t k ≡ None → b ≤ a
     go true q e = let z : ◌≡◌ {A = ℕ} 0 1 = cc in absurd (omega arith)
     go false q e = ltb-false a b q
 
 module _ {sh ns : Bytes} {parent i e : ℕ} {f : Forest} (t : First sh ns parent i e f) where
-  pub has_child : {c : ℕ} → first_child ns i ≡ At c → Rep sh ns i c (end_at ns i) (kids_of f) × (c < end_at ns i)
+  pub has_child : {c : ℕ} → first_child ns i ≡ Some c → Rep sh ns i c (end_at ns i) (kids_of f) × (c < end_at ns i)
   has_child {c} q =
       let k = node_told (i + 1) (end_at ns i) (i + 1) q in
       (subst (λ (j : ℕ). Rep sh ns i j (end_at ns i) (kids_of f)) k.0 t.in_it, omega (arith, k.0, k.1))
 
-  pub no_child : first_child ns i ≡ Nothing → kids_of f ≡ nothing
+  pub no_child : first_child ns i ≡ None → kids_of f ≡ nothing
   no_child q = ended sh ns i (i + 1) (end_at ns i) (kids_of f) t.in_it (none_told (i + 1) (end_at ns i) (i + 1) q)
 
   module _ (end : e ≡ end_at ns parent) where
     end_is : end_at ns (parent_at ns i) ≡ e
     end_is = ap (end_at ns) t.parent_is ∙ sym end
 
-    pub has_sibling : {c : ℕ} → next_sibling ns i ≡ At c → Rep sh ns parent c e (rest_of f) × (c < e)
+    pub has_sibling : {c : ℕ} → next_sibling ns i ≡ Some c → Rep sh ns parent c e (rest_of f) × (c < e)
     has_sibling {c} q =
         let k = node_told (end_at ns i) (end_at ns (parent_at ns i)) (end_at ns i) q in
         (subst (λ (j : ℕ). Rep sh ns parent j e (rest_of f)) k.0 t.after, omega (arith, k.0, k.1, end_is))
 
-    pub no_sibling : next_sibling ns i ≡ Nothing → rest_of f ≡ nothing
+    pub no_sibling : next_sibling ns i ≡ None → rest_of f ≡ nothing
     no_sibling q =
         ended sh ns parent (end_at ns i) e (rest_of f) t.after
         (omega (arith, none_told (end_at ns i) (end_at ns (parent_at ns i)) (end_at ns i) q, end_is))

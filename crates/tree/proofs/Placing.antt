@@ -1,11 +1,10 @@
 -- Storing a record, and a field by its kind. Assumes nothing.
 use Prim.Native.Nat.{ℕ, ◌+◌, ◌*◌}
 use native.Mathlib.Omega.{arith}
-use mathlib.Core.Path.{◌≡◌, ◌∙◌}
-use borrow.Author.Tests.{eq-eqb, ne_eqb}
+use mathlib.Core.Path.{◌∙◌}
 use Rattle.spec.specs.Bytes.{Bytes}
 use Rattle.tree.specs.Memory.{word_at, quad_at, Stored}
-use Rattle.tree.specs.Kinds.{opens, texts, comments, kind_of, Placed}
+use Rattle.tree.specs.Kinds.{Placed}
 use Rattle.tree.proofs.Numbers.{word_same, quad_same}
 
 pub placed : (i entry end parent : ℕ) {a b c d : Bytes} → Stored quad_at 4 (i * 24) entry a b → Stored word_at 2 (i * 24 + 4) end b c
@@ -19,15 +18,3 @@ placed i entry end parent {a} {b} {c} {d} p q r =
       before = λ j l. r.before j (omega arith) ∙ (q.before j (omega arith) ∙ p.before j l);
       behind = λ j l. r.behind j (omega arith) ∙ (q.behind j (omega arith) ∙ p.behind j (omega arith));
     }
-
-module _ (tag : ℕ) where
-  pub is_open : tag ≡ 1 → kind_of tag ≡ opens
-  is_open e = rw (eq-eqb tag 1 e)
-
-  module _ (n1 : tag ≡ 1 → ⊥) (n6 : tag ≡ 6 → ⊥) where
-    pub is_text_lem : tag ≡ 4 → kind_of tag ≡ texts
-    is_text_lem e = rw (ne_eqb tag 1 n1, ne_eqb tag 6 n6, eq-eqb tag 4 e)
-
-    module _ (n4 : tag ≡ 4 → ⊥) where
-      pub is_comment : tag ≡ 5 → kind_of tag ≡ comments
-      is_comment e = rw (ne_eqb tag 1 n1, ne_eqb tag 6 n6, ne_eqb tag 4 n4, eq-eqb tag 5 e)

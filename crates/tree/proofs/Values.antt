@@ -1,29 +1,44 @@
 -- What an answer about an attribute says. Assumes nothing.
-use Prim.Native.Nat.{ℕ, ◌-◌, ◌≤◌}
-use mathlib.Core.Path.{◌≡◌, refl, ap, ◌∙◌, sym, subst}
+use Prim.Native.Nat.{ℕ, ◌+◌, ◌-◌, ◌≤◌}
+use mathlib.Core.Path.{◌≡◌, refl, ap, ◌∙◌, sym}
 use mathlib.Core.Bool.{Bool, true, false, cond, ◌||◌, or-false, or_self}
 use mathlib.Core.List.{List, [], ◌∷◌}
-use mathlib.Core.Option.{Option, none, some, map}
-use lib.ListN.{length, take, drop}
+use mathlib.Core.Option.{Option, some, map}
+use lib.ListN.{length, take, drop, length-take, length-drop}
+use lib.Seq.{length-take-le, take-take, drop-drop}
+use Rattle.std.proofs.lemmas.List.{drop-take}
+use native.Mathlib.Omega.{arith}
 use Rattle.spec.specs.Bytes.{Bytes, ascii, same, among}
 use Rattle.spec.specs.Tree.{Attr, attr}
 use Rattle.spec.specs.Md.Elements.Code.{sanitize_attr_value, find_code_lang_attribute}
-use Rattle.tree.specs.Attributes.{either_attr, language_attr, InSheet, value_in, Valued}
-use Rattle.tree.specs.declared.attributes.Value.{Value}
-use Rattle.tree.specs.declared.attributes.Value.TheVariants.{At, Missing}
+use Rattle.std.specs.Prelude.{Option as Answer}
+use Rattle.std.specs.Borrow.{Bor}
+use Rattle.tree.specs.Attributes.{either_attr, language_attr, PartOf, Valued}
 use Rattle.input.proofs.Walking.{same_comm}
 
-module _ {sh : Bytes} {r : Value} {v : Option Bytes} (h : Valued sh r v) where
+module _ {sh : Bytes} {r : Answer (Bor Bytes)} {v : Option Bytes} (h : Valued sh r v) where
   pub valued_as : {w : Option Bytes} → v ≡ w → Valued sh r w
   valued_as e = record { inside = h.inside; value_is = sym e ∙ h.value_is }
 
-  pub found : {a b : ℕ} → r ≡ At a b → (a ≤ b) × (b ≤ length sh) × (v ≡ some (take (b - a) (drop a sh)))
-  found e =
-      let i = subst (InSheet sh) e h.inside in
-      (i.0, i.1, h.value_is ∙ ap (value_in sh) e)
+-- ---- parts of the sheet
 
-  pub missing : r ≡ Missing → v ≡ none
-  missing e = h.value_is ∙ ap (value_in sh) e
+pub part_short : (sh x : Bytes) → PartOf sh x → length x ≤ length sh
+part_short sh x p = omega (arith, ap length p.4, length-take (p.1 - p.0) (drop p.0 sh), length-drop p.0 sh)
+
+-- the bytes from a up to b of a part
+pub part_of_part : (sh x : Bytes) (a b : ℕ) → PartOf sh x → a ≤ b → b ≤ length x → PartOf sh (take (b - a) (drop a x))
+part_of_part sh x a b (p, q, o, i, e) h l =
+    let n : length x ≡ q - p = ap length e ∙ length-take-le (q - p) (drop p sh) (omega (arith, length-drop p sh)) in
+    let m : q - p ≡ a + (q - p - a) = omega (arith, n) in
+    let d : p + b - (p + a) ≡ b - a = omega arith in
+    let behind : drop a x ≡ take (q - p - a) (drop (p + a) sh) =
+    ap (drop a) (e ∙ ap (λ (k : ℕ). take k (drop p sh)) m) ∙ drop-take a (q - p - a) (drop p sh) ∙ ap (take (q - p - a)) (drop-drop a p sh) in (
+      p + a,
+      p + b,
+      omega arith,
+      omega (arith, n),
+      ap (take (b - a)) behind ∙ take-take (b - a) (q - p - a) (drop (p + a) sh) (omega (arith, n)) ∙ ap (λ (k : ℕ). take k (drop (p + a) sh)) (sym d),
+    )
 
 pub either_same : (name : Bytes) (attrs : List Attr) → either_attr name name attrs ≡ attr name attrs
 unfolding either_attr attr

@@ -1,10 +1,9 @@
 -- What is asked of an element's attributes, and the answer as a part of the sheet. Assumes nothing.
-use Rattle.std.specs.Prelude.{ℕ, ◌-◌, ◌≤◌, ◌≡◌, Bool, cond, ◌||◌, List, [], ◌∷◌, length, take, drop}
+use Rattle.std.specs.Prelude.{ℕ, ◌-◌, ◌≤◌, ◌≡◌, Bool, cond, ◌||◌, List, [], ◌∷◌, length, take, drop, Option as Answer, Some, None}
+use Rattle.std.specs.Borrow.{Bor}
 use Rattle.std.proofs.Math.Option.{Option, none, some}
 use Rattle.spec.specs.Bytes.{Bytes, ascii, same, isin}
 use Rattle.spec.specs.Tree.{Attr}
-use Rattle.tree.specs.declared.attributes.Value.{Value}
-use Rattle.tree.specs.declared.attributes.Value.TheVariants.{At, Missing}
 
 -- no attribute stands from a field with this tag on: it begins a node, or closes one
 abbrev pub ends_attrs : ℕ → Bool
@@ -19,15 +18,20 @@ either_attr a b (x ∷ more) = cond (same a x.name || same b x.name) (some x.val
 abbrev pub language_attr : List Attr → Option Bytes
 language_attr attrs = either_attr (ascii "data-lang") (ascii "data-language") attrs
 
-abbrev pub InSheet : Bytes → Value → Type 0
-InSheet sh (At a b) = (a ≤ b) × (b ≤ length sh)
-InSheet sh Missing = Unit {0}
+-- x stands in the sheet, from a up to b
+abbrev pub PartOf : Bytes → Bytes → Type 0
+PartOf sh x = (a b : ℕ) × (a ≤ b) × (b ≤ length sh) × (x ≡ take (b - a) (drop a sh))
 
-abbrev pub value_in : Bytes → Value → Option Bytes
-value_in sh (At a b) = some (take (b - a) (drop a sh))
-value_in sh Missing = none
+-- what a slice in an answer stands for is a part of the sheet
+abbrev pub InSheet : Bytes → Answer (Bor Bytes) → Type 0
+InSheet sh (Some x) = PartOf sh x.now
+InSheet sh None = Unit {0}
 
--- r says where in the sheet the value stands, or that there is none
-pub record Valued (sh : Bytes) (r : Value) (v : Option Bytes) : Type 0 where
+abbrev pub value_in : Answer (Bor Bytes) → Option Bytes
+value_in (Some x) = some x.now
+value_in None = none
+
+-- r is the value, a part of the sheet, or says that there is none
+pub record Valued (sh : Bytes) (r : Answer (Bor Bytes)) (v : Option Bytes) : Type 0 where
   pub inside : InSheet sh r
-  pub value_is : v ≡ value_in sh r
+  pub value_is : v ≡ value_in r

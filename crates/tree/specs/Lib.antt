@@ -5,3 +5,4 @@ pub mod Represents
 pub mod Accepted
 pub mod Attributes
 pub mod Nodes
+pub mod Names

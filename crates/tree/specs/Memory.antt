@@ -1,9 +1,14 @@
 -- Numbers in memory, and the records of nodes: 24 bytes each, in the order of opening. Assumes nothing.
-use Rattle.std.specs.Prelude.{ℕ, ◌+◌, ◌*◌, ◌/◌, ◌%◌, ◌≤◌, ◌<◌, ◌≡◌, length, get_or}
+use Rattle.std.specs.Prelude.{ℕ, zero, suc, ◌+◌, ◌*◌, ◌/◌, ◌%◌, ◌≤◌, ◌<◌, ◌≡◌, length, get_or}
 use Rattle.spec.specs.Bytes.{Bytes}
 use Rattle.spec.specs.Fields.{word}
 
--- two, four and eight bytes at j, the least significant first
+-- the number in n bytes at j, the least significant first
+unfoldable pub number_in : ℕ → Bytes → ℕ → ℕ
+number_in zero m j = 0
+number_in (suc n) m j = get_or m j 0 + number_in n m (j + 1) * 256
+
+-- two, four and eight bytes at j
 unfoldable pub word_at : Bytes → ℕ → ℕ
 word_at m j = word (get_or m (j + 1) 0) (get_or m j 0)
 

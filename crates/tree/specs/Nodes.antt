@@ -1,12 +1,10 @@
 -- What is asked of a node, by its number or by the place of its field in the sheet. Assumes nothing.
-use Rattle.std.specs.Prelude.{ℕ, ◌+◌, ◌-◌, ◌*◌, ◌≤◌, ◌≡◌, Bool, true, false, cond, ◌&&◌, List, [], length, get_or, take, drop, eqb, ltb}
+use Rattle.std.specs.Prelude.{ℕ, ◌+◌, ◌-◌, ◌*◌, ◌≤◌, ◌≡◌, Bool, true, false, cond, ◌&&◌, List, [], length, get_or, take, drop, eqb, ltb, Option, Some, None}
 use Rattle.spec.specs.Bytes.{Bytes, among}
 use Rattle.spec.specs.Names.{tag_of}
 use Rattle.input.specs.Spans.{span_at, field_of}
 use Rattle.tree.specs.Memory.{place_at, number_at, end_at, parent_at}
-use Rattle.tree.specs.declared.nodes.Part.{Part}
-use Rattle.tree.specs.declared.nodes.Node.{Node}
-use Rattle.tree.specs.declared.nodes.Node.TheVariants.{At, Nothing}
+use Rattle.std.specs.declared.ops.Range.{Range}
 
 -- the bytes of the field at p
 abbrev pub body_at : Bytes → ℕ → Bytes
@@ -25,19 +23,19 @@ unfoldable pub text_at : Bytes → ℕ → Bytes
 text_at sh p = cond (eqb (get_or sh p 0) 4) (body_at sh p) []
 
 -- r is a part of the sheet that holds x
-pub record PartIs (sh : Bytes) (r : Part) (x : Bytes) : Type 0 where
+pub record PartIs (sh : Bytes) (r : Range ℕ) (x : Bytes) : Type 0 where
   pub ordered : r.start ≤ r.end
   pub inside : r.end ≤ length sh
   pub bytes_are : x ≡ take (r.end - r.start) (drop r.start sh)
 
-abbrev pub node_if : Bool → ℕ → Node
-node_if true i = At i
-node_if false i = Nothing
+abbrev pub node_if : Bool → ℕ → Option ℕ
+node_if true i = Some i
+node_if false i = None
 
-abbrev pub first_child : Bytes → ℕ → Node
+abbrev pub first_child : Bytes → ℕ → Option ℕ
 first_child ns i = node_if (ltb (i + 1) (end_at ns i)) (i + 1)
 
-abbrev pub next_sibling : Bytes → ℕ → Node
+abbrev pub next_sibling : Bytes → ℕ → Option ℕ
 next_sibling ns i = node_if (ltb (end_at ns i) (end_at ns (parent_at ns i))) (end_at ns i)
 
 -- what the access functions want of node i

@@ -7,67 +7,41 @@ ghost use Rattle.spec.specs.Tree.{attr, tail};
 ghost use Rattle.tree.specs.Represents.{attrs_behind};
 ghost use Rattle.tree.specs.Attributes.{ends_attrs, either_attr, language_attr, Valued};
 
+use crate::tags::{CLOSE, COMMENT, NAME, OPEN, TEXT};
 use input::fields::{is_same, span_at};
 
-// The value of an attribute: where it starts and ends in the sheet.
-#[derive(Clone, Copy)]
-pub enum Value {
-    At(usize, usize),
-    Missing,
-}
-
 // Whether no attribute stands from a field with this tag on.
+#[tactic(auto, unfolding(spec::specs::Bytes::isin))]
 fn ends_attributes(tag: u8) -> bool
     ensures { result ≡ ends_attrs tag }
 {
-    if tag == 1 {
-        return true;
-    }
-    if tag == 4 {
-        return true;
-    }
-    if tag == 5 {
-        return true;
-    }
-    tag == 6
+    matches!(tag, OPEN | TEXT | COMMENT | CLOSE)
 }
 
 // Whether a field with these bytes is an attribute name, and one of two.
 fn is_named(tag: u8, name: &[u8], a: &[u8], b: &[u8]) -> bool
     ensures { result ≡ (eqb tag 2 && (same a.now name.now || same b.now name.now)) }
 {
-    if tag != 2 {
-        return false;
-    }
-    if is_same(a, name) {
-        return true;
-    }
-    is_same(b, name)
+    tag == NAME && (is_same(a, name) || is_same(b, name))
 }
 
 // The value at p, where an attribute name stands in front; no bytes where the field there is no value.
-fn value_at(s: &[u8], p: usize) -> Value
+fn value_at(s: &[u8], p: usize) -> &[u8]
     requires { p ≤ length s.now }
-    ensures { Valued s.now result (some (tail (fields (drop p s.now))).value) }
+    ensures { Valued s.now (Some result) (some (tail (fields (drop p s.now))).value) }
 {
     if s.len() - p < 3 {
-        return Value::At(p, p);
+        return &s[p..p];
     }
     let f = span_at(s, p);
-    let tag = f.tag;
-    if ends_attributes(tag) {
-        return Value::At(p, p);
+    if ends_attributes(f.tag) || f.tag == NAME {
+        return &s[p..p];
     }
-    if tag == 2 {
-        return Value::At(p, p);
-    }
-    let start = f.start;
-    let end = f.end;
-    Value::At(start, end)
+    &s[f.start..f.end]
 }
 
 // The value of the first attribute with one of two names, for the element that opens at `place`.
-fn either_attribute(s: &[u8], place: usize, a: &[u8], b: &[u8]) -> Value
+fn either_attribute<'a>(s: &'a [u8], place: usize, a: &[u8], b: &[u8]) -> Option<&'a [u8]>
     requires { place + 3 ≤ length s.now }
     ensures { Valued s.now result (either_attr a.now b.now (attrs_behind s.now place)) }
 {
@@ -75,40 +49,34 @@ fn either_attribute(s: &[u8], place: usize, a: &[u8], b: &[u8]) -> Value
     let mut p = e.end;
     while 3 <= s.len() - p {
         let f = span_at(s, p);
-        let tag = f.tag;
-        let start = f.start;
-        let end = f.end;
-        if ends_attributes(tag) {
-            return Value::Missing;
+        if ends_attributes(f.tag) {
+            return None;
         }
-        if is_named(tag, &s[start..end], a, b) {
-            return value_at(s, end);
+        if is_named(f.tag, &s[f.start..f.end], a, b) {
+            return Some(value_at(s, f.end));
         }
-        p = end;
+        p = f.end;
     }
-    Value::Missing
+    None
 }
 
 // Whether the element that opens at `place` is known to have no attributes.
+#[tactic(auto, using(crate::proofs::Attrs::attrs_none, crate::proofs::Attrs::attrs_end))]
 fn has_none(s: &[u8], place: usize) -> bool
     requires { place + 3 ≤ length s.now }
     ensures { result ≡ true → attrs_behind s.now place ≡ [] }
 {
-    let e = span_at(s, place);
-    let p = e.end;
-    if s.len() - p < 3 {
-        return true;
-    }
-    ends_attributes(s[p])
+    let p = span_at(s, place).end;
+    s.len() - p < 3 || ends_attributes(s[p])
 }
 
 // The value of an attribute of the element that opens at `place`: the first, where its name is repeated.
-pub fn attribute(sheet: &[u8], place: usize, name: &[u8]) -> Value
+pub fn attribute<'a>(sheet: &'a [u8], place: usize, name: &[u8]) -> Option<&'a [u8]>
     requires { place + 3 ≤ length sheet.now }
     ensures { Valued sheet.now result (attr name.now (attrs_behind sheet.now place)) }
 {
     if has_none(sheet, place) {
-        return Value::Missing;
+        return None;
     }
     // new slices: the address of `name` itself would keep it in memory
     let n = name.len();
@@ -116,7 +84,7 @@ pub fn attribute(sheet: &[u8], place: usize, name: &[u8]) -> Value
 }
 
 // The value of the first of the attributes of that element that say a language.
-pub fn language_attribute(sheet: &[u8], place: usize) -> Value
+pub fn language_attribute(sheet: &[u8], place: usize) -> Option<&[u8]>
     requires { place + 3 ≤ length sheet.now }
     ensures { Valued sheet.now result (language_attr (attrs_behind sheet.now place)) }
 {

@@ -7,3 +7,4 @@ pub mod memory;
 pub mod names;
 pub mod nodes;
 pub mod store;
+mod tags;

@@ -1,67 +1,28 @@
 // Numbers in lent memory, the less significant bytes first.
-ghost use Rattle.std.specs.Prelude.{◌≡◌, ◌+◌, ◌<◌, length, replicate};
-ghost use Rattle.tree.specs.Memory.{word_at, quad_at, long_at, Stored};
+ghost use Rattle.std.specs.Prelude.{◌≡◌, ◌+◌, ◌≤◌, ◌<◌, ◌^◌, length, replicate};
+ghost use Rattle.tree.specs.Memory.{number_in, Stored};
 
-use input::fields::wide;
-
-// The two bytes at j.
-pub fn read_word(ns: &[u8], j: usize) -> usize
-    requires { j + 1 < length ns.now }
-    ensures { (result ≡ word_at ns.now j) × (result < 65536) }
+// The number in the N bytes at j.
+pub fn read<const N: usize>(ns: &[u8], j: usize) -> usize
+    requires { (j + N ≤ length ns.now) × (N ≤ 8) }
+    ensures { (result ≡ number_in N ns.now j) × (result < 256 ^ N) }
 {
-    wide(ns[j + 1]) * 256 + wide(ns[j])
+    let mut bytes = [0; 8];
+    bytes[..N].copy_from_slice(&ns[j..j + N]);
+    usize::from_le_bytes(bytes)
 }
 
-// The four bytes at j.
-pub fn read_quad(ns: &[u8], j: usize) -> usize
-    requires { j + 3 < length ns.now }
-    ensures { (result ≡ quad_at ns.now j) × (result < 4294967296) }
+// Stores v in the N bytes at j.
+pub fn store<const N: usize>(ns: &mut [u8], j: usize, v: usize)
+    requires { (j + N ≤ length ns.old) × (N ≤ 8) × (v < 256 ^ N) }
+    ensures { Stored (number_in N) N j v ns.old ns.new }
 {
-    read_word(ns, j + 2) * 65536 + read_word(ns, j)
-}
-
-// The eight bytes at j.
-pub fn read_long(ns: &[u8], j: usize) -> usize
-    requires { j + 7 < length ns.now }
-    ensures { result ≡ long_at ns.now j }
-{
-    read_quad(ns, j + 4) * 4294967296 + read_quad(ns, j)
-}
-
-// Stores v in the two bytes at j.
-pub fn store_word(ns: &mut [u8], j: usize, v: usize)
-    requires { (j + 1 < length ns.old) × (v < 65536) }
-    ensures { Stored word_at 2 j v ns.old ns.new }
-{
-    ns[j] = (v % 256) as u8;
-    ns[j + 1] = (v / 256) as u8;
-}
-
-// Stores v in the four bytes at j.
-pub fn store_quad(ns: &mut [u8], j: usize, v: usize)
-    requires { (j + 3 < length ns.old) × (v < 4294967296) }
-    ensures { Stored quad_at 4 j v ns.old ns.new }
-{
-    store_word(ns, j, v % 65536);
-    store_word(ns, j + 2, v / 65536);
-}
-
-// Stores v in the eight bytes at j.
-pub fn store_long(ns: &mut [u8], j: usize, v: usize)
-    requires { j + 7 < length ns.old }
-    ensures { Stored long_at 8 j v ns.old ns.new }
-{
-    store_quad(ns, j, v % 4294967296);
-    store_quad(ns, j + 4, v / 4294967296);
+    ns[j..j + N].copy_from_slice(&v.to_le_bytes()[..N]);
 }
 
 // Clears a memory.
 pub fn clear(m: &mut [u8])
     ensures { m.new ≡ replicate (length m.old) 0 }
 {
-    let mut i = 0;
-    while i < m.len() {
-        m[i] = 0;
-        i += 1;
-    }
+    m.fill(0);
 }

@@ -1,182 +1,202 @@
 // Element names: the number by which the writers know one, and the skip list.
-ghost use Rattle.std.specs.Prelude.{◌≡◌, cond, [], ◌∷◌, ◌+◌, ◌≤◌, length};
+ghost use Rattle.std.specs.Prelude.{◌≡◌, ◌+◌, ◌≤◌, length};
 ghost use Rattle.spec.specs.Fields.{fields};
-ghost use Rattle.spec.specs.Bytes.{same, among};
-ghost use Rattle.spec.specs.Names.{place, tag_of};
+ghost use Rattle.spec.specs.Bytes.{among};
+ghost use Rattle.spec.specs.Names.{tag_of};
 ghost use Rattle.spec.specs.Call.{bodies, tags_to_skip};
 ghost use Rattle.spec.specs.Md.Constants.{DEFAULT_SKIP_TAGS};
 ghost use Rattle.input.specs.Scans.{skip_list};
 ghost use Rattle.tree.specs.Nodes.{name_at, skipped_at};
+ghost use Rattle.tree.specs.Names.{number_of, Numbers};
 
+use crate::tags::OPEN;
 use input::fields::{is_same, span_at};
 
-// The place of a name among the bytes of a run's fields, counted from 1; 0 where it has none.
-fn place_in(run: &[u8], name: &[u8]) -> usize
-    ensures { result ≡ place 1 name.now (bodies (fields run.now)) }
+// Whether a name is one of the bytes of a run's fields.
+fn has_name(run: &[u8], name: &[u8]) -> bool
+    ensures { result ≡ among name.now (bodies (fields run.now)) }
 {
-    let mut n = 1;
     let mut p = 0;
     while 3 <= run.len() - p {
         let f = span_at(run, p);
-        let start = f.start;
-        let end = f.end;
-        if is_same(name, &run[start..end]) {
-            return n;
+        if is_same(name, &run[f.start..f.end]) {
+            return true;
         }
-        n += 1;
-        p = end;
+        p = f.end;
     }
-    0
+    false
 }
 
-// The number of a name of one byte.
-fn number_of_one(a: u8) -> usize
-    ensures { result ≡ tag_of (a ∷ []) }
-{
-    match a {
-        b'p' => 4,
-        b'a' => 21,
-        b'b' => 26,
-        b'i' => 28,
-        _ => 0,
-    }
+// The element names that the writers know, by the numbers under which nodes store them; `Other` is every other name.
+#[derive(Clone, Copy, PartialEq, Eq, Debug)]
+pub enum Name {
+    Other = 0,
+    Article = 1,
+    Section = 2,
+    Div = 3,
+    P = 4,
+    H1 = 5,
+    H2 = 6,
+    H3 = 7,
+    H4 = 8,
+    H5 = 9,
+    H6 = 10,
+    Ul = 11,
+    Ol = 12,
+    Dl = 13,
+    Table = 14,
+    Hr = 15,
+    Li = 16,
+    Tr = 17,
+    Th = 18,
+    Td = 19,
+    Br = 20,
+    A = 21,
+    Img = 22,
+    Pre = 23,
+    Code = 24,
+    Strong = 25,
+    B = 26,
+    Em = 27,
+    I = 28,
+    Thead = 29,
+    Tbody = 30,
 }
 
-// The names of two bytes, each as one number with the first byte above the second.
-const H1: u16 = 0x6831;
+impl From<Name> for usize {
+    ghost from_gives = { λ name n. n ≡ number_of name };
 
-const H2: u16 = 0x6832;
-
-const H3: u16 = 0x6833;
-
-const H4: u16 = 0x6834;
-
-const H5: u16 = 0x6835;
-
-const H6: u16 = 0x6836;
-
-const UL: u16 = 0x756c;
-
-const OL: u16 = 0x6f6c;
-
-const DL: u16 = 0x646c;
-
-const HR: u16 = 0x6872;
-
-const LI: u16 = 0x6c69;
-
-const TR: u16 = 0x7472;
-
-const TH: u16 = 0x7468;
-
-const TD: u16 = 0x7464;
-
-const BR: u16 = 0x6272;
-
-const EM: u16 = 0x656d;
-
-// The number of a name of two bytes.
-fn number_of_two(a: u8, b: u8) -> usize
-    ensures { result ≡ tag_of (a ∷ b ∷ []) }
-{
-    match a as u16 * 256 + b as u16 {
-        H1 => 5,
-        H2 => 6,
-        H3 => 7,
-        H4 => 8,
-        H5 => 9,
-        H6 => 10,
-        UL => 11,
-        OL => 12,
-        DL => 13,
-        HR => 15,
-        LI => 16,
-        TR => 17,
-        TH => 18,
-        TD => 19,
-        BR => 20,
-        EM => 27,
-        _ => 0,
+    fn from(name: Name) -> usize {
+        name as usize
     }
 }
 
-// `number` where the name is `known`, else `other`.
-fn number_or(name: &[u8], known: &[u8], number: usize, other: usize) -> usize
-    ensures { result ≡ cond (same name.now known.now) number other }
-{
-    if is_same(name, known) { number } else { other }
+// A number that no name has.
+#[derive(Clone, Copy, PartialEq, Eq, Debug)]
+pub struct UnknownNumber(pub usize);
+
+impl TryFrom<usize> for Name {
+    type Error = UnknownNumber;
+
+    ghost try_from_gives = { Numbers };
+
+    fn try_from(number: usize) -> Result<Self, UnknownNumber> {
+        match number {
+            0 => Ok(Name::Other),
+            1 => Ok(Name::Article),
+            2 => Ok(Name::Section),
+            3 => Ok(Name::Div),
+            4 => Ok(Name::P),
+            5 => Ok(Name::H1),
+            6 => Ok(Name::H2),
+            7 => Ok(Name::H3),
+            8 => Ok(Name::H4),
+            9 => Ok(Name::H5),
+            10 => Ok(Name::H6),
+            11 => Ok(Name::Ul),
+            12 => Ok(Name::Ol),
+            13 => Ok(Name::Dl),
+            14 => Ok(Name::Table),
+            15 => Ok(Name::Hr),
+            16 => Ok(Name::Li),
+            17 => Ok(Name::Tr),
+            18 => Ok(Name::Th),
+            19 => Ok(Name::Td),
+            20 => Ok(Name::Br),
+            21 => Ok(Name::A),
+            22 => Ok(Name::Img),
+            23 => Ok(Name::Pre),
+            24 => Ok(Name::Code),
+            25 => Ok(Name::Strong),
+            26 => Ok(Name::B),
+            27 => Ok(Name::Em),
+            28 => Ok(Name::I),
+            29 => Ok(Name::Thead),
+            30 => Ok(Name::Tbody),
+            _ => Err(UnknownNumber(number)),
+        }
+    }
 }
 
-// The number of a name, by its length.
-fn name_number(name: &[u8]) -> usize
-    ensures { result ≡ tag_of name.now }
+// The element that a name means.
+#[tactic(auto, using(crate::proofs::Naming::by_bytes), unfolding(crate::proofs::Naming::place_of, spec::specs::Names::names))]
+fn name_of(name: &[u8]) -> Name
+    ensures { number_of result ≡ tag_of name.now }
 {
-    match name.len() {
-        1 => number_of_one(name[0]),
-        2 => number_of_two(name[0], name[1]),
-        3 => number_or(
-            name,
-            b"div",
-            3,
-            number_or(name, b"img", 22, number_or(name, b"pre", 23, 0)),
-        ),
-        4 => number_or(name, b"code", 24, 0),
-        5 => number_or(
-            name,
-            b"table",
-            14,
-            number_or(name, b"thead", 29, number_or(name, b"tbody", 30, 0)),
-        ),
-        6 => number_or(name, b"strong", 25, 0),
-        7 => number_or(name, b"article", 1, number_or(name, b"section", 2, 0)),
-        _ => 0,
+    match name {
+        b"article" => Name::Article,
+        b"section" => Name::Section,
+        b"div" => Name::Div,
+        b"p" => Name::P,
+        b"h1" => Name::H1,
+        b"h2" => Name::H2,
+        b"h3" => Name::H3,
+        b"h4" => Name::H4,
+        b"h5" => Name::H5,
+        b"h6" => Name::H6,
+        b"ul" => Name::Ul,
+        b"ol" => Name::Ol,
+        b"dl" => Name::Dl,
+        b"table" => Name::Table,
+        b"hr" => Name::Hr,
+        b"li" => Name::Li,
+        b"tr" => Name::Tr,
+        b"th" => Name::Th,
+        b"td" => Name::Td,
+        b"br" => Name::Br,
+        b"a" => Name::A,
+        b"img" => Name::Img,
+        b"pre" => Name::Pre,
+        b"code" => Name::Code,
+        b"strong" => Name::Strong,
+        b"b" => Name::B,
+        b"em" => Name::Em,
+        b"i" => Name::I,
+        b"thead" => Name::Thead,
+        b"tbody" => Name::Tbody,
+        _ => Name::Other,
     }
 }
 
 // Whether a name is one of the default skip list.
+#[tactic(auto, using(crate::proofs::Naming::skips_by_bytes), unfolding(crate::proofs::Naming::among_of))]
 fn is_default_skip_tag(name: &[u8]) -> bool
     ensures { result ≡ among name.now DEFAULT_SKIP_TAGS }
 {
-    is_same(name, b"script")
-        | (is_same(name, b"style") | (is_same(name, b"meta") | is_same(name, b"head")))
+    matches!(name, b"script" | b"style" | b"meta" | b"head")
 }
 
 // Whether a name is one of the skip list.
+#[tactic(auto, unfolding(spec::specs::Call::tags_to_skip))]
 fn is_skip_tag(own: bool, run: &[u8], name: &[u8]) -> bool
     ensures { result ≡ among name.now (tags_to_skip (skip_list own run.now)) }
 {
     if own {
-        return place_in(run, name) != 0;
+        has_name(run, name)
+    } else {
+        is_default_skip_tag(name)
     }
-    is_default_skip_tag(name)
 }
 
 // The number of the name of the node whose field stands at `place`; 0 where it is no element.
+#[tactic(auto, using(crate::proofs::Access::no_name, crate::proofs::Access::its_name))]
 pub fn name_at(sheet: &[u8], place: usize) -> usize
     requires { place + 3 ≤ length sheet.now }
     ensures { result ≡ name_at sheet.now place }
 {
     let f = span_at(sheet, place);
-    let tag = f.tag;
-    if tag != 1 {
+    if f.tag != OPEN {
         return 0;
     }
-    let start = f.start;
-    let end = f.end;
-    name_number(&sheet[start..end])
+    usize::from(name_of(&sheet[f.start..f.end]))
 }
 
 // Whether that node is an element that the skip list leaves out.
+#[tactic(auto, using(crate::proofs::Access::no_element, crate::proofs::Access::its_skip))]
 pub fn is_skipped(sheet: &[u8], place: usize, own: bool, run: &[u8]) -> bool
     requires { place + 3 ≤ length sheet.now }
     ensures { result ≡ skipped_at (tags_to_skip (skip_list own run.now)) sheet.now place }
 {
     let f = span_at(sheet, place);
-    let tag = f.tag;
-    if tag != 1 {
-        return false;
-    }
-    let start = f.start;
-    let end = f.end;
-    is_skip_tag(own, run, &sheet[start..end])
+    f.tag == OPEN && is_skip_tag(own, run, &sheet[f.start..f.end])
 }

@@ -3,76 +3,65 @@ ghost use Rattle.std.specs.Prelude.{◌≡◌, ◌+◌, ◌*◌, ◌≤◌, ◌<
 ghost use Rattle.tree.specs.Memory.{place_at, number_at, end_at, parent_at};
 ghost use Rattle.tree.specs.Nodes.{text_at, PartIs, first_child, next_sibling};
 
-use crate::memory::{read_quad, read_word};
+use crate::memory::read;
+use crate::tags::TEXT;
 use input::fields::span_at;
-
-// A part of the sheet.
-#[derive(Clone, Copy)]
-pub struct Part {
-    pub start: usize,
-    pub end: usize,
-}
-
-// A node, or none.
-#[derive(Clone, Copy)]
-pub enum Node {
-    At(usize),
-    Nothing,
-}
+use std::ops::Range;
 
 // Where in the sheet the field of node i stands.
+#[tactic(auto, using(crate::proofs::Numbers::quad_is))]
 pub fn node_place(ns: &[u8], i: usize) -> usize
     requires { i * 24 + 24 ≤ length ns.now }
     ensures { result ≡ place_at ns.now i }
 {
-    read_quad(ns, i * 24) / 256
+    read::<4>(ns, i * 24) / 256
 }
 
 // The number of its name; 0 where it is no element.
+#[tactic(auto, using(crate::proofs::Numbers::quad_is))]
 pub fn node_number(ns: &[u8], i: usize) -> usize
     requires { i * 24 + 24 ≤ length ns.now }
     ensures { result ≡ number_at ns.now i }
 {
-    read_quad(ns, i * 24) % 256
+    read::<4>(ns, i * 24) % 256
 }
 
 // The number of the node behind the last descendant of node i. The children of node i are i + 1, the end of that, and so
 // on up to the end of i.
+#[tactic(auto, using(crate::proofs::Numbers::word_is))]
 pub fn node_end(ns: &[u8], i: usize) -> usize
     requires { i * 24 + 24 ≤ length ns.now }
     ensures { result ≡ end_at ns.now i }
 {
-    read_word(ns, i * 24 + 4)
+    read::<2>(ns, i * 24 + 4)
 }
 
 // The number of the node in which node i stands; 0 for node 0 itself.
+#[tactic(auto, using(crate::proofs::Numbers::word_is))]
 pub fn node_parent(ns: &[u8], i: usize) -> usize
     requires { i * 24 + 24 ≤ length ns.now }
     ensures { result ≡ parent_at ns.now i }
 {
-    read_word(ns, i * 24 + 6)
+    read::<2>(ns, i * 24 + 6)
 }
 
-pub fn first_child(ns: &[u8], i: usize) -> Node
+// The first child of node i, if it has one.
+pub fn first_child(ns: &[u8], i: usize) -> Option<usize>
     requires { i * 24 + 24 ≤ length ns.now }
     ensures { result ≡ first_child ns.now i }
 {
-    if i + 1 < node_end(ns, i) {
-        return Node::At(i + 1);
-    }
-    Node::Nothing
+    let next = i + 1;
+    (next < node_end(ns, i)).then_some(next)
 }
 
-pub fn next_sibling(ns: &[u8], i: usize) -> Node
+// The node that follows node i among its siblings, if it is not the last.
+pub fn next_sibling(ns: &[u8], i: usize) -> Option<usize>
     requires { (i * 24 + 24 ≤ length ns.now) × (parent_at ns.now i * 24 + 24 ≤ length ns.now) }
     ensures { result ≡ next_sibling ns.now i }
 {
     let next = node_end(ns, i);
     let up = node_parent(ns, i);
-    if next < node_end(ns, up) {
-        return Node::At(next);
-    }
-    Node::Nothing
+    (next < node_end(ns, up)).then_some(next)
 }
 
 // What kind of node has its field at `place`: the tag of that field.
@@ -83,24 +72,15 @@ pub fn tag_at(sheet: &[u8], place: usize) -> u8
     sheet[place]
 }
 
-// The bytes of that node where it is a text; else no bytes. Over the nodes of a range, one after the other, these are the
-// pieces of `text_of`.
-pub fn text_at(sheet: &[u8], place: usize) -> Part
+// Where in the sheet the bytes of that node stand, where it is a text; else no bytes. Over the nodes of a range, one after the
+// other, these are the pieces of `text_of`. Callers read a few bytes behind it, so it is a range and no slice.
+#[tactic(auto, using(crate::proofs::Access::no_text, crate::proofs::Access::its_text))]
+pub fn text_at(sheet: &[u8], place: usize) -> Range<usize>
     requires { place + 3 ≤ length sheet.now }
     ensures { PartIs sheet.now result (text_at sheet.now place) }
 {
     let f = span_at(sheet, place);
-    let tag = f.tag;
     let start = f.start;
-    let end = f.end;
-    if tag != 4 {
-        return Part {
-            start: start,
-            end: start,
-        };
-    }
-    Part {
-        start: start,
-        end: end,
-    }
+    let end = if f.tag == TEXT { f.end } else { start };
+    start..end
 }

@@ -5,8 +5,9 @@ ghost use Rattle.tree.specs.Memory.{word_at, Stored, parent_at};
 ghost use Rattle.tree.specs.Represents.{entry_of, Holds};
 ghost use Rattle.tree.specs.Kinds.{kind_of, Placed, FitsAs, TurnedAs, Storable};
 
-use crate::memory::{read_word, store_quad, store_word};
+use crate::memory::{read, store};
 use crate::names::name_at;
+use crate::tags::{CLOSE, COMMENT, OPEN, TEXT};
 use input::fields::length_at;
 
 // How far storing has come: the nodes begun, and the innermost open one.
@@ -21,18 +22,19 @@ fn store_record(ns: &mut [u8], i: usize, entry: usize, end: usize, parent: usize
     requires { (i * 24 + 24 ≤ length ns.old) × (entry < 4294967296) × (end < 65536) × (parent < 65536) }
     ensures { Placed i entry end parent ns.old ns.new }
 {
-    store_quad(ns, i * 24, entry);
-    store_word(ns, i * 24 + 4, end);
-    store_word(ns, i * 24 + 6, parent);
+    store::<4>(ns, i * 24, entry);
+    store::<2>(ns, i * 24 + 4, end);
+    store::<2>(ns, i * 24 + 6, parent);
 }
 
 // Stores that the node `cur` ends before the node with the number `count`, and says its parent.
+#[tactic(auto, using(crate::proofs::Numbers::word_is, crate::proofs::Numbers::stored_word))]
 fn close_node(ns: &mut [u8], count: usize, cur: usize) -> usize
     requires { (cur * 24 + 24 ≤ length ns.old) × (count < 65536) }
     ensures { Stored word_at 2 (cur * 24 + 4) count ns.old ns.new × (result ≡ parent_at ns.old cur) }
 {
-    let up = read_word(ns, cur * 24 + 6);
-    store_word(ns, cur * 24 + 4, count);
+    let up = read::<2>(ns, cur * 24 + 6);
+    store::<2>(ns, cur * 24 + 4, count);
     up
 }
 
@@ -41,34 +43,27 @@ fn store_field(ns: &mut [u8], tag: u8, entry: usize, count: usize, cur: usize) -
     requires { (entry < 4294967296) × FitsAs (kind_of tag) count cur ns.old × (tag ≡ 6 → ⊥) }
     ensures { TurnedAs (kind_of tag) entry count cur ns.old ns.new result }
 {
-    if tag == 1 {
-        store_record(ns, count, entry, count + 1, cur);
-        return Turn {
-            count: count + 1,
-            cur: count,
-        };
-    }
-    if tag == 4 {
-        store_record(ns, count, entry, count + 1, cur);
-        return Turn {
-            count: count + 1,
-            cur: cur,
-        };
-    }
-    if tag == 5 {
-        store_record(ns, count, entry, count + 1, cur);
-        return Turn {
-            count: count + 1,
-            cur: cur,
-        };
-    }
-    Turn {
-        count: count,
-        cur: cur,
+    match tag {
+        OPEN => {
+            store_record(ns, count, entry, count + 1, cur);
+            Turn {
+                count: count + 1,
+                cur: count,
+            }
+        }
+        TEXT | COMMENT => {
+            store_record(ns, count, entry, count + 1, cur);
+            Turn {
+                count: count + 1,
+                cur,
+            }
+        }
+        _ => Turn { count, cur },
     }
 }
 
 // The entry of a node whose field stands at p: its place, and the number of its name.
+#[tactic(auto, using(crate::proofs::Entries::name_low), unfolding(crate::specs::Represents::entry_of))]
 fn entry_of(sheet: &[u8], p: usize) -> usize
     requires { (p + 3 ≤ length sheet.now) × (length sheet.now ≤ 1048576) }
     ensures { (result ≡ entry_of sheet.now p) × (result < 4294967296) }
@@ -88,7 +83,7 @@ fn store_rest(sheet: &[u8], nodes: &mut [u8]) -> usize
     // that its length is not read.
     while p + 3 <= sheet.len() {
         let tag = sheet[p];
-        if tag == 6 {
+        if tag == CLOSE {
             cur = close_node(nodes, count, cur);
             p += 3;
             continue;
@@ -100,7 +95,7 @@ fn store_rest(sheet: &[u8], nodes: &mut [u8]) -> usize
         cur = t.cur;
         p = p + 3 + n;
     }
-    store_word(nodes, 4, count);
+    store::<2>(nodes, 4, count);
     count
 }
 

@@ -4,13 +4,16 @@ ghost use Rattle.tree.specs.Memory.{parent_at};
 ghost use Rattle.tree.specs.Nodes.{Readable};
 ghost use Rattle.tree.specs.Represents.{Holds};
 
+use input::fields::{is_same, span_at};
 use std::io;
-use tree::attributes::{Value, attribute, language_attribute};
+use tree::attributes::{attribute, language_attribute};
 use tree::names::is_skipped;
 use tree::nodes::{
-    Node, first_child, next_sibling, node_end, node_number, node_parent, node_place, tag_at,
-    text_at,
+    first_child, next_sibling, node_end, node_number, node_parent, node_place, tag_at, text_at,
 };
+
+// The tag of an attribute's name.
+const NAME: u8 = 2;
 
 // A blank and a number.
 pub fn put(rt: &impl Print, n: usize) -> io::Result<()> {
@@ -18,38 +21,29 @@ pub fn put(rt: &impl Print, n: usize) -> io::Result<()> {
     rt.print(n)
 }
 
-// How far a lies behind b; 0 where it does not.
-fn behind(a: usize, b: usize) -> usize {
-    if a < b {
+// How far a node lies behind node i; 0 where there is none.
+fn behind_node(n: Option<usize>, i: usize) -> usize {
+    n.map_or(0, |j| j.saturating_sub(i))
+}
+
+// How far behind `place` the first attribute stands that has one of two names and this value: as far as its value. 0 where there
+// is none.
+fn start_of_value(sheet: &[u8], place: usize, names: [&[u8]; 2], value: Option<&[u8]>) -> usize
+    requires { place + 3 ≤ length sheet.now }
+{
+    let Some(value) = value else {
         return 0;
-    }
-    a - b
-}
-
-fn behind_node(n: Node, i: usize) -> usize {
-    match n {
-        Node::At(j) => behind(j, i),
-        Node::Nothing => 0,
-    }
-}
-
-fn value_start(v: Value, place: usize) -> usize {
-    match v {
-        Value::At(start, _) => behind(start, place),
-        Value::Missing => 0,
-    }
-}
-
-fn value_length(v: Value) -> usize {
-    match v {
-        Value::At(start, end) => behind(end, start),
-        Value::Missing => 0,
-    }
-}
-
-fn one_if(b: bool) -> usize {
-    if b {
-        return 1;
+    };
+    let mut named = false;
+    let mut p = span_at(sheet, place).end;
+    while 3 <= sheet.len() - p {
+        let f = span_at(sheet, p);
+        let bytes = &sheet[f.start..f.end];
+        if named && is_same(bytes, value) {
+            return f.start - place;
+        }
+        named = f.tag == NAME && (is_same(bytes, names[0]) || is_same(bytes, names[1]));
+        p = f.end;
     }
     0
 }
@@ -58,7 +52,7 @@ fn one_if(b: bool) -> usize {
 fn read_record(ns: &[u8], i: usize, line: &mut [usize; 14])
     requires { (i * 24 + 24 ≤ length ns.now) × (parent_at ns.now i * 24 + 24 ≤ length ns.now) }
 {
-    line[0] = behind(node_end(ns, i), i);
+    line[0] = node_end(ns, i).saturating_sub(i);
     line[1] = node_parent(ns, i);
     line[2] = behind_node(first_child(ns, i), i);
     line[3] = behind_node(next_sibling(ns, i), i);
@@ -71,8 +65,8 @@ fn read_field(sheet: &[u8], place: usize, line: &mut [usize; 14])
 {
     let text = text_at(sheet, place);
     line[4] = tag_at(sheet, place) as usize;
-    line[6] = behind(text.start, place);
-    line[7] = behind(text.end, text.start);
+    line[6] = text.start.saturating_sub(place);
+    line[7] = text.len();
 }
 
 // Where the values of two attributes stand.
@@ -80,32 +74,18 @@ fn read_values(sheet: &[u8], place: usize, name: &[u8], line: &mut [usize; 14])
     requires { place + 3 ≤ length sheet.now }
 {
     let value = attribute(sheet, place, name);
-    line[8] = value_start(value, place);
-    line[9] = value_length(value);
+    line[8] = start_of_value(sheet, place, [name, name], value);
+    line[9] = value.map_or(0, |v| v.len());
     let lang = language_attribute(sheet, place);
-    line[10] = value_start(lang, place);
-    line[11] = value_length(lang);
+    line[10] = start_of_value(sheet, place, [b"data-lang", b"data-language"], lang);
+    line[11] = lang.map_or(0, |v| v.len());
 }
 
-fn is_like(a: &[usize; 14], b: &[usize; 14]) -> bool {
-    let mut k = 0;
-    while k < 14 {
-        if a[k] != b[k] {
-            return false;
-        }
-        k += 1;
+fn put_line(rt: &impl Print, line: &[usize; 14]) -> io::Result<()> {
+    for n in line {
+        put(rt, *n)?;
     }
-    true
-}
-
-fn put_line(rt: &impl Print, line: &[usize; 14], last: &mut [usize; 14]) -> io::Result<()> {
-    let mut k = 0;
-    while k < 14 {
-        put(rt, line[k])?;
-        last[k] = line[k];
-        k += 1;
-    }
-    Ok(())
+    rt.write_all(b"\n")
 }
 
 // How often the last line comes again.
@@ -128,12 +108,12 @@ fn put_next(
     requires { again + 1 < 18446744073709551616 }
     ensures { IfOk result (λ n. n ≤ again + 1) }
 {
-    if is_like(line, last) {
+    if line == last {
         return Ok(again + 1);
     }
     put_again(rt, again)?;
-    put_line(rt, line, last)?;
-    rt.write_all(b"\n")?;
+    put_line(rt, line)?;
+    *last = *line;
     Ok(0)
 }
 
@@ -154,8 +134,8 @@ fn read_node(
     read_record(ns, i, line);
     read_field(sheet, place, line);
     read_values(sheet, place, name, line);
-    line[12] = one_if(is_skipped(sheet, place, own, run));
-    line[13] = behind(place, before);
+    line[12] = usize::from(is_skipped(sheet, place, own, run));
+    line[13] = place.saturating_sub(before);
     place
 }
 
@@ -175,11 +155,9 @@ pub fn print_nodes(
     let mut line = [0usize; 14];
     let mut again = 0;
     let mut place = 0;
-    let mut i = 1;
-    while i < count {
+    for i in 1..count {
         place = read_node(sheet, own, run, name, ns, i, place, &mut line);
         again = put_next(rt, &line, &mut last, again)?;
-        i += 1;
     }
     put_again(rt, again)
 }

@@ -2,7 +2,7 @@
 // repeated some number of times.
 ghost use Rattle.std.specs.Prelude.{◌+◌, ◌≤◌, ◌≡◌, length};
 
-use tree::memory::{read_quad, read_word};
+use tree::memory::read;
 
 // A call but for its sheet: the skip list is input[run..name], the attribute name input[name..end].
 #[derive(Clone, Copy)]
@@ -21,16 +21,16 @@ pub fn read_head(input: &[u8], at: usize) -> Head
     requires { at + 15 ≤ length input.now }
     ensures { (result.run ≡ at + 15) × (result.run ≤ result.name) × (result.name ≤ result.end) }
 {
-    let name = at + 15 + read_word(input, at + 1);
-    let end = name + read_word(input, at + 3);
+    let name = at + 15 + read::<2>(input, at + 1);
+    let end = name + read::<2>(input, at + 3);
     Head {
         own: input[at] == 1,
-        start: read_quad(input, at + 5),
-        memory: read_quad(input, at + 9),
-        pieces: read_word(input, at + 13),
+        start: read::<4>(input, at + 5),
+        memory: read::<4>(input, at + 9),
+        pieces: read::<2>(input, at + 13),
         run: at + 15,
-        name: name,
-        end: end,
+        name,
+        end,
     }
 }
 
@@ -41,72 +41,36 @@ pub struct Built {
     pub len: usize,
 }
 
-// Appends input[from..to] to a sheet of len bytes, as far as there is room.
-fn append(input: &[u8], from: usize, to: usize, sheet: &mut [u8], len: usize) -> usize
-    requires { (to ≤ length input.now) × (len ≤ length sheet.old) }
+// Appends a piece to a sheet of len bytes, as far as there is room.
+fn append(piece: &[u8], sheet: &mut [u8], len: usize) -> usize
+    requires { len ≤ length sheet.old }
     ensures { result ≤ length sheet.old }
 {
-    let mut i = from;
-    let mut n = len;
-    while i < to {
-        if n == sheet.len() {
-            return n;
-        }
-        sheet[n] = input[i];
-        n += 1;
-        i += 1;
-    }
-    n
+    let n = piece.len().min(sheet.len() - len);
+    sheet[len..len + n].copy_from_slice(&piece[..n]);
+    len + n
 }
 
-// The same so many times.
-fn append_times(
-    input: &[u8],
-    from: usize,
-    to: usize,
-    times: usize,
-    sheet: &mut [u8],
-    len: usize,
-) -> usize
-    requires { (to ≤ length input.now) × (len ≤ length sheet.old) }
-    ensures { result ≤ length sheet.old }
-{
-    let mut k = 0;
-    let mut n = len;
-    while k < times {
-        n = append(input, from, to, sheet, n);
-        k += 1;
-    }
-    n
-}
-
-// The sheet whose pieces stand at `at` of the input.
+// The sheet whose pieces stand at `at` of the input: each after the number of times that it comes, and its length.
 pub fn build_sheet(input: &[u8], at: usize, pieces: usize, sheet: &mut [u8]) -> Built
     requires { at ≤ length input.now }
     ensures { (at ≤ result.at) × (result.at ≤ length input.now) × (result.len ≤ length sheet.new) }
 {
-    let mut k = 0;
     let mut p = at;
     let mut len = 0;
-    while k < pieces {
-        if input.len() - p < 6 {
+    for _ in 0..pieces {
+        let rest = &input[p..];
+        if rest.len() < 6 || rest.len() - 6 < read::<2>(rest, 4) {
             return Built {
                 at: input.len(),
-                len: len,
+                len,
             };
         }
-        let times = read_quad(input, p);
-        let size = read_word(input, p + 4);
-        let from = p + 6;
-        if input.len() - from < size {
-            return Built {
-                at: input.len(),
-                len: len,
-            };
+        let end = 6 + read::<2>(rest, 4);
+        for _ in 0..read::<4>(rest, 0) {
+            len = append(&rest[6..end], sheet, len);
         }
-        len = append_times(input, from, from + size, times, sheet, len);
-        p = from + size;
-        k += 1;
+        p += end;
     }
-    Built { at: p, len: len }
+    Built { at: p, len }
 }

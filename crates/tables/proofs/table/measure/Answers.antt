@@ -1,9 +1,10 @@
 use Prim.Native.Nat.{◌+◌}
-use mathlib.Core.Path.{refl, ap}
+use mathlib.Core.Path.{refl, ap, ◌∙◌}
 use lib.ListN.{length}
 use Rattle.tree.specs.Memory.{end_at}
 use Rattle.tree.specs.Represents.{rest_of}
 use Rattle.tree.proofs.Firsts.{rep_le}
+use Rattle.tree.proofs.Numbers.{long_is}
 use Rattle.tables.specs.Spans.{cell_lengths, sum, zeros}
 use Rattle.tables.proofs.Gathering.{few_cells, from_none, from_first, from_rest, from_later, from_turn, sum_first, zeros_first, length_first, sum_none, zeros_none, zeros_few}
 use native.Mathlib.Omega.{arith}
@@ -30,18 +31,18 @@ pub overflow_add-c : goal.overflow_add-c
 overflow_add-c c =
     omega (arith, (from_first c.loop-c.invariant.0 c.loop-c-test.true).inside)
 
-pub read_long-n-requires : goal.read_long-n-requires
-read_long-n-requires c =
-    omega (arith, (from_first c.loop-c.invariant.0 c.loop-c-test.true).inside)
+pub read-n-requires : goal.read-n-requires
+read-n-requires c =
+    (omega (arith, (from_first c.loop-c.invariant.0 c.loop-c-test.true).inside), omega arith)
 
 pub overflow_add-cells : goal.overflow_add-cells
 overflow_add-cells c =
-    let e = from_turn c.loop-c.invariant.0 c.loop-c-test.true refl (end_at c.args.nodes.now c.loop-c.c) c.read_long-n.ensures refl in
+    let e = from_turn c.loop-c.invariant.0 c.loop-c-test.true refl (end_at c.args.nodes.now c.loop-c.c) (c.read-n.ensures.0 ∙ long_is _ _) refl in
     omega (arith, length_first e, c.loop-c.invariant.1, few_cells c.args.sheet.now c.args.nodes.now c.args.row (c.args.row + 1) c.args.to)
 
 pub overflow_add-bytes : goal.overflow_add-bytes
 overflow_add-bytes c =
-    let e = from_turn c.loop-c.invariant.0 c.loop-c-test.true refl (end_at c.args.nodes.now c.loop-c.c) c.read_long-n.ensures refl in
+    let e = from_turn c.loop-c.invariant.0 c.loop-c-test.true refl (end_at c.args.nodes.now c.loop-c.c) (c.read-n.ensures.0 ∙ long_is _ _) refl in
     omega (arith, sum_first e, c.loop-c.invariant.2, c.requires.1)
 
 pub overflow_sub-empty : goal.overflow_sub-empty
@@ -50,7 +51,7 @@ overflow_sub-empty c =
 
 pub overflow_add-empty : goal.overflow_add-empty
 overflow_add-empty c =
-    let e = from_turn c.loop-c.invariant.0 c.loop-c-test.true refl (end_at c.args.nodes.now c.loop-c.c) c.read_long-n.ensures refl in
+    let e = from_turn c.loop-c.invariant.0 c.loop-c-test.true refl (end_at c.args.nodes.now c.loop-c.c) (c.read-n.ensures.0 ∙ long_is _ _) refl in
     omega (arith, zeros_first e, c.loop-c.invariant.3, c.at_least_one.ensures, zeros_few (cell_lengths c.args.sheet.now c.args.nodes.now c.args.row (c.args.row + 1) c.args.to), few_cells c.args.sheet.now c.args.nodes.now c.args.row (c.args.row + 1) c.args.to)
 
 pub node_end-after-requires : goal.node_end-after-requires
@@ -69,7 +70,7 @@ pub loop-c-preserved : goal.loop-c-preserved
 loop-c-preserved c =
     let x = c.loop-c.invariant.0 in
     let n = c.next_cell-c-in-loop-c.ensures.cells c.args.row (rest_of x.rest) (from_later x c.loop-c-test.true c.node_end-after.ensures) (from_rest x c.loop-c-test.true c.node_end-after.ensures) in
-    let e = from_turn x c.loop-c-test.true c.node_end-after.ensures c.next_cell-c-in-loop-c.result c.read_long-n.ensures n.1 in
+    let e = from_turn x c.loop-c-test.true c.node_end-after.ensures c.next_cell-c-in-loop-c.result (c.read-n.ensures.0 ∙ long_is _ _) n.1 in
     (n.0, omega (arith, length_first e, c.loop-c.invariant.1), omega (arith, sum_first e, c.loop-c.invariant.2), omega (arith, zeros_first e, c.loop-c.invariant.3, c.at_least_one.ensures))
 
 pub returns : goal.returns

@@ -1,10 +1,11 @@
 use Prim.Native.Nat.{ℕ, ◌+◌}
 use mathlib.Core.List.{List}
-use mathlib.Core.Path.{refl, ap, subst}
+use mathlib.Core.Path.{refl, ap, subst, ◌∙◌}
 use lib.ListN.{drop}
 use Rattle.tree.specs.Memory.{end_at}
 use Rattle.tree.specs.Represents.{rest_of}
 use Rattle.tree.proofs.Firsts.{rep_le}
+use Rattle.tree.proofs.Numbers.{long_is}
 use Rattle.tables.specs.Puts.{bars}
 use Rattle.tables.specs.Spans.{cell_lengths, sum}
 use Rattle.tables.specs.Columns.{columns}
@@ -41,16 +42,16 @@ pub overflow_add-c : goal.overflow_add-c
 overflow_add-c c =
     omega (arith, (from_first c.loop-c.invariant.0 c.loop-c-test.true).inside)
 
-pub read_long-n-requires : goal.read_long-n-requires
-read_long-n-requires c =
-    omega (arith, (from_first c.loop-c.invariant.0 c.loop-c-test.true).inside)
+pub read-n-requires : goal.read-n-requires
+read-n-requires c =
+    (omega (arith, (from_first c.loop-c.invariant.0 c.loop-c-test.true).inside), omega arith)
 
 pub put_column-end-requires : goal.put_column-end-requires
 put_column-end-requires c =
     let a = c.args in
     let pre = c.requires in
     let l = c.loop-c in
-    let e = from_turn l.invariant.0 c.loop-c-test.true refl (end_at a.nodes.now l.c) c.read_long-n.ensures refl in
+    let e = from_turn l.invariant.0 c.loop-c-test.true refl (end_at a.nodes.now l.c) (c.read-n.ensures.0 ∙ long_is _ _) refl in
     let room = column_room a.under e l.at l.invariant.1 (λ q. omega (arith, pre.3 q, l.invariant.2)) in (
       λ q. omega (arith, room, pre.3 q, l.invariant.2),
       omega (arith, room, l.invariant.1.puts.long, pre.1),
@@ -61,7 +62,7 @@ pub overflow_add-at : goal.overflow_add-at
 overflow_add-at c =
     let a = c.args in
     let l = c.loop-c in
-    let e = from_turn l.invariant.0 c.loop-c-test.true refl (end_at a.nodes.now l.c) c.read_long-n.ensures refl in
+    let e = from_turn l.invariant.0 c.loop-c-test.true refl (end_at a.nodes.now l.c) (c.read-n.ensures.0 ∙ long_is _ _) refl in
     omega (arith, sum_first e, l.invariant.3, c.requires.2)
 
 pub node_end-after-requires : goal.node_end-after-requires
@@ -82,7 +83,7 @@ loop-c-preserved c =
     let l = c.loop-c in
     let x = l.invariant.0 in
     let n = c.next_cell-c-in-loop-c.ensures.cells a.row (rest_of x.rest) (from_later x c.loop-c-test.true c.node_end-after.ensures) (from_rest x c.loop-c-test.true c.node_end-after.ensures) in
-    let e = from_turn x c.loop-c-test.true c.node_end-after.ensures c.next_cell-c-in-loop-c.result c.read_long-n.ensures n.1 in (
+    let e = from_turn x c.loop-c-test.true c.node_end-after.ensures c.next_cell-c-in-loop-c.result (c.read-n.ensures.0 ∙ long_is _ _) n.1 in (
       n.0,
       column_on a.under e l.at l.invariant.1 (λ q. omega (arith, c.requires.3 q, l.invariant.2)) c.put_column-end.ensures,
       omega arith,

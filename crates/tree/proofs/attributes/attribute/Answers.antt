@@ -1,6 +1,6 @@
 use mathlib.Core.Path.{sym, ap, ◌∙◌}
 use lib.ListN.{length}
-use lib.Seq.{take_all, length-take-le}
+use lib.Seq.{take_all}
 use native.Mathlib.Omega.{arith}
 use Rattle.spec.specs.Bytes.{Bytes}
 use Rattle.tree.specs.Attributes.{either_attr}
@@ -18,11 +18,3 @@ returns c =
     let a = c.args in
     let whole = take_all (length a.name.now) a.name.now (omega arith) in
     valued_as c.either_attribute.ensures (ap (λ (x : Bytes). either_attr x x (attrs_behind a.sheet.now a.place)) whole ∙ either_same _ _)
-
-pub slice_bounds-either_attribute-end : goal.slice_bounds-either_attribute-end
-slice_bounds-either_attribute-end c =
-    let name = c.args.name.now in sym (length-take-le (length name) name (omega arith))
-
-pub slice_bounds-either_attribute-end-2 : goal.slice_bounds-either_attribute-end-2
-slice_bounds-either_attribute-end-2 c =
-    let name = c.args.name.now in sym (length-take-le (length name) name (omega arith))

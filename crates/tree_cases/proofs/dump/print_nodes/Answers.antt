@@ -1,6 +1,7 @@
 -- Each node from 1 on has a number in a tree that node memory holds.
+use native.Mathlib.Omega.{arith}
 use Rattle.tree.proofs.Ranges.{numbered_in, readable}
 use Rattle.tree_cases.proofs.dump.print_nodes.Goals as goal
 
 pub read_node-place-requires : goal.read_node-place-requires
-read_node-place-requires g c = readable (numbered_in _ _ _ _ c.requires c.loop-i.invariant.started c.loop-i-test.true)
+read_node-place-requires g c = readable (numbered_in _ _ _ _ c.requires (omega arith) (omega arith))

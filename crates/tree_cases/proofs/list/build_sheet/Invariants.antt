@@ -1,8 +1,8 @@
-use Rattle.std.proofs.Common.{◌-◌, ◌≤◌, length}
+use Rattle.std.proofs.Common.{◌≤◌, length}
 use Rattle.tree_cases.proofs.list.build_sheet.Given as goal
 
-abbrev pub invariant-loop-k : goal.invariant-loop-k
-invariant-loop-k l = record { behind : l.at ≤ l.p; in_input : l.p ≤ length l.input; in_sheet : l.len ≤ length l.sheet }
+abbrev pub invariant-loop : goal.invariant-loop
+invariant-loop l = record { behind : l.at ≤ l.p; in_input : l.p ≤ length l.input; in_sheet : l.len ≤ length l.sheet }
 
-abbrev pub decreases-loop-k : goal.decreases-loop-k
-decreases-loop-k l = l.pieces - l.k
+abbrev pub invariant-loop-2 : goal.invariant-loop-2
+invariant-loop-2 l = l.len ≤ length l.sheet
