@@ -1,4 +1,5 @@
 -- The definitions that the contracts cite.
+pub mod Fields
 pub mod Lead
 pub mod Spans
 pub mod Scans

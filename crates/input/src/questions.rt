@@ -1,4 +1,6 @@
 // Questions 1 to 9. Each is answered for any bytes, by its definition in `spec`.
+#![tactic(auto, unfolding(spec::specs::Bytes::isin, spec::specs::Questions::every_field, spec::specs::Questions::question1, spec::specs::Questions::question2, spec::specs::Questions::question3, spec::specs::Questions::question4, spec::specs::Questions::question5, spec::specs::Questions::question6, spec::specs::Questions::question7, spec::specs::Questions::question8, spec::specs::Questions::question9, spec::specs::Questions::may_follow, spec::specs::Questions::open_after, spec::specs::Questions::no_stray, spec::specs::Questions::right_length, spec::specs::Questions::keep_rules, spec::specs::Questions::still_open, spec::specs::Questions::shallow, spec::specs::Questions::max_open, spec::specs::Questions::nodes_in, spec::specs::Questions::no_blockquote, crate::specs::Scans::scan_of,))]
+
 ghost use Rattle.std.specs.Prelude.{◌≡◌, ◌+◌, ◌≤◌, ◌<◌, length};
 ghost use Rattle.spec.specs.Fields.{fields};
 ghost use Rattle.spec.specs.Questions.{
@@ -19,10 +21,10 @@ ghost use Rattle.spec.specs.Questions.{
   question9,
   refusal,
 };
-ghost use Rattle.input.specs.Scans.{length_right, field_right, scan_of, count_after, opens_blockquote, skip_name_of, skip_list};
+ghost use Rattle.input.specs.Scans.{length_right, field_right, scan_of, begins_node, count_after, opens_blockquote, skip_name_of, skip_list};
 ghost use Rattle.input.specs.Sound.{refusal_of_sound};
 
-use crate::fields::{is_same, is_whole, span_at};
+use crate::fields::{Fields, is_same, is_whole};
 use crate::sound::sound_count;
 use crate::utf8::is_utf8;
 
@@ -105,62 +107,44 @@ fn field_right(before: u8, depth: usize, tag: u8, len: usize) -> bool
     depth != 0
 }
 
-// What the rules on fields say of a sheet: broken, or kept with so many elements still open at its end.
-#[derive(Clone, Copy)]
-pub enum Scan {
-    Broken,
-    Open(usize),
-}
-
-pub fn scan_rules(s: &[u8]) -> Scan
+// How many elements are still open at the end of a sheet whose fields keep the rules.
+pub fn scan_rules(s: &[u8]) -> Option<usize>
     ensures { result ≡ scan_of (fields s.now) }
 {
     let mut before = 0u8;
     let mut depth = 0;
-    let mut p = 0;
-    while 3 <= s.len() - p {
-        let f = span_at(s, p);
-        let tag = f.tag;
-        let start = f.start;
-        let end = f.end;
-        if !field_right(before, depth, tag, end - start) {
-            return Scan::Broken;
+    for f in Fields::new(s) {
+        if !field_right(before, depth, f.tag, f.body.len()) {
+            return None;
         }
-        depth = open_after(depth, tag);
-        before = tag;
-        p = end;
+        depth = open_after(depth, f.tag);
+        before = f.tag;
     }
     if before == 2 {
-        return Scan::Broken;
+        return None;
     }
-    Scan::Open(depth)
+    Some(depth)
 }
 
 // 3: Do the fields keep the rules, with every element closed and no stray close?
 pub fn keeps_rules(sheet: &[u8]) -> bool
     ensures { result ≡ question3 sheet.now }
 {
-    match scan_rules(sheet) {
-        Scan::Open(n) => n == 0,
-        Scan::Broken => false,
-    }
+    scan_rules(sheet) == Some(0)
 }
 
 // 4: Are all names, values, texts and comments UTF-8?
 pub fn holds_utf8(s: &[u8]) -> bool
     ensures { result ≡ question4 s.now }
 {
-    let mut p = 0;
-    while 3 <= s.len() - p {
-        let f = span_at(s, p);
-        let start = f.start;
-        let end = f.end;
-        if !is_utf8(&s[start..end]) {
-            return false;
-        }
-        p = end;
-    }
-    true
+    Fields::new(s).all(|f| is_utf8(f.body))
+}
+
+// Whether a field begins a node.
+fn begins_node(tag: u8) -> bool
+    ensures { result ≡ begins_node tag }
+{
+    tag == 1 || tag == 4 || tag == 5
 }
 
 // One more behind a field that begins a node.
@@ -168,13 +152,7 @@ pub fn count_after(count: usize, tag: u8) -> usize
     requires { count < 18446744073709551615 }
     ensures { (result ≡ count_after count tag) × (result ≤ count + 1) }
 {
-    if tag == 1 {
-        return count + 1;
-    }
-    if tag == 4 {
-        return count + 1;
-    }
-    if tag == 5 {
+    if begins_node(tag) {
         return count + 1;
     }
     count
@@ -184,33 +162,24 @@ pub fn count_after(count: usize, tag: u8) -> usize
 pub fn node_count(s: &[u8]) -> usize
     ensures { result ≡ node_count s.now }
 {
-    let mut count = 0;
-    let mut p = 0;
-    while 3 <= s.len() - p {
-        let f = span_at(s, p);
-        let tag = f.tag;
-        count = count_after(count, tag);
-        p = f.end;
-    }
-    count + 1
+    Fields::new(s).filter(|f| begins_node(f.tag)).count() + 1
 }
 
-// Whether never more than 100 elements are open.
+// The most elements that may be open.
+const MAX_OPEN: usize = 100;
+
+// Whether never more than `MAX_OPEN` elements are open.
 fn is_shallow(s: &[u8]) -> bool
     ensures { result ≡ shallow 0 (fields s.now) }
 {
     let mut depth = 0;
-    let mut p = 0;
-    while 3 <= s.len() - p {
-        if 100 < depth {
+    for f in Fields::new(s) {
+        if MAX_OPEN < depth {
             return false;
         }
-        let f = span_at(s, p);
-        let tag = f.tag;
-        depth = open_after(depth, tag);
-        p = f.end;
+        depth = open_after(depth, f.tag);
     }
-    depth <= 100
+    depth <= MAX_OPEN
 }
 
 // 5: Are there at most 65,535 nodes, fragment included, and never over 100 elements open?
@@ -227,28 +196,14 @@ pub fn is_within_limits(sheet: &[u8]) -> bool
 fn opens_blockquote(tag: u8, body: &[u8]) -> bool
     ensures { result ≡ opens_blockquote tag body.now }
 {
-    if tag != 1 {
-        return false;
-    }
-    is_same(body, b"blockquote")
+    tag == 1 && is_same(body, b"blockquote")
 }
 
 // 6: Is no element named `blockquote`?
 pub fn has_no_blockquote(s: &[u8]) -> bool
     ensures { result ≡ question6 s.now }
 {
-    let mut p = 0;
-    while 3 <= s.len() - p {
-        let f = span_at(s, p);
-        let tag = f.tag;
-        let start = f.start;
-        let end = f.end;
-        if opens_blockquote(tag, &s[start..end]) {
-            return false;
-        }
-        p = end;
-    }
-    true
+    Fields::new(s).all(|f| !opens_blockquote(f.tag, f.body))
 }
 
 // 7: Is the start number that of a node?
@@ -262,44 +217,21 @@ pub fn is_node(sheet: &[u8], start: usize) -> bool
 fn field_count(s: &[u8]) -> usize
     ensures { result ≡ length (fields s.now) }
 {
-    let mut count = 0;
-    let mut p = 0;
-    while 3 <= s.len() - p {
-        let f = span_at(s, p);
-        count += 1;
-        p = f.end;
-    }
-    count
+    Fields::new(s).count()
 }
 
 // Whether the part is a name for a skip list.
 fn is_skip_name(s: &[u8]) -> bool
     ensures { result ≡ skip_name_of s.now }
 {
-    if s.len() < 1 {
-        return false;
-    }
-    if 64 < s.len() {
-        return false;
-    }
-    is_utf8(s)
+    (1..=64).contains(&s.len()) && is_utf8(s)
 }
 
 // Whether every field of a run is such a name.
 fn holds_skip_names(s: &[u8]) -> bool
     ensures { result ≡ every_field skip_name (fields s.now) }
 {
-    let mut p = 0;
-    while 3 <= s.len() - p {
-        let f = span_at(s, p);
-        let start = f.start;
-        let end = f.end;
-        if !is_skip_name(&s[start..end]) {
-            return false;
-        }
-        p = end;
-    }
-    true
+    Fields::new(s).all(|f| is_skip_name(f.body))
 }
 
 // 8: Is the skip list the default, or at most 16 whole tag-7 fields of 1 to 64 UTF-8 bytes each?
