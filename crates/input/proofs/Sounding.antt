@@ -6,6 +6,7 @@ use mathlib.Core.Bool.{true, not, ◌&&◌, and-eq-true_iff}
 use lib.ListN.{length, get_or, take, drop}
 use lib.Dec.{eqb, leb}
 use borrow.Author.Tests.{le-leb, le-ltb, leb-true, eq-eqb, eqb-true, eqb-false, ne_eqb, not-true}
+use Rattle.std.specs.Prelude.{Option, None, Some, IfSome}
 use Rattle.spec.specs.Bytes.{Bytes, isin}
 use Rattle.spec.specs.Utf8.{is_utf8}
 use Rattle.spec.specs.Fields.{fields, whole}
@@ -149,7 +150,7 @@ on_close s p n before depth count h n-is tag_is right f =
     (depth - 1) count (rw tag_is refl) (omega (arith, f.low)) (rw tag_is refl) (omega arith))
 
 -- at the end of the fields
-pub sound : (s : Bytes) (p before depth count r : ℕ) → length s - p < 3 → SoFar s before depth count p
+sound : (s : Bytes) (p before depth count r : ℕ) → length s - p < 3 → SoFar s before depth count p
     → Ended (length s - p) before depth (count + 1) r → Sound s r
 unfolding question1 question2 question4 question5 question6 max_open
 sound s p before depth count r h f e =
@@ -163,6 +164,11 @@ sound s p before depth count r h f e =
       six = sym (every_end no_blockquote s p f.plain h);
       nodes = e.same ∙ n;
     }
+
+pub sound_if : (s : Bytes) (p before depth count : ℕ) (r : Option ℕ) → length s - p < 3 → SoFar s before depth count p
+    → IfSome r (λ n. Ended (length s - p) before depth (count + 1) n) → IfSome r (λ n. Sound s n)
+sound_if s p before depth count None h f e = e
+sound_if s p before depth count (Some n) h f e = sound s p before depth count n h f e
 
 -- the first no of a sheet to which questions 1 to 6 say yes
 pub sound_refusal : (s : Bytes) (skips : SkipList) (start memory r : ℕ) → Sound s r → refusal_of_sound r skips start memory ≡ refusal s skips start memory

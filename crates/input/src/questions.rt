@@ -1,5 +1,5 @@
 // Questions 1 to 9. Each is answered for any bytes, by its definition in `spec`.
-#![tactic(auto, unfolding(spec::specs::Bytes::isin, spec::specs::Questions::every_field, spec::specs::Questions::question1, spec::specs::Questions::question2, spec::specs::Questions::question3, spec::specs::Questions::question4, spec::specs::Questions::question5, spec::specs::Questions::question6, spec::specs::Questions::question7, spec::specs::Questions::question8, spec::specs::Questions::question9, spec::specs::Questions::may_follow, spec::specs::Questions::open_after, spec::specs::Questions::no_stray, spec::specs::Questions::right_length, spec::specs::Questions::keep_rules, spec::specs::Questions::still_open, spec::specs::Questions::shallow, spec::specs::Questions::max_open, spec::specs::Questions::nodes_in, spec::specs::Questions::no_blockquote, crate::specs::Scans::scan_of,))]
+#![tactic(auto, unfolding(spec::specs::Bytes::isin, spec::specs::Questions::every_field, spec::specs::Questions::question1, spec::specs::Questions::question2, spec::specs::Questions::question3, spec::specs::Questions::question4, spec::specs::Questions::question5, spec::specs::Questions::question6, spec::specs::Questions::question7, spec::specs::Questions::question8, spec::specs::Questions::question9, spec::specs::Questions::may_follow, spec::specs::Questions::open_after, spec::specs::Questions::no_stray, spec::specs::Questions::right_length, spec::specs::Questions::keep_rules, spec::specs::Questions::still_open, spec::specs::Questions::shallow, spec::specs::Questions::max_open, spec::specs::Questions::nodes_in, spec::specs::Questions::no_blockquote, crate::specs::Scans::scan_of))]
 
 ghost use Rattle.std.specs.Prelude.{◌≡◌, ◌+◌, ◌≤◌, ◌<◌, length};
 ghost use Rattle.spec.specs.Fields.{fields};
@@ -311,9 +311,8 @@ fn refusal_of_sound(count: usize, own: bool, run: &[u8], start: usize, memory: u
 pub fn first_refusal(sheet: &[u8], own: bool, run: &[u8], start: usize, memory: usize) -> u8
     ensures { result ≡ refusal sheet.now (skip_list own run.now) start memory }
 {
-    let count = sound_count(sheet);
-    if count == 0 {
-        return refusal_in_order(sheet, own, run, start, memory);
+    match sound_count(sheet) {
+        Some(count) => refusal_of_sound(count, own, run, start, memory),
+        None => refusal_in_order(sheet, own, run, start, memory),
     }
-    refusal_of_sound(count, own, run, start, memory)
 }

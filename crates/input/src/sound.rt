@@ -1,5 +1,5 @@
 // Questions 1 to 6 in one pass over the fields, for a sheet that they let pass.
-ghost use Rattle.std.specs.Prelude.{◌≡◌, ℕ, ◌-◌, ◌<◌, ◌≤◌, length, take, drop};
+ghost use Rattle.std.specs.Prelude.{◌≡◌, ℕ, ◌-◌, ◌≤◌, length, take, drop, IfSome};
 ghost use Rattle.spec.specs.Bytes.{Bytes};
 ghost use Rattle.input.specs.Scans.{field_right};
 ghost use Rattle.input.specs.Sound.{ruled_field, sound_field, Ended, Sound};
@@ -29,60 +29,50 @@ fn is_ruled_other(before: u8, tag: u8, len: usize) -> bool
     (tag == 5) & (before != 2)
 }
 
-// Whether a field with the bytes from `start` to `end`, which is no close, has a tag from 1 to 6, keeps the rules and
-// opens no block quote. The tags that are met most come first.
-fn is_ruled(before: u8, tag: u8, s: &[u8], start: usize, end: usize) -> bool
-    requires { (start ≤ end) × (end ≤ length s.now) × (tag ≡ 6 → ⊥) }
-    ensures { (depth : ℕ) → result ≡ ruled_field before depth tag (take (end - start) (drop start s.now)) }
+// Whether a field with these bytes, which is no close, has a tag from 1 to 6, keeps the rules and opens no block quote.
+// The tags that are met most come first.
+fn is_ruled(before: u8, tag: u8, body: &[u8]) -> bool
+    requires { tag ≡ 6 → ⊥ }
+    ensures { (depth : ℕ) → result ≡ ruled_field before depth tag body.now }
 {
     if tag == 4 {
         return before != 2;
     }
     if tag == 1 {
-        if (before == 2) | (end - start == 0) {
+        if (before == 2) | body.is_empty() {
             return false;
         }
-        return !is_same(&s[start..end], b"blockquote");
+        return !is_same(body, b"blockquote");
     }
-    is_ruled_other(before, tag, end - start)
+    is_ruled_other(before, tag, body.len())
 }
 
-// Whether such a field is UTF-8, too. That is asked first and in one place, whatever the tag.
+// Whether the field with the bytes from `start` to `end`, which is no close, is UTF-8, too. That is asked first and in one
+// place, whatever the tag. The bytes are told by their places, since `is_utf8_part` looks behind them.
 fn is_sound(before: u8, tag: u8, s: &[u8], start: usize, end: usize) -> bool
     requires { (start ≤ end) × (end ≤ length s.now) × (tag ≡ 6 → ⊥) }
     ensures { (depth : ℕ) → result ≡ sound_field before depth tag (take (end - start) (drop start s.now)) }
 {
-    if !is_utf8_part(s, start, end) {
-        return false;
-    }
-    is_ruled(before, tag, s, start, end)
+    is_utf8_part(s, start, end) && is_ruled(before, tag, &s[start..end])
 }
 
 // The count, where nothing is left over behind the fields, no name stands last, every element is closed and the count
-// is within its limit; else 0.
-fn count_at_end(left: usize, before: u8, depth: usize, count: usize) -> usize
-    ensures { 0 < result → Ended left before depth count result }
+// is within its limit.
+fn count_at_end(left: usize, before: u8, depth: usize, count: usize) -> Option<usize>
+    ensures { IfSome result (λ n. Ended left before depth count n) }
 {
-    if left != 0 {
-        return 0;
+    if left != 0 || before == 2 || depth != 0 || 65535 < count {
+        return None;
     }
-    if before == 2 {
-        return 0;
-    }
-    if depth != 0 {
-        return 0;
-    }
-    if 65535 < count {
-        return 0;
-    }
-    count
+    Some(count)
 }
 
 // The same as `sound_count`, for a sheet of at most 1,048,576 bytes. Behind a close the next field begins at once: its
-// place needs no length.
-fn count_of_short(s: &[u8]) -> usize
+// place needs no length. Places are counted here, and not left to `Fields`, so that a close is passed without its length
+// and a field's bytes can be tested with those behind them.
+fn count_of_short(s: &[u8]) -> Option<usize>
     requires { length s.now ≤ 1048576 }
-    ensures { 0 < result → Sound s.now result }
+    ensures { IfSome result (λ n. Sound s.now n) }
 {
     let mut before = 0u8;
     let mut depth = 0;
@@ -94,7 +84,7 @@ fn count_of_short(s: &[u8]) -> usize
         let start = p + 3;
         if tag == 6 {
             if !is_sound_close(before, depth, n) {
-                return 0;
+                return None;
             }
             depth -= 1;
             before = tag;
@@ -102,15 +92,15 @@ fn count_of_short(s: &[u8]) -> usize
             continue;
         }
         if s.len() - start < n {
-            return 0;
+            return None;
         }
         let end = start + n;
         if !is_sound(before, tag, s, start, end) {
-            return 0;
+            return None;
         }
         if tag == 1 {
             if 100 <= depth {
-                return 0;
+                return None;
             }
             depth += 1;
         }
@@ -121,12 +111,12 @@ fn count_of_short(s: &[u8]) -> usize
     count_at_end(s.len() - p, before, depth, count + 1)
 }
 
-// The nodes of a sheet that questions 1 to 6 let pass; 0 where one of them may say no.
-pub fn sound_count(s: &[u8]) -> usize
-    ensures { 0 < result → Sound s.now result }
+// The nodes of a sheet that questions 1 to 6 let pass; `None` where one of them may say no.
+pub fn sound_count(s: &[u8]) -> Option<usize>
+    ensures { IfSome result (λ n. Sound s.now n) }
 {
     if 1048576 < s.len() {
-        return 0;
+        return None;
     }
     count_of_short(s)
 }

@@ -2,16 +2,13 @@ use Prim.Native.Nat.{◌≤◌}
 use mathlib.Core.Path.{◌≡◌, sym, ◌∙◌}
 use lib.ListN.{get_or}
 use Rattle.spec.specs.Questions.{open_after}
-use Rattle.input.proofs.Sounding.{begun, opened, level, on, empty_close, on_close, sound}
+use Rattle.input.proofs.Sounding.{begun, opened, level, on, empty_close, on_close, sound_if}
 use native.Mathlib.Omega.{arith}
 use Rattle.input.proofs.sound.count_of_short.Goals as goal
 use Rattle.input.proofs.sound.count_of_short.Goals.{then-tag-eq1+else-depth-ge100, else-tag-eq1}
 
 pub loop-p-init : goal.loop-p-init
 loop-p-init c = begun _ (omega arith)
-
-pub returns-then-not-is_sound_close : goal.returns-then-not-is_sound_close
-returns-then-not-is_sound_close c h = absurd (omega arith)
 
 pub overflow_sub-depth : goal.overflow_sub-depth
 overflow_sub-depth c =
@@ -24,15 +21,6 @@ loop-p-preserved-then-tag-eq6 c =
     let l = c.loop-p in let n = c.length_at-n in
     on_close s l.p n.result l.before l.depth l.count (omega arith) n.ensures.0 c.if-tag-eq6.true
     (sym c.is_sound_close.ensures ∙ c.if-not-is_sound_close.false) l.invariant
-
-pub returns-then-s-start : goal.returns-then-s-start
-returns-then-s-start c h = absurd (omega arith)
-
-pub returns-then-not-is_sound : goal.returns-then-not-is_sound
-returns-then-not-is_sound c h = absurd (omega arith)
-
-pub returns-then-depth-ge100 : goal.returns-then-depth-ge100
-returns-then-depth-ge100 c h = absurd (omega arith)
 
 pub loop-p-preserved : goal.loop-p-preserved
 loop-p-preserved c =
@@ -49,6 +37,6 @@ loop-p-preserved c =
     d c.count_after-count.result o.0 o.1 c.count_after-count.ensures.0 c.count_after-count.ensures.1
 
 pub returns : goal.returns
-returns c h =
+returns c =
     let l = c.loop-p in
-    sound _ l.p l.before l.depth l.count _ (omega arith) l.invariant (c.count_at_end.ensures h)
+    sound_if c.args.s.now l.p l.before l.depth l.count c.count_at_end.result (omega arith) l.invariant c.count_at_end.ensures
