@@ -90,8 +90,8 @@ impl<'a> Iterator for Fields<'a> {
     }
 }
 
-#[tactic(auto, unfolding(spec::specs::Fields::word, spec::specs::Bytes::null))]
 // Whether every field of s ends inside s and has a tag from low to high.
+#[tactic(auto, unfolding(spec::specs::Fields::word, spec::specs::Bytes::null))]
 pub fn is_whole(s: &[u8], low: u8, high: u8) -> bool
     ensures { result ≡ whole low high s.now }
 {

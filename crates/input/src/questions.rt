@@ -1,7 +1,7 @@
 // Questions 1 to 9. Each is answered for any bytes, by its definition in `spec`.
 #![tactic(auto, unfolding(spec::specs::Bytes::isin, spec::specs::Questions::every_field, spec::specs::Questions::question1, spec::specs::Questions::question2, spec::specs::Questions::question3, spec::specs::Questions::question4, spec::specs::Questions::question5, spec::specs::Questions::question6, spec::specs::Questions::question7, spec::specs::Questions::question8, spec::specs::Questions::question9, spec::specs::Questions::may_follow, spec::specs::Questions::open_after, spec::specs::Questions::no_stray, spec::specs::Questions::right_length, spec::specs::Questions::keep_rules, spec::specs::Questions::still_open, spec::specs::Questions::shallow, spec::specs::Questions::max_open, spec::specs::Questions::nodes_in, spec::specs::Questions::no_blockquote, crate::specs::Scans::scan_of))]
 
-ghost use Rattle.std.specs.Prelude.{◌≡◌, ◌+◌, ◌≤◌, ◌<◌, length};
+ghost use Rattle.std.specs.Prelude.{◌≡◌, ◌+◌, ◌≤◌, ◌<◌, false, length, IsTrue, MatchResult};
 ghost use Rattle.spec.specs.Fields.{fields};
 ghost use Rattle.spec.specs.Questions.{
   every_field,
@@ -23,8 +23,10 @@ ghost use Rattle.spec.specs.Questions.{
 };
 ghost use Rattle.input.specs.Scans.{length_right, field_right, scan_of, begins_node, count_after, opens_blockquote, skip_name_of, skip_list};
 ghost use Rattle.input.specs.Sound.{refusal_of_sound};
+ghost use Rattle.input.specs.Refusals.{number_told};
 
 use crate::fields::{Fields, is_same, is_whole};
+use crate::refusal::Refusal;
 use crate::sound::sound_count;
 use crate::utf8::is_utf8;
 
@@ -257,59 +259,60 @@ pub fn has_node_memory(sheet: &[u8], memory: usize) -> bool
     node_count(sheet) <= memory / 64
 }
 
-// The number of the first question that says no, or 0: each question for itself, in their order.
-fn refusal_in_order(sheet: &[u8], own: bool, run: &[u8], start: usize, memory: usize) -> u8
-    ensures { result ≡ refusal sheet.now (skip_list own run.now) start memory }
+// Goes on where a question says yes.
+fn require(yes: bool, or: Refusal) -> Result<(), Refusal>
+    ensures { MatchResult result (λ _. IsTrue yes) (λ no. (no ≡ or) × (yes ≡ false)) }
 {
-    if !is_short(sheet) {
-        return 1;
-    }
-    if !is_in_fields(sheet) {
-        return 2;
-    }
-    if !keeps_rules(sheet) {
-        return 3;
-    }
-    if !holds_utf8(sheet) {
-        return 4;
-    }
-    if !is_within_limits(sheet) {
-        return 5;
-    }
-    if !has_no_blockquote(sheet) {
-        return 6;
-    }
-    if !is_node(sheet, start) {
-        return 7;
-    }
-    if !is_skip_list(own, run) {
-        return 8;
-    }
-    if !has_node_memory(sheet, memory) {
-        return 9;
-    }
-    0
+    if yes { Ok(()) } else { Err(or) }
+}
+
+// The first question that says no: each question for itself, in their order.
+#[tactic(auto, unfolding(spec::specs::Questions::refusal, spec::specs::Questions::first_no))]
+fn refusal_in_order(
+    sheet: &[u8],
+    own: bool,
+    run: &[u8],
+    start: usize,
+    memory: usize,
+) -> Result<(), Refusal>
+    ensures { number_told result ≡ refusal sheet.now (skip_list own run.now) start memory }
+{
+    require(is_short(sheet), Refusal::SheetLength)?;
+    require(is_in_fields(sheet), Refusal::Fields)?;
+    require(keeps_rules(sheet), Refusal::Rules)?;
+    require(holds_utf8(sheet), Refusal::Utf8)?;
+    require(is_within_limits(sheet), Refusal::Limits)?;
+    require(has_no_blockquote(sheet), Refusal::Blockquote)?;
+    require(is_node(sheet, start), Refusal::Start)?;
+    require(is_skip_list(own, run), Refusal::SkipList)?;
+    require(has_node_memory(sheet, memory), Refusal::NodeMemory)
 }
 
 // The same for a sheet of so many nodes that questions 1 to 6 let pass.
-fn refusal_of_sound(count: usize, own: bool, run: &[u8], start: usize, memory: usize) -> u8
-    ensures { result ≡ refusal_of_sound count (skip_list own run.now) start memory }
+#[tactic(auto, unfolding(crate::specs::Sound::refusal_of_sound, spec::specs::Questions::first_no))]
+fn refusal_of_sound(
+    count: usize,
+    own: bool,
+    run: &[u8],
+    start: usize,
+    memory: usize,
+) -> Result<(), Refusal>
+    ensures { number_told result ≡ refusal_of_sound count (skip_list own run.now) start memory }
 {
-    if count <= start {
-        return 7;
-    }
-    if !is_skip_list(own, run) {
-        return 8;
-    }
-    if memory / 64 < count {
-        return 9;
-    }
-    0
+    require(start < count, Refusal::Start)?;
+    require(is_skip_list(own, run), Refusal::SkipList)?;
+    require(count <= memory / 64, Refusal::NodeMemory)
 }
 
-// The number of the first question among 1 to 9 that says no, or 0.
-pub fn first_refusal(sheet: &[u8], own: bool, run: &[u8], start: usize, memory: usize) -> u8
-    ensures { result ≡ refusal sheet.now (skip_list own run.now) start memory }
+// The first question among 1 to 9 that says no.
+pub fn first_refusal(
+    sheet: &[u8],
+    own: bool,
+    run: &[u8],
+    start: usize,
+    memory: usize,
+) -> Result<(), Refusal>
+    ensures { number_told result ≡ refusal sheet.now (skip_list own run.now) start memory }
 {
     match sound_count(sheet) {
         Some(count) => refusal_of_sound(count, own, run, start, memory),
