@@ -34,11 +34,7 @@ pub fn answer_to(
 }
 
 // The text with no line end added, or `no ` and the number in a line.
-fn print_answer(
-    rt: &impl Print,
-    answer: Result<usize, Refusal>,
-    text: &[u8],
-) -> io::Result<()> {
+fn print_answer(rt: &impl Print, answer: Result<usize, Refusal>, text: &[u8]) -> io::Result<()> {
     match answer {
         Ok(n) => rt.write_all(front(text, n)),
         Err(refusal) => println!(rt; "no {refusal}"),
