@@ -37,11 +37,7 @@ fn print_text(rt: &impl Print, text: &[u8]) -> io::Result<()> {
     rt.write_all(b"\n")
 }
 
-fn print_answer(
-    rt: &impl Print,
-    answer: Result<usize, Refusal>,
-    text: &[u8],
-) -> io::Result<()> {
+fn print_answer(rt: &impl Print, answer: Result<usize, Refusal>, text: &[u8]) -> io::Result<()> {
     match answer {
         Ok(n) => print_text(rt, front(text, n)),
         Err(refusal) => println!(rt; "{refusal}"),
