@@ -6,4 +6,5 @@ pub mod fields;
 pub mod questions;
 pub mod refusal;
 pub mod sound;
+pub mod tag;
 pub mod utf8;

@@ -28,52 +28,52 @@ ghost use Rattle.input.specs.Refusals.{number_told};
 use crate::fields::{Fields, is_same, is_whole};
 use crate::refusal::Refusal;
 use crate::sound::sound_count;
+use crate::tag::{CLOSE, COMMENT, NAME, OPEN, SKIP, TEXT, VALUE};
 use crate::utf8::is_utf8;
+
+// The most bytes of a sheet.
+pub(crate) const MAX_LENGTH: usize = 1048576;
+
+// The most nodes of a sheet, fragment included.
+pub(crate) const MAX_NODES: usize = 65535;
+
+// The most elements that may be open.
+pub(crate) const MAX_OPEN: usize = 100;
 
 // 1: Is the sheet at most 1,048,576 bytes?
 pub fn is_short(sheet: &[u8]) -> bool
     ensures { result ≡ question1 sheet.now }
 {
-    sheet.len() <= 1048576
+    sheet.len() <= MAX_LENGTH
 }
 
 // 2: Does every field end inside it, with a tag from 1 to 6?
 pub fn is_in_fields(sheet: &[u8]) -> bool
     ensures { result ≡ question2 sheet.now }
 {
-    is_whole(sheet, 1, 6)
+    is_whole(sheet, OPEN, CLOSE)
 }
 
 // Whether a field may stand behind one with the tag `before`.
 fn may_follow(before: u8, tag: u8) -> bool
     ensures { result ≡ may_follow before tag }
 {
-    if tag == 2 {
-        if before == 1 {
-            return true;
-        }
-        return before == 3;
+    match tag {
+        NAME => before == OPEN || before == VALUE,
+        VALUE => before == NAME,
+        _ => before != NAME,
     }
-    if tag == 3 {
-        return before == 2;
-    }
-    before != 2
 }
 
 // Whether a name holds something and a close nothing.
 fn length_right(tag: u8, len: usize) -> bool
     ensures { result ≡ length_right tag len }
 {
-    if tag == 1 {
-        return len != 0;
+    match tag {
+        OPEN | NAME => len != 0,
+        CLOSE => len == 0,
+        _ => true,
     }
-    if tag == 2 {
-        return len != 0;
-    }
-    if tag == 6 {
-        return len == 0;
-    }
-    true
 }
 
 // How many elements are open behind a field.
@@ -81,32 +81,18 @@ fn open_after(depth: usize, tag: u8) -> usize
     requires { depth < 18446744073709551615 }
     ensures { (result ≡ open_after depth tag) × (result ≤ depth + 1) }
 {
-    if tag == 1 {
-        return depth + 1;
+    match tag {
+        OPEN => depth + 1,
+        CLOSE => depth.saturating_sub(1),
+        _ => depth,
     }
-    if tag == 6 {
-        if depth == 0 {
-            return 0;
-        }
-        return depth - 1;
-    }
-    depth
 }
 
 // Whether a field of `len` bytes keeps the rules, behind one with the tag `before` and with `depth` elements open.
 fn field_right(before: u8, depth: usize, tag: u8, len: usize) -> bool
     ensures { result ≡ field_right before depth tag len }
 {
-    if !may_follow(before, tag) {
-        return false;
-    }
-    if !length_right(tag, len) {
-        return false;
-    }
-    if tag != 6 {
-        return true;
-    }
-    depth != 0
+    may_follow(before, tag) && length_right(tag, len) && (tag != CLOSE || depth != 0)
 }
 
 // How many elements are still open at the end of a sheet whose fields keep the rules.
@@ -122,7 +108,7 @@ pub fn scan_rules(s: &[u8]) -> Option<usize>
         depth = open_after(depth, f.tag);
         before = f.tag;
     }
-    if before == 2 {
+    if before == NAME {
         return None;
     }
     Some(depth)
@@ -146,7 +132,7 @@ pub fn holds_utf8(s: &[u8]) -> bool
 fn begins_node(tag: u8) -> bool
     ensures { result ≡ begins_node tag }
 {
-    tag == 1 || tag == 4 || tag == 5
+    matches!(tag, OPEN | TEXT | COMMENT)
 }
 
 // One more behind a field that begins a node.
@@ -167,9 +153,6 @@ pub fn node_count(s: &[u8]) -> usize
     Fields::new(s).filter(|f| begins_node(f.tag)).count() + 1
 }
 
-// The most elements that may be open.
-const MAX_OPEN: usize = 100;
-
 // Whether never more than `MAX_OPEN` elements are open.
 fn is_shallow(s: &[u8]) -> bool
     ensures { result ≡ shallow 0 (fields s.now) }
@@ -188,17 +171,14 @@ fn is_shallow(s: &[u8]) -> bool
 pub fn is_within_limits(sheet: &[u8]) -> bool
     ensures { result ≡ question5 sheet.now }
 {
-    if 65535 < node_count(sheet) {
-        return false;
-    }
-    is_shallow(sheet)
+    node_count(sheet) <= MAX_NODES && is_shallow(sheet)
 }
 
 // Whether a field with these bytes opens a block quote.
 fn opens_blockquote(tag: u8, body: &[u8]) -> bool
     ensures { result ≡ opens_blockquote tag body.now }
 {
-    tag == 1 && is_same(body, b"blockquote")
+    tag == OPEN && is_same(body, b"blockquote")
 }
 
 // 6: Is no element named `blockquote`?
@@ -240,16 +220,7 @@ fn holds_skip_names(s: &[u8]) -> bool
 pub fn is_skip_list(own: bool, run: &[u8]) -> bool
     ensures { result ≡ question8 (skip_list own run.now) }
 {
-    if !own {
-        return true;
-    }
-    if !is_whole(run, 7, 7) {
-        return false;
-    }
-    if 16 < field_count(run) {
-        return false;
-    }
-    holds_skip_names(run)
+    !own || (is_whole(run, SKIP, SKIP) && field_count(run) <= 16 && holds_skip_names(run))
 }
 
 // 9: Has the node memory at least 64 bytes for each node?

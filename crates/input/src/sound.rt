@@ -5,14 +5,15 @@ ghost use Rattle.input.specs.Scans.{field_right};
 ghost use Rattle.input.specs.Sound.{ruled_field, sound_field, Ended, Sound};
 
 use crate::fields::{is_same, length_at};
-use crate::questions::count_after;
+use crate::questions::{MAX_LENGTH, MAX_NODES, MAX_OPEN, count_after};
+use crate::tag::{CLOSE, COMMENT, NAME, OPEN, TEXT, VALUE};
 use crate::utf8::is_utf8_part;
 
 // Whether a close of `len` bytes keeps the rules.
 fn is_sound_close(before: u8, depth: usize, len: usize) -> bool
     ensures { result ≡ field_right before depth 6 len }
 {
-    ((before != 2) & (len == 0)) & (depth != 0)
+    ((before != NAME) & (len == 0)) & (depth != 0)
 }
 
 // The same as `is_ruled`, for a field of `len` bytes that is no name of an element and no text.
@@ -20,13 +21,13 @@ fn is_ruled_other(before: u8, tag: u8, len: usize) -> bool
     requires { (tag ≡ 1 → ⊥) × (tag ≡ 4 → ⊥) × (tag ≡ 6 → ⊥) }
     ensures { (depth : ℕ) (body : Bytes) → length body ≡ len → result ≡ ruled_field before depth tag body }
 {
-    if tag == 2 {
-        return (len != 0) & ((before == 1) | (before == 3));
+    if tag == NAME {
+        return (len != 0) & ((before == OPEN) | (before == VALUE));
     }
-    if tag == 3 {
-        return before == 2;
+    if tag == VALUE {
+        return before == NAME;
     }
-    (tag == 5) & (before != 2)
+    (tag == COMMENT) & (before != NAME)
 }
 
 // Whether a field with these bytes, which is no close, has a tag from 1 to 6, keeps the rules and opens no block quote.
@@ -35,11 +36,11 @@ fn is_ruled(before: u8, tag: u8, body: &[u8]) -> bool
     requires { tag ≡ 6 → ⊥ }
     ensures { (depth : ℕ) → result ≡ ruled_field before depth tag body.now }
 {
-    if tag == 4 {
-        return before != 2;
+    if tag == TEXT {
+        return before != NAME;
     }
-    if tag == 1 {
-        if (before == 2) | body.is_empty() {
+    if tag == OPEN {
+        if (before == NAME) | body.is_empty() {
             return false;
         }
         return !is_same(body, b"blockquote");
@@ -61,7 +62,7 @@ fn is_sound(before: u8, tag: u8, s: &[u8], start: usize, end: usize) -> bool
 fn count_at_end(left: usize, before: u8, depth: usize, count: usize) -> Option<usize>
     ensures { IfSome result (λ n. Ended left before depth count n) }
 {
-    if left != 0 || before == 2 || depth != 0 || 65535 < count {
+    if left != 0 || before == NAME || depth != 0 || MAX_NODES < count {
         return None;
     }
     Some(count)
@@ -82,7 +83,7 @@ fn count_of_short(s: &[u8]) -> Option<usize>
         let n = length_at(s, p);
         let tag = s[p];
         let start = p + 3;
-        if tag == 6 {
+        if tag == CLOSE {
             if !is_sound_close(before, depth, n) {
                 return None;
             }
@@ -98,8 +99,8 @@ fn count_of_short(s: &[u8]) -> Option<usize>
         if !is_sound(before, tag, s, start, end) {
             return None;
         }
-        if tag == 1 {
-            if 100 <= depth {
+        if tag == OPEN {
+            if MAX_OPEN <= depth {
                 return None;
             }
             depth += 1;
@@ -115,7 +116,7 @@ fn count_of_short(s: &[u8]) -> Option<usize>
 pub fn sound_count(s: &[u8]) -> Option<usize>
     ensures { IfSome result (λ n. Sound s.now n) }
 {
-    if 1048576 < s.len() {
+    if MAX_LENGTH < s.len() {
         return None;
     }
     count_of_short(s)

@@ -5,7 +5,7 @@ use Rattle.spec.specs.Questions.{open_after}
 use Rattle.input.proofs.Sounding.{begun, opened, level, on, empty_close, on_close, sound_if}
 use native.Mathlib.Omega.{arith}
 use Rattle.input.proofs.sound.count_of_short.Goals as goal
-use Rattle.input.proofs.sound.count_of_short.Goals.{then-tag-eq1+else-depth-ge100, else-tag-eq1}
+use Rattle.input.proofs.sound.count_of_short.Goals.{then-tag-eq-OPEN+else-depth-ge-MAX_OPEN, else-tag-eq-OPEN}
 
 pub loop-p-init : goal.loop-p-init
 loop-p-init c = begun _ (omega arith)
@@ -15,22 +15,22 @@ overflow_sub-depth c =
     let l = c.loop-p in let n = c.length_at-n.result in
     omega (arith, (empty_close l.before l.depth n (sym c.is_sound_close.ensures ∙ c.if-not-is_sound_close.false)).1)
 
-pub loop-p-preserved-then-tag-eq6 : goal.loop-p-preserved-then-tag-eq6
-loop-p-preserved-then-tag-eq6 c =
+pub loop-p-preserved-then-tag-eq-CLOSE : goal.loop-p-preserved-then-tag-eq-CLOSE
+loop-p-preserved-then-tag-eq-CLOSE c =
     let s = c.args.s.now in
     let l = c.loop-p in let n = c.length_at-n in
-    on_close s l.p n.result l.before l.depth l.count (omega arith) n.ensures.0 c.if-tag-eq6.true
+    on_close s l.p n.result l.before l.depth l.count (omega arith) n.ensures.0 c.if-tag-eq-CLOSE.true
     (sym c.is_sound_close.ensures ∙ c.if-not-is_sound_close.false) l.invariant
 
 pub loop-p-preserved : goal.loop-p-preserved
 loop-p-preserved c =
     let s = c.args.s.now in
     let l = c.loop-p in
-    let n = c.length_at-n in let d = c.if-tag-eq1.depth in
+    let n = c.length_at-n in let d = c.if-tag-eq-OPEN.depth in
     let o : (d ≡ open_after l.depth (get_or s l.p 0)) × (d ≤ 100) =
-    elim c.if-tag-eq1.branch [
-      | then-tag-eq1+else-depth-ge100 w ↦ opened l.depth _ d w.if-tag-eq1.true (omega arith) (omega arith)
-      | else-tag-eq1 w ↦ level l.depth _ d w.if-tag-eq1.false c.if-tag-eq6.false (omega arith) (omega arith)
+    elim c.if-tag-eq-OPEN.branch [
+      | then-tag-eq-OPEN+else-depth-ge-MAX_OPEN w ↦ opened l.depth _ d w.if-tag-eq-OPEN.true (omega arith) (omega arith)
+      | else-tag-eq-OPEN w ↦ level l.depth _ d w.if-tag-eq-OPEN.false c.if-tag-eq-CLOSE.false (omega arith) (omega arith)
     ] in
     on s l.p n.result l.before l.depth l.count (omega arith) n.ensures.0 (omega arith) l.invariant
     (rw (c.is_sound.ensures l.depth) at (c.if-not-is_sound.false))
