@@ -3,7 +3,7 @@ use Prim.Native.Nat.{ℕ, zero, suc, ◌+◌, ◌-◌, ◌<◌, ◌≤◌}
 use native.Mathlib.Omega.{arith}
 use native.Mathlib.Numerals.{add-one, add-two, add-three}
 use mathlib.Core.Path.{◌≡◌, refl, ap, ap₂, ◌∙◌, sym}
-use mathlib.Core.Bool.{Bool, true, false, cond, ◌&&◌, and-eq-true_iff, false≢true}
+use mathlib.Core.Bool.{Bool, true, false, cond, ◌&&◌}
 use mathlib.Core.List.{List, [], ◌∷◌}
 use lib.ListN.{length, get_or, take, drop, length-drop, drop_of_length-le}
 use lib.Seq.{drop-cons, drop-drop, take_all}
@@ -125,32 +125,3 @@ same_comm [] [] = refl
 same_comm [] (b ∷ y) = refl
 same_comm (a ∷ x) [] = refl
 same_comm (a ∷ x) (b ∷ y) = rw (eqb_comm a b, same_comm x y)
-
-same_long : (a b : Bytes) → same a b ≡ true → length a ≡ length b
-unfolding same
-same_long [] [] e = refl
-same_long [] (y ∷ b) e = absurd (false≢true e)
-same_long (x ∷ a) [] e = absurd (false≢true e)
-same_long (x ∷ a) (y ∷ b) e = ap suc (same_long a b ((and-eq-true_iff (eqb x y) (same a b)).0 e).1)
-
-pub other_length : (a b : Bytes) → (length a ≡ length b → ⊥) → false ≡ same a b
-other_length a b ne = go (same a b) refl
-  where
-    go : (t : Bool) → same a b ≡ t → false ≡ t
-    go true e = absurd (ne (same_long a b e))
-    go false e = refl
-
-module _ (a b : Bytes) (i : ℕ) (h : i < length a) (long : length a ≡ length b) (so_far : same a b ≡ same (drop i a) (drop i b)) where
-  same_step : same a b ≡ (eqb (get_or a i 0) (get_or b i 0) && same (drop (i + 1) a) (drop (i + 1) b))
-  unfolding same
-  same_step = so_far ∙ rw (add-one, drop-cons a i 0 h, drop-cons b i 0 (omega arith))
-
-  pub other_byte : (get_or a i 0 ≡ get_or b i 0 → ⊥) → false ≡ same a b
-  other_byte ne = sym (same_step ∙ rw (ne_eqb (get_or a i 0) (get_or b i 0) ne))
-
-  pub same_byte : get_or a i 0 ≡ get_or b i 0 → same a b ≡ same (drop (i + 1) a) (drop (i + 1) b)
-  same_byte e = same_step ∙ rw (eq-eqb (get_or a i 0) (get_or b i 0) e)
-
-pub same_end : (a b : Bytes) (i : ℕ) → length a ≤ i → length a ≡ length b → same a b ≡ same (drop i a) (drop i b) → true ≡ same a b
-unfolding same
-same_end a b i h long so_far = sym (so_far ∙ rw (drop_of_length-le a h, drop_of_length-le b {i = i} (omega arith)))

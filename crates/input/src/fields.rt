@@ -21,11 +21,12 @@ pub fn wide(x: u8) -> usize
 }
 
 // The length that the head of the field at p says.
+#[tactic(auto, unfolding(spec::specs::Fields::word))]
 pub fn length_at(s: &[u8], p: usize) -> usize
     requires { p + 3 ≤ length s.now }
     ensures { (result ≡ length_at s.now p) × (result < 65536) }
 {
-    wide(s[p + 1]) * 256 + wide(s[p + 2])
+    u16::from_be_bytes([s[p + 1], s[p + 2]]) as usize
 }
 
 // The field at p. It ends where the slice ends at the latest.
@@ -39,14 +40,14 @@ pub fn span_at(s: &[u8], p: usize) -> Span
     let left = s.len() - start;
     if left < n {
         return Span {
-            tag: tag,
-            start: start,
+            tag,
+            start,
             end: s.len(),
         };
     }
     Span {
-        tag: tag,
-        start: start,
+        tag,
+        start,
         end: start + n,
     }
 }
@@ -59,7 +60,7 @@ pub struct Field<'a> {
 }
 
 // The fields of a run of bytes, in their order. The last ends where the run ends at the latest.
-#[derive(Clone, Copy)]
+#[derive(Clone, Drop)]
 pub struct Fields<'a> {
     rest: &'a [u8],
 }
@@ -91,7 +92,6 @@ impl<'a> Iterator for Fields<'a> {
 }
 
 // Whether every field of s ends inside s and has a tag from low to high.
-#[tactic(auto, unfolding(spec::specs::Fields::word, spec::specs::Bytes::null))]
 pub fn is_whole(s: &[u8], low: u8, high: u8) -> bool
     ensures { result ≡ whole low high s.now }
 {
