@@ -5,7 +5,7 @@ use mathlib.Core.Path.{◌≡◌, refl, ap, ap₂, ◌∙◌, sym}
 use mathlib.Core.Bool.{Bool, true, false, cond, not, ◌&&◌, ◌||◌, and-eq-true_iff, and_assoc, and-true, false≢true}
 use mathlib.Core.List.{List, [], ◌∷◌, ◌++◌, append-nil, append_assoc}
 use lib.ListN.{length, get_or, take, drop, replicate, drop_of_length-le}
-use lib.Seq.{drop-cons, drop-drop}
+use lib.Seq.{drop-cons}
 use native.Mathlib.Numerals.{add-one}
 use lib.Dec.{eqb, leb, ltb, eqb-suc-zero}
 use borrow.Author.Tests.{eqb-true, eqb-false, not-true, ltb-true, ltb-false, lt-ltb, leb-false, le-leb, lt-leb}
@@ -122,24 +122,15 @@ module _ (p : ℕ → Bool) (s : Bytes) (all : Bool) (i : ℕ) (so_far : every p
   unfolding every
   all_end h = sym (so_far ∙ rw (drop_of_length-le s h) (and-true all))
 
--- the first k bytes are ASCII where the first n are and those of the k behind them, if there are any
-ascii_behind : (n k : ℕ) (s : Bytes) → every is_ascii (take n s) ≡ true → every is_ascii (take (k - n) (drop n s)) ≡ true
-    → every is_ascii (take k s) ≡ true
+-- the first n bytes are ASCII where the first m are
+pub ascii_less : (n m : ℕ) (s : Bytes) → n ≤ m → every is_ascii (take m s) ≡ true → every is_ascii (take n s) ≡ true
 unfolding every
-ascii_behind zero k s h r = let all : k - 0 ≡ k = omega arith in rw all at r
-ascii_behind (suc n) zero s h r = refl
-ascii_behind (suc n) (suc k) [] h r = refl
-ascii_behind (suc n) (suc k) (b ∷ s) h r =
-    let p : (ltb b 0x80 ≡ true) × (every is_ascii (take n s) ≡ true) = (and-eq-true_iff _ _).0 h in
-    let left : suc k - suc n ≡ k - n = omega arith in
-    (and-eq-true_iff _ _).1 (p.0, ascii_behind n k s p.1 (rw left at r))
-
--- the bytes from i to `to`, where the block at i may reach behind `to`
-pub ascii_block : (s : Bytes) (i to : ℕ) → every is_ascii (take (i + 16 - i) (drop i s)) ≡ true
-    → every is_ascii (take (to - (i + 16)) (drop (i + 16) s)) ≡ true → every is_ascii (take (to - i) (drop i s)) ≡ true
-ascii_block s i to h r =
-    let long : i + 16 - i ≡ 16 = omega arith in let left : to - (i + 16) ≡ to - i - 16 = omega arith in
-    ascii_behind 16 (to - i) (drop i s) (rw long at h) (rw (drop-drop 16 i s, ← left) r)
+ascii_less zero m s l h = refl
+ascii_less (suc n) zero s l h = absurd (omega arith)
+ascii_less (suc n) (suc m) [] l h = refl
+ascii_less (suc n) (suc m) (b ∷ s) l h =
+    let p : (ltb b 0x80 ≡ true) × (every is_ascii (take m s) ≡ true) = (and-eq-true_iff _ _).0 h in
+    (and-eq-true_iff _ _).1 (p.0, ascii_less n m s (omega arith) p.1)
 
 pub all_ascii : (s : Bytes) → every is_ascii s ≡ true → true ≡ is_utf8 s
 unfolding is_utf8 well_formed ranges_of

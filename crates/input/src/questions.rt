@@ -28,7 +28,7 @@ ghost use Rattle.input.specs.Refusals.{number_told};
 use crate::fields::{Fields, is_same, is_whole};
 use crate::refusal::Refusal;
 use crate::sound::sound_count;
-use crate::tag::{CLOSE, COMMENT, NAME, OPEN, SKIP, TEXT, VALUE};
+use crate::tag::{CLOSE, COMMENT, NAME, NO_TAG, OPEN, SKIP, TEXT, VALUE};
 use crate::utf8::is_utf8;
 
 // The most bytes of a sheet.
@@ -99,7 +99,7 @@ fn field_right(before: u8, depth: usize, tag: u8, len: usize) -> bool
 pub fn scan_rules(s: &[u8]) -> Option<usize>
     ensures { result ≡ scan_of (fields s.now) }
 {
-    let mut before = 0u8;
+    let mut before = NO_TAG;
     let mut depth = 0;
     for f in Fields::new(s) {
         if !field_right(before, depth, f.tag, f.body.len()) {

@@ -1,12 +1,12 @@
 // Questions 1 to 6 in one pass over the fields, for a sheet that they let pass.
-ghost use Rattle.std.specs.Prelude.{◌≡◌, ℕ, ◌-◌, ◌≤◌, length, take, drop, IfSome};
+ghost use Rattle.std.specs.Prelude.{◌≡◌, ℕ, ◌≤◌, length, take, IfSome};
 ghost use Rattle.spec.specs.Bytes.{Bytes};
 ghost use Rattle.input.specs.Scans.{field_right};
 ghost use Rattle.input.specs.Sound.{ruled_field, sound_field, Ended, Sound};
 
-use crate::fields::{is_same, length_at};
+use crate::fields::is_same;
 use crate::questions::{MAX_LENGTH, MAX_NODES, MAX_OPEN, count_after};
-use crate::tag::{CLOSE, COMMENT, NAME, OPEN, TEXT, VALUE};
+use crate::tag::{CLOSE, COMMENT, NAME, NO_TAG, OPEN, TEXT, VALUE};
 use crate::utf8::is_utf8_part;
 
 // Whether a close of `len` bytes keeps the rules.
@@ -48,13 +48,13 @@ fn is_ruled(before: u8, tag: u8, body: &[u8]) -> bool
     is_ruled_other(before, tag, body.len())
 }
 
-// Whether the field with the bytes from `start` to `end`, which is no close, is UTF-8, too. That is asked first and in one
-// place, whatever the tag. The bytes are told by their places, since `is_utf8_part` looks behind them.
-fn is_sound(before: u8, tag: u8, s: &[u8], start: usize, end: usize) -> bool
-    requires { (start ≤ end) × (end ≤ length s.now) × (tag ≡ 6 → ⊥) }
-    ensures { (depth : ℕ) → result ≡ sound_field before depth tag (take (end - start) (drop start s.now)) }
+// Whether the field of n bytes that `s` begins with, and which is no close, is UTF-8, too. That is asked first and in one
+// place, whatever the tag, and looks behind the field.
+fn is_sound(before: u8, tag: u8, s: &[u8], n: usize) -> bool
+    requires { (n ≤ length s.now) × (tag ≡ 6 → ⊥) }
+    ensures { (depth : ℕ) → result ≡ sound_field before depth tag (take n s.now) }
 {
-    is_utf8_part(s, start, end) && is_ruled(before, tag, &s[start..end])
+    is_utf8_part(s, n) && is_ruled(before, tag, &s[..n])
 }
 
 // The count, where nothing is left over behind the fields, no name stands last, every element is closed and the count
@@ -68,48 +68,41 @@ fn count_at_end(left: usize, before: u8, depth: usize, count: usize) -> Option<u
     Some(count)
 }
 
-// The same as `sound_count`, for a sheet of at most 1,048,576 bytes. Behind a close the next field begins at once: its
-// place needs no length. Places are counted here, and not left to `Fields`, so that a close is passed without its length
-// and a field's bytes can be tested with those behind them.
+// The same as `sound_count`, for a sheet of at most 1,048,576 bytes. The fields are not taken from `Fields`, since a field is
+// tested with the bytes behind it, and behind a close the next field begins at once: its place needs no length.
 fn count_of_short(s: &[u8]) -> Option<usize>
     requires { length s.now ≤ 1048576 }
     ensures { IfSome result (λ n. Sound s.now n) }
 {
-    let mut before = 0u8;
+    let mut before = NO_TAG;
     let mut depth = 0;
     let mut count = 0;
-    let mut p = 0;
-    while 3 <= s.len() - p {
-        let n = length_at(s, p);
-        let tag = s[p];
-        let start = p + 3;
-        if tag == CLOSE {
+    let mut rest = s;
+    while let [tag, high, low, behind @ ..] = rest {
+        let n = u16::from_be_bytes([*high, *low]) as usize;
+        if *tag == CLOSE {
             if !is_sound_close(before, depth, n) {
                 return None;
             }
             depth -= 1;
-            before = tag;
-            p = start;
+            before = CLOSE;
+            rest = behind;
             continue;
         }
-        if s.len() - start < n {
+        if behind.len() < n || !is_sound(before, *tag, behind, n) {
             return None;
         }
-        let end = start + n;
-        if !is_sound(before, tag, s, start, end) {
-            return None;
-        }
-        if tag == OPEN {
+        if *tag == OPEN {
             if MAX_OPEN <= depth {
                 return None;
             }
             depth += 1;
         }
-        count = count_after(count, tag);
-        before = tag;
-        p = end;
+        count = count_after(count, *tag);
+        before = *tag;
+        rest = &behind[n..];
     }
-    count_at_end(s.len() - p, before, depth, count + 1)
+    count_at_end(rest.len(), before, depth, count + 1)
 }
 
 // The nodes of a sheet that questions 1 to 6 let pass; `None` where one of them may say no.

@@ -2,6 +2,9 @@
 // question is answered for such a field, too, and the definitions compare numbers. An enum would need a variant for every
 // other byte, and a law that this variant holds none of the tags.
 
+// No tag: what stands in front of the first field.
+pub const NO_TAG: u8 = 0;
+
 // Opens an element; the field is its name.
 pub const OPEN: u8 = 1;
 

@@ -119,53 +119,39 @@ pub fn is_utf8(s: &[u8]) -> bool
     is_ascii(s) || is_well_formed(s)
 }
 
-// Whether the bytes from `from` to `to` are known to be ASCII. Blocks of 16 are tested; the last may reach behind `to`,
-// and where it would reach behind the end of `s`, nothing is known.
-fn is_ascii_part(s: &[u8], from: usize, to: usize) -> bool
-    requires { (from ≤ to) × (to ≤ length s.now) }
-    ensures { result ≡ true → every is_ascii (take (to - from) (drop from s.now)) ≡ true }
+// Whether the first n bytes are known to be ASCII. Blocks of 16 are tested; the last may reach behind the first n, and where
+// it would reach behind the end of `s`, nothing is known.
+fn is_ascii_part(s: &[u8], n: usize) -> bool
+    requires { n ≤ length s.now }
+    ensures { result ≡ true → every is_ascii (take n s.now) ≡ true }
 {
-    let mut i = from;
-    while i < to {
-        if s.len() - i < 16 {
-            return false;
-        }
-        let end = i + 16;
-        if !is_ascii(&s[i..end]) {
-            return false;
-        }
-        i = end;
+    let blocks = n.div_ceil(16);
+    blocks <= s.len() / 16 && is_ascii(&s[..blocks * 16])
+}
+
+// The same as `is_utf8`, for the first n bytes, however many.
+fn is_utf8_long(s: &[u8], n: usize) -> bool
+    requires { n ≤ length s.now }
+    ensures { result ≡ is_utf8 (take n s.now) }
+{
+    is_ascii_part(s, n) || is_well_formed(&s[..n])
+}
+
+// Whether the first n bytes are at most 16, and ASCII with those behind them up to 16.
+fn is_short_ascii(s: &[u8], n: usize) -> bool
+    ensures { result ≡ true → every is_ascii (take n s.now) ≡ true }
+{
+    match s.first_chunk::<16>() {
+        Some(block) => n <= 16 && is_ascii(block),
+        None => false,
     }
-    true
 }
 
-// The same as `is_utf8`, for the bytes from `from` to `to`, however many.
-fn is_utf8_long(s: &[u8], from: usize, to: usize) -> bool
-    requires { (from ≤ to) × (to ≤ length s.now) }
-    ensures { result ≡ is_utf8 (take (to - from) (drop from s.now)) }
+// The same as `is_utf8_long`. Most fields are short, and one block of 16 bytes, which may reach behind the first n, holds all
+// of theirs.
+pub fn is_utf8_part(s: &[u8], n: usize) -> bool
+    requires { n ≤ length s.now }
+    ensures { result ≡ is_utf8 (take n s.now) }
 {
-    is_ascii_part(s, from, to) || is_well_formed(&s[from..to])
-}
-
-// Whether the bytes from `from` to `to` are at most 16, and ASCII with those behind them up to 16.
-fn is_short_ascii(s: &[u8], from: usize, to: usize) -> bool
-    requires { (from ≤ to) × (to ≤ length s.now) }
-    ensures { result ≡ true → every is_ascii (take (to - from) (drop from s.now)) ≡ true }
-{
-    if to - from <= 16 {
-        if 16 <= s.len() - from {
-            let end = from + 16;
-            return is_ascii(&s[from..end]);
-        }
-    }
-    false
-}
-
-// The same as `is_utf8_long`. Most fields are short, and one block of 16 bytes, which may reach behind `to`, holds all of
-// theirs.
-pub fn is_utf8_part(s: &[u8], from: usize, to: usize) -> bool
-    requires { (from ≤ to) × (to ≤ length s.now) }
-    ensures { result ≡ is_utf8 (take (to - from) (drop from s.now)) }
-{
-    is_short_ascii(s, from, to) || is_utf8_long(s, from, to)
+    is_short_ascii(s, n) || is_utf8_long(s, n)
 }
