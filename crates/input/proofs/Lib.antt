@@ -5,3 +5,4 @@ pub mod Rules
 pub mod Every
 pub mod ByTag
 pub mod Sounding
+pub mod Splitting

@@ -1,11 +1,9 @@
 -- What the scan of a sheet's fields answers. Assumes nothing.
-use Rattle.std.specs.Prelude.{ℕ, suc, Bool, true, false, cond, not, ◌&&◌, List, [], ◌∷◌, length, eqb, leb}
+use Rattle.std.specs.Prelude.{ℕ, suc, Bool, true, false, cond, not, ◌&&◌, List, [], ◌∷◌, length, eqb, leb, Option, None, Some}
 use Rattle.spec.specs.Utf8.{is_utf8}
 use Rattle.spec.specs.Bytes.{Bytes, ascii, same, isin}
 use Rattle.spec.specs.Fields.{Field}
 use Rattle.spec.specs.Questions.{may_follow, no_stray, keep_rules, still_open, SkipList, standard, own}
-use Rattle.input.specs.declared.questions.Scan.{Scan}
-use Rattle.input.specs.declared.questions.Scan.TheVariants.{Broken, Open}
 
 -- `right_length` of a field with so many bytes
 abbrev pub length_right : ℕ → ℕ → Bool
@@ -14,12 +12,16 @@ length_right tag len = cond (isin tag (1 ∷ 2 ∷ [])) (not (eqb len 0)) (cond 
 abbrev pub field_right : ℕ → ℕ → ℕ → ℕ → Bool
 field_right before depth tag len = (may_follow before tag && length_right tag len) && no_stray depth tag
 
-unfoldable pub scan_of : List Field → Scan
-scan_of fs = cond (keep_rules 0 0 fs) (Open (still_open 0 fs)) Broken
+-- the elements still open behind fields that keep the rules
+unfoldable pub scan_of : List Field → Option ℕ
+scan_of fs = cond (keep_rules 0 0 fs) (Some (still_open 0 fs)) None
+
+abbrev pub begins_node : ℕ → Bool
+begins_node tag = isin tag (1 ∷ 4 ∷ 5 ∷ [])
 
 -- the nodes begun behind a field, with `count` before it
 abbrev pub count_after : ℕ → ℕ → ℕ
-count_after count tag = cond (isin tag (1 ∷ 4 ∷ 5 ∷ [])) (suc count) count
+count_after count tag = cond (begins_node tag) (suc count) count
 
 abbrev pub opens_blockquote : ℕ → Bytes → Bool
 opens_blockquote tag body = eqb tag 1 && same body (ascii "blockquote")

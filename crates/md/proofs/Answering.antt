@@ -25,10 +25,23 @@ use Rattle.recovery.proofs.Recovered.{recovers_call}
 use Rattle.text.specs.Writes as writes
 use Rattle.text.proofs.Temporary.{back, lent}
 use Rattle.text.proofs.Writing.{yes, no}
-use Rattle.md.specs.Answer.{number_of, length_of, is_written, coded, coded_number, coded_length}
+use Rattle.std.specs.Prelude.{Ok, Err}
+use Rattle.input.specs.declared.refusal.Refusal.{Refusal}
+use Rattle.input.specs.declared.refusal.Refusal.TheVariants.{
+  SheetLength,
+  Fields,
+  Rules,
+  Utf8,
+  Limits,
+  Blockquote,
+  Start,
+  SkipList as Skips,
+  NodeMemory,
+  TextMemory,
+}
+use Rattle.input.specs.Refusals.{number_of as question}
+use Rattle.md.specs.Answer.{Answer, number_of, length_of, is_written, coded, coded_number, coded_length}
 use Rattle.md.specs.Started.{Started, Answered}
-use Rattle.md.specs.declared.call.Answer.{Answer}
-use Rattle.md.specs.declared.call.Answer.TheVariants.{Written, Refused}
 
 -- ---- what questions 1 to 9 let pass
 
@@ -68,10 +81,10 @@ module _ (o : Out) (nodes text mid : Bytes) {nodesAfter : Bytes} (p : nodesAfter
   nodes_clear = p ∙ ap (λ (j : ℕ). replicate j 0) m
 
   pub answers_written : {after textAfter : Bytes} {n : ℕ} → writes.Written (length text) after n o → textAfter ≡ take n after ++ replicate (length after - n) 0
-      → Answered (answer_for o nodes text) (Written n) nodesAfter textAfter
+      → Answered (answer_for o nodes text) (Ok n) nodesAfter textAfter
   unfolding answer_for question10 accepted
   answers_written {after} {textAfter} {n} w e =
-      subst (λ (a : spec.Answer). Answered a (Written n) nodesAfter textAfter) (sym (yes _ _ (le-leb o.peak (length text) w.fits)))
+      subst (λ (a : spec.Answer). Answered a (Ok n) nodesAfter textAfter) (sym (yes _ _ (le-leb o.peak (length text) w.fits)))
       (record {
         number_is = refl;
         length_is = w.count;
@@ -81,20 +94,33 @@ module _ (o : Out) (nodes text mid : Bytes) {nodesAfter : Bytes} (p : nodesAfter
       })
 
   pub answers_full : (after : Bytes) {textAfter : Bytes} → writes.Refused (length text) o → textAfter ≡ replicate (length after) 0 → length after ≡ length text
-      → Answered (answer_for o nodes text) (Refused 10) nodesAfter textAfter
+      → Answered (answer_for o nodes text) (Err TextMemory) nodesAfter textAfter
   unfolding answer_for question10 no_room zeros
   answers_full after {textAfter} w e l =
-      subst (λ (a : spec.Answer). Answered a (Refused 10) nodesAfter textAfter) (sym (no _ _ (lt-leb o.peak (length text) w.over)))
+      subst (λ (a : spec.Answer). Answered a (Err TextMemory) nodesAfter textAfter) (sym (no _ _ (lt-leb o.peak (length text) w.over)))
       (record { number_is = refl; length_is = refl; told = refl; nodes_are = nodes_clear; text_is = e ∙ ap (λ (j : ℕ). replicate j 0) l })
 
 -- ---- the call
 
+-- no question has the number 0
+some_number : (r : Refusal) → question r ≡ 0 → ⊥
+some_number SheetLength e = omega arith
+some_number Fields e = omega arith
+some_number Rules e = omega arith
+some_number Utf8 e = omega arith
+some_number Limits e = omega arith
+some_number Blockquote e = omega arith
+some_number Start e = omega arith
+some_number Skips e = omega arith
+some_number NodeMemory e = omega arith
+some_number TextMemory e = omega arith
+
 module _ (sheet : Bytes) (skips : SkipList) (start : ℕ) (withNode : Bool) (nodes text : Bytes) where
-  pub answers_no : (k : ℕ) → k ≡ refusal sheet skips start (length nodes) → (k ≡ 0 → ⊥) → Answered (call sheet skips start withNode nodes text) (Refused k) nodes text
+  pub answers_no : (r : Refusal) → question r ≡ refusal sheet skips start (length nodes) → Answered (call sheet skips start withNode nodes text) (Err r) nodes text
   unfolding call refused
-  answers_no k e z =
-      let t : eqb (refusal sheet skips start (length nodes)) 0 ≡ false = ne_eqb _ 0 (λ q. z (e ∙ q)) in
-      subst (λ (a : spec.Answer). Answered a (Refused k) nodes text) (sym (no _ _ t))
+  answers_no r e =
+      let t : eqb (refusal sheet skips start (length nodes)) 0 ≡ false = ne_eqb _ 0 (λ q. some_number r (e ∙ q)) in
+      subst (λ (a : spec.Answer). Answered a (Err r) nodes text) (sym (no _ _ t))
       (record { number_is = e; length_is = refl; told = sym t; nodes_are = refl; text_is = refl })
 
   pub answers_on : {r : Answer} {nodesAfter textAfter : Bytes} → refusal sheet skips start (length nodes) ≡ 0
@@ -121,15 +147,21 @@ module _ (sheet : Bytes) (skips : SkipList) (start : ℕ) (withNode : Bool) (nod
 
 -- ---- one signed number
 
+minus_number : (k : ℕ) → coded_number (neg_ℤ (pos k)) ≡ k
+minus_number zero = refl
+minus_number (suc k) = refl
+
+minus_length : (k : ℕ) → coded_length (neg_ℤ (pos k)) ≡ 0
+minus_length zero = refl
+minus_length (suc k) = refl
+
 pub coded_number_lem : (a : Answer) → coded_number (coded a) ≡ number_of a
-coded_number_lem (Written n) = refl
-coded_number_lem (Refused zero) = refl
-coded_number_lem (Refused (suc k)) = refl
+coded_number_lem (Ok n) = refl
+coded_number_lem (Err r) = minus_number (question r)
 
 pub coded_length_lem : (a : Answer) → coded_length (coded a) ≡ length_of a
-coded_length_lem (Written n) = refl
-coded_length_lem (Refused zero) = refl
-coded_length_lem (Refused (suc k)) = refl
+coded_length_lem (Ok n) = refl
+coded_length_lem (Err r) = minus_length (question r)
 
 negative_fits : (k : ℕ) → k < 256 → SFits w64 (neg_ℤ (pos k))
 negative_fits zero l = sfits_lit tt

@@ -1,30 +1,34 @@
 -- What the answers of the call say: the number of document 01 and the length, for each case; and both coded in one signed number,
 -- for hosts. Assumes nothing.
-use Rattle.std.specs.Prelude.{ℕ, suc, Bool, true, false, not, eqb, ℤ, pos, negsuc, neg_ℤ}
-use Rattle.md.specs.declared.call.Answer.{Answer}
-use Rattle.md.specs.declared.call.Answer.TheVariants.{Written, Refused}
+use Rattle.std.specs.Prelude.{ℕ, suc, Bool, true, false, not, eqb, ℤ, pos, negsuc, neg_ℤ, Result, Ok, Err}
+use Rattle.input.specs.declared.refusal.Refusal.{Refusal}
+use Rattle.input.specs.Refusals.{number_of as question}
 
--- `Written` is acceptance, number 0; `Refused` holds the number of the question that said no
+-- the length of the text, or the question that said no
+abbrev pub Answer : Type 0
+Answer = Result ℕ Refusal
+
+-- `Ok` is acceptance, number 0; `Err` holds the question that said no
 abbrev pub number_of : Answer → ℕ
-number_of (Written n) = 0
-number_of (Refused k) = k
+number_of (Ok n) = 0
+number_of (Err r) = question r
 
--- `Written` holds the length of the text; that of a no is 0
+-- `Ok` holds the length of the text; that of a no is 0
 abbrev pub length_of : Answer → ℕ
-length_of (Written n) = n
-length_of (Refused k) = 0
+length_of (Ok n) = n
+length_of (Err r) = 0
 
 -- "Acceptance is told apart from every no"
 abbrev pub is_written : Answer → Bool
-is_written (Written n) = true
-is_written (Refused k) = false
+is_written (Ok n) = true
+is_written (Err r) = false
 
 -- ---- one signed number
 
 -- a text of n bytes is n, and question k's no is -k
 abbrev pub coded : Answer → ℤ
-coded (Written n) = pos n
-coded (Refused k) = neg_ℤ (pos k)
+coded (Ok n) = pos n
+coded (Err r) = neg_ℤ (pos (question r))
 
 -- what a host reads off the code: a number below 0 is a no, any other the length of the text
 abbrev pub coded_number : ℤ → ℕ

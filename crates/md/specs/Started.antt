@@ -4,8 +4,7 @@ use Rattle.spec.specs.Bytes.{Bytes}
 use Rattle.spec.specs.Questions.{node_count}
 use Rattle.spec.specs.Call as spec
 use Rattle.tree.specs.Represents.{Holds}
-use Rattle.md.specs.declared.call.Answer.{Answer}
-use Rattle.md.specs.Answer.{number_of, length_of, is_written}
+use Rattle.md.specs.Answer.{Answer, number_of, length_of, is_written}
 
 -- node memory holds the tree of a sheet that passes question 1, and the start number is that of a node
 pub record Started (sh ns : Bytes) (start : ℕ) : Type 0 where

@@ -9,6 +9,7 @@ ghost use Rattle.md.specs.Answer.{number_of, length_of, is_written, coded, coded
 ghost use Rattle.md.specs.Started.{Started, Answered};
 
 use input::questions::first_refusal;
+use input::refusal::Refusal;
 use normalized::text_utils::trim_space;
 use serializer::options::packed;
 use serializer::write;
@@ -17,13 +18,6 @@ use text::buffer::{Full, Wrote};
 use tree::memory::clear;
 use tree::nodes::node_end;
 use tree::store::store_nodes;
-
-// The length of the text, or the number of the question that said no.
-#[derive(Clone, Copy)]
-pub enum Answer {
-    Written(usize),
-    Refused(u8),
-}
 
 // What stands in the start node, and then the trim of the text.
 fn write_inside(
@@ -112,7 +106,7 @@ fn write_sheet(
     include_node: bool,
     nodes: &mut [u8],
     text: &mut [u8],
-) -> Answer
+) -> Result<usize, Refusal>
     requires { refusal sheet.now (skip_list own run.now) start (length nodes.old) ≡ 0 }
     ensures { Answered (answer_for (written sheet.now (skip_list own run.now) start include_node) nodes.old text.old) result nodes.new text.new }
 {
@@ -121,18 +115,19 @@ fn write_sheet(
         Ok(n) => {
             clear(nodes);
             clear_behind(text, n);
-            Answer::Written(n)
+            Ok(n)
         }
         Err(Full) => {
             clear(nodes);
             clear(text);
-            Answer::Refused(10)
+            Err(Refusal::TextMemory)
         }
     }
 }
 
 // Writes a sheet as Markdown, from the node with the number `start`, with it or without it, into the memory that is lent. The
-// skip list is the default or, where `own` says so, a run of fields.
+// skip list is the default or, where `own` says so, a run of fields. The answer is the length of the text, or the question that
+// said no.
 pub fn serialize_md(
     sheet: &[u8],
     own: bool,
@@ -141,25 +136,22 @@ pub fn serialize_md(
     include_node: bool,
     nodes: &mut [u8],
     text: &mut [u8],
-) -> Answer
+) -> Result<usize, Refusal>
     ensures promise { Promise sheet.now (skip_list own run.now) start include_node nodes.old text.old (number_of result) (length_of result) nodes.new text.new }
     ensures told { is_written result ≡ eqb (number_of result) 0 }
 {
-    let number = first_refusal(sheet, own, run, start, nodes.len());
-    if number != 0 {
-        return Answer::Refused(number);
-    }
+    first_refusal(sheet, own, run, start, nodes.len())?;
     write_sheet(sheet, own, run, start, include_node, nodes, text)
 }
 
 // An answer as one signed number.
-fn code(a: Answer) -> i64
-    requires { length_of a < 2 ^ 63 }
-    ensures { result ≡ coded a }
+fn code(answer: Result<usize, Refusal>) -> i64
+    requires { length_of answer < 2 ^ 63 }
+    ensures { result ≡ coded answer }
 {
-    match a {
-        Answer::Written(n) => n as i64,
-        Answer::Refused(number) => -(number as i64),
+    match answer {
+        Ok(n) => n as i64,
+        Err(refusal) => -(refusal.number() as i64),
     }
 }
 
@@ -177,6 +169,6 @@ pub extern "C" fn buzhnael_serialize_md(
 ) -> i64
     ensures { Promise sheet.now (skip_list (flag own) run.now) start (flag include_node) nodes.old text.old (coded_number result) (coded_length result) nodes.new text.new }
 {
-    let a = serialize_md(sheet, own != 0, run, start, include_node != 0, nodes, text);
-    code(a)
+    let answer = serialize_md(sheet, own != 0, run, start, include_node != 0, nodes, text);
+    code(answer)
 }

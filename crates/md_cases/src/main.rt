@@ -9,8 +9,9 @@ mod list;
 ghost use Rattle.std.specs.Prelude.{◌+◌, ◌≤◌, ◌<◌, ◌≡◌, length};
 
 use input::fields::is_same;
+use input::refusal::Refusal;
 use list::{Head, part, pointed, read_head};
-use md::call::{Answer, serialize_md};
+use md::call::serialize_md;
 use reading::read_full;
 use std::io;
 use tree::memory::read_quad;
@@ -45,23 +46,26 @@ fn holds(memory: &[u8], text: &[u8]) -> bool {
 }
 
 // Whether the memories are as the question that says no leaves them: untouched, or all zero after number 10.
-fn is_left(number: u8, nodes: &[u8], text: &[u8]) -> bool {
-    if number == 10 {
+fn is_left(refusal: Refusal, nodes: &[u8], text: &[u8]) -> bool {
+    if refusal == Refusal::TextMemory {
         return is_filled(nodes, 0) & is_filled(text, 0);
     }
     is_filled(nodes, 170) & is_filled(text, 85)
 }
 
 // Whether a call gave this number or, for 0, this text.
-fn is_right(answer: Answer, number: u8, expected: &[u8], nodes: &[u8], text: &[u8]) -> bool {
+fn is_right(
+    answer: Result<usize, Refusal>,
+    number: u8,
+    expected: &[u8],
+    nodes: &[u8],
+    text: &[u8],
+) -> bool {
     match answer {
-        Answer::Written(n) => {
-            if number != 0 {
-                return false;
-            }
-            (n == expected.len()) & is_filled(nodes, 0) & holds(text, expected)
+        Ok(n) => {
+            number == 0 && n == expected.len() && is_filled(nodes, 0) && holds(text, expected)
         }
-        Answer::Refused(k) => (k == number) & (k != 0) & is_left(k, nodes, text),
+        Err(refusal) => refusal.number() == number && is_left(refusal, nodes, text),
     }
 }
 

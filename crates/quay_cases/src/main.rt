@@ -9,7 +9,8 @@ mod build;
 ghost use Rattle.std.specs.Prelude.{◌<◌, ◌^◌};
 
 use build::{field, fields, holding, two_cells};
-use md::call::{Answer, serialize_md};
+use input::refusal::Refusal;
+use md::call::serialize_md;
 use sheet_main::answer_to;
 use std::io;
 use text::buffer::{front};
@@ -36,14 +37,10 @@ fn print_text(rt: &impl Print, text: &[u8]) -> io::Result<()> {
     rt.write_all(b"\n")
 }
 
-fn print_number(rt: &impl Print, number: u8) -> io::Result<()> {
-    println!(rt; "{number}")
-}
-
-fn print_answer(rt: &impl Print, answer: Answer, text: &[u8]) -> io::Result<()> {
+fn print_answer(rt: &impl Print, answer: Result<usize, Refusal>, text: &[u8]) -> io::Result<()> {
     match answer {
-        Answer::Written(n) => print_text(rt, front(text, n)),
-        Answer::Refused(number) => print_number(rt, number),
+        Ok(n) => print_text(rt, front(text, n)),
+        Err(refusal) => println!(rt; "{refusal}"),
     }
 }
 

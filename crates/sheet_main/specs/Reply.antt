@@ -3,8 +3,8 @@ use Rattle.std.specs.Prelude.{◌≡◌, Bool, false, cond, eqb}
 use Rattle.spec.specs.Bytes.{Bytes}
 use Rattle.spec.specs.Questions.{standard}
 use Rattle.spec.specs.Call.{Answer, refused, call}
+use Rattle.md.specs.Answer as told
 use Rattle.md.specs.Answer.{number_of, length_of, is_written}
-use Rattle.md.specs.declared.call.Answer as told
 
 -- the call from node 0 without it, with the default list; "a longer input prints `no 1`"
 unfoldable pub reply : Bool → Bytes → Bytes → Bytes → Answer

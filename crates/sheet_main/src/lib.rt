@@ -4,7 +4,8 @@
 
 ghost use Rattle.sheet_main.specs.Reply.{reply, Is};
 
-use md::call::{Answer, serialize_md};
+use input::refusal::Refusal;
+use md::call::serialize_md;
 use reading::read_full;
 use std::io;
 use std::io::{Input, Read};
@@ -18,20 +19,25 @@ fn has_more<R: Read>(input: &mut R) -> io::Result<bool> {
 }
 
 // The answer to a sheet; number 1, and no call, where the input is longer than the sheet that was read.
-pub fn answer_to(sheet: &[u8], longer: bool, nodes: &mut [u8], text: &mut [u8]) -> Answer
+pub fn answer_to(
+    sheet: &[u8],
+    longer: bool,
+    nodes: &mut [u8],
+    text: &mut [u8],
+) -> Result<usize, Refusal>
     ensures { Is (reply longer sheet.now nodes.old text.old) result nodes.new text.new }
 {
     if longer {
-        return Answer::Refused(1);
+        return Err(Refusal::SheetLength);
     }
     serialize_md(sheet, false, b"", 0, false, nodes, text)
 }
 
 // The text with no line end added, or `no ` and the number in a line.
-fn print_answer(rt: &impl Print, answer: Answer, text: &[u8]) -> io::Result<()> {
+fn print_answer(rt: &impl Print, answer: Result<usize, Refusal>, text: &[u8]) -> io::Result<()> {
     match answer {
-        Answer::Written(n) => rt.write_all(front(text, n)),
-        Answer::Refused(number) => println!(rt; "no {number}"),
+        Ok(n) => rt.write_all(front(text, n)),
+        Err(refusal) => println!(rt; "no {refusal}"),
     }
 }
 

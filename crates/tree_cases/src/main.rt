@@ -25,11 +25,10 @@ fn run_call(
     name: &[u8],
     nodes: &mut [u8],
 ) -> io::Result<()> {
-    let number = first_refusal(sheet, own, run, start, nodes.len());
-    rt.print(number)?;
-    if number != 0 {
-        return rt.write_all(b"\n");
+    if let Err(refusal) = first_refusal(sheet, own, run, start, nodes.len()) {
+        return println!(rt; "{refusal}");
     }
+    rt.write_all(b"0")?;
     let count = store_nodes(sheet, nodes);
     put(rt, count)?;
     rt.write_all(b"\n")?;

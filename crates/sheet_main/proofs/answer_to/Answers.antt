@@ -5,13 +5,13 @@ use Rattle.spec.specs.Bytes.{Bytes}
 use Rattle.spec.specs.Questions.{standard}
 use Rattle.spec.specs.Call.{refused}
 use Rattle.spec.specs.Promise.{Promise}
-use Rattle.md.specs.Answer.{number_of, length_of, is_written}
-use Rattle.md.specs.declared.call.Answer.{Answer}
-use Rattle.md.specs.declared.call.Answer.TheVariants.{Refused}
+use Rattle.std.specs.Prelude.{Err}
+use Rattle.input.specs.declared.refusal.Refusal.TheVariants.{SheetLength}
+use Rattle.md.specs.Answer.{Answer, number_of, length_of, is_written}
 use Rattle.sheet_main.specs.Reply.{reply, Is}
 use Rattle.sheet_main.proofs.answer_to.Goals as goal
 
-too_long : (longer : Bool) (sheet nodes text : Bytes) → longer ≡ true → Is (reply longer sheet nodes text) (Refused 1) nodes text
+too_long : (longer : Bool) (sheet nodes text : Bytes) → longer ≡ true → Is (reply longer sheet nodes text) (Err SheetLength) nodes text
 unfolding reply refused
 too_long longer sheet nodes text e = rw e (record { number_is = refl; length_is = refl; nodes_are = refl; text_is = refl; told_apart = refl })
 

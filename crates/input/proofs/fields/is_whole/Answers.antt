@@ -1,36 +1,44 @@
-use mathlib.Core.Path.{refl}
-use lib.ListN.{get_or}
-use Rattle.input.proofs.Walking.{too_low, too_high, too_long, fits, whole_end}
-use native.Mathlib.Omega.{arith}
+use Rattle.std.proofs.Common.{◌-◌, length, take, drop, get_or, sym, ◌∙◌, ap, refl, arith, length-drop}
+use borrow.Author.Tests.{le-leb, lt-leb}
+use lib.Seq.{take_all}
+use Rattle.spec.specs.Fields.{whole, whole_short}
+use Rattle.input.proofs.Rules.{null_length}
+use Rattle.input.proofs.Splitting.{split_whole}
 use Rattle.input.proofs.fields.is_whole.Goals as goal
-
-pub loop-p-init : goal.loop-p-init
-loop-p-init c =
-    (omega arith, refl)
+use Rattle.input.proofs.fields.is_whole.Goals.{then-tag-low-via-then-tag-low, then-tag-low-via-else-tag-low+then-high-tag, then-tag-low-via-else-tag-low+else-high-tag+then-behind-len}
 
 pub returns-then-tag-low : goal.returns-then-tag-low
 returns-then-tag-low c =
-    let a = c.args in let l = c.loop-p in
-    too_low a.low a.high a.s.now l.p c.length_at-n.result (get_or a.s.now l.p 0) (omega arith) c.length_at-n.ensures.0 refl l.invariant.1 c.if-tag-low.true
+    let a = c.args in let s = c.loop-rest.rest.now in let n = c.from_be_bytes-len.result in
+    let step = c.loop-rest.invariant ∙ split_whole a.low a.high s n c.in-len3-up.len_at_least c.from_be_bytes-len.ensures in
+    elim c.then-tag-low.branch [
+      | then-tag-low-via-then-tag-low w ↦ sym (step ∙ rw (lt-leb a.low (get_or s 0 0) w.if-tag-low.true) refl)
+      | then-tag-low-via-else-tag-low+then-high-tag w ↦
+          sym (step ∙ rw (le-leb a.low (get_or s 0 0) w.if-tag-low.false, lt-leb (get_or s 0 0) a.high w.if-high-tag.true) refl)
+      | then-tag-low-via-else-tag-low+else-high-tag+then-behind-len w ↦
+          sym
+          (step
+          ∙ rw (
+            le-leb a.low (get_or s 0 0) w.if-tag-low.false,
+            le-leb (get_or s 0 0) a.high w.if-high-tag.false,
+            lt-leb n (length (take (length s - 3) (drop 3 s))) w.if-behind-len.true,
+          ) refl)
+    ]
 
-pub returns-then-high-tag : goal.returns-then-high-tag
-returns-then-high-tag c =
-    let a = c.args in let l = c.loop-p in
-    too_high a.low a.high a.s.now l.p c.length_at-n.result (get_or a.s.now l.p 0) (omega arith) c.length_at-n.ensures.0 refl l.invariant.1 (omega arith) c.if-high-tag.true
-
-pub returns-then-s-start : goal.returns-then-s-start
-returns-then-s-start c =
-    let a = c.args in let l = c.loop-p in
-    too_long a.low a.high a.s.now l.p c.length_at-n.result (get_or a.s.now l.p 0) (omega arith) c.length_at-n.ensures.0 refl l.invariant.1 (omega arith) (omega arith) c.if-s-start.true
-
-pub loop-p-preserved : goal.loop-p-preserved
-loop-p-preserved c =
-    let a = c.args in let l = c.loop-p in (
-      omega arith,
-      fits a.low a.high a.s.now l.p c.length_at-n.result (get_or a.s.now l.p 0) (omega arith) c.length_at-n.ensures.0 refl l.invariant.1 (omega arith) (omega arith) (omega arith),
-    )
+pub loop-rest-preserved : goal.loop-rest-preserved
+loop-rest-preserved c =
+    let a = c.args in let s = c.loop-rest.rest.now in let n = c.from_be_bytes-len.result in
+    let b = take (length s - 3) (drop 3 s) in
+    c.loop-rest.invariant
+    ∙ split_whole a.low a.high s n c.in-len3-up.len_at_least c.from_be_bytes-len.ensures
+    ∙ rw (
+      le-leb a.low (get_or s 0 0) c.if-tag-low.false,
+      le-leb (get_or s 0 0) a.high c.if-high-tag.false,
+      le-leb n (length (take (length s - 3) (drop 3 s))) c.if-behind-len.false,
+    ) refl
+    ∙ ap (whole a.low a.high) (sym (take_all (length b - n) (drop n b) (omega (arith, length-drop n b))))
 
 pub returns : goal.returns
 returns c =
-    let a = c.args in let l = c.loop-p in
-    whole_end a.low a.high a.s.now l.p l.invariant.0 (omega arith) l.invariant.1
+    let s = c.loop-rest.rest.now in
+    c.is_empty.ensures ∙ sym (c.loop-rest.invariant ∙ whole_short c.args.low c.args.high s c.in_default.len_below ∙ null_length s)

@@ -1,36 +1,13 @@
-use mathlib.Core.Path.{sym}
-use Rattle.input.proofs.Rules.{part_length}
+use Rattle.std.proofs.Common.{sym}
 use Rattle.input.proofs.ByTag.{of_open, of_text}
-use native.Mathlib.Omega.{arith}
 use Rattle.input.proofs.sound.is_ruled.Goals as goal
 
-pub returns-then-tag-eq4 : goal.returns-then-tag-eq4
-returns-then-tag-eq4 c depth =
-    let a = c.args in
-    rw c.if-tag-eq4.true (sym (of_text a.before depth _))
+pub returns-then-tag-eq-TEXT : goal.returns-then-tag-eq-TEXT
+returns-then-tag-eq-TEXT c depth = rw c.if-tag-eq-TEXT.true (sym (of_text c.args.before depth _))
 
-pub returns-then-before-end : goal.returns-then-before-end
-returns-then-before-end c depth =
-    let a = c.args in
-    rw (
-      c.if-tag-eq1.true,
-      of_open a.before depth _,
-      part_length a.s.now a.start a.end (omega arith) (omega arith),
-      c.if-before-end.true,
-    )
+pub returns-then-before-is_empty : goal.returns-then-before-is_empty
+returns-then-before-is_empty c depth = rw (c.if-tag-eq-OPEN.true, of_open c.args.before depth c.args.body.now, ← c.is_empty.ensures, c.if-before-is_empty.true)
 
-pub returns-then-tag-eq1 : goal.returns-then-tag-eq1
-returns-then-tag-eq1 c depth =
-    let a = c.args in
-    rw (
-      c.if-tag-eq1.true,
-      of_open a.before depth _,
-      part_length a.s.now a.start a.end (omega arith) (omega arith),
-      c.if-before-end.false,
-      c.is_same.ensures,
-    )
-
-pub returns : goal.returns
-returns c depth =
-    let a = c.args in
-    c.is_ruled_other.ensures depth _ (part_length a.s.now a.start a.end (omega arith) (omega arith))
+pub returns-then-tag-eq-OPEN : goal.returns-then-tag-eq-OPEN
+returns-then-tag-eq-OPEN c depth =
+    rw (c.if-tag-eq-OPEN.true, of_open c.args.before depth c.args.body.now, ← c.is_empty.ensures, c.if-before-is_empty.false, c.is_same.ensures)

@@ -1,19 +1,10 @@
-use Prim.Native.Nat.{◌+◌, ◌-◌}
-use mathlib.Core.Path.{◌≡◌, refl, sym, ◌∙◌}
-use mathlib.Core.Bool.{false≢true}
+use Rattle.std.proofs.Common.{◌≡◌, take, sym, ◌∙◌, ap, rules}
 use Rattle.spec.specs.Bytes.{every}
-use Rattle.input.proofs.Sequences.{ascii_block}
-use native.Mathlib.Omega.{arith}
+use Rattle.input.specs.Lead.{is_ascii}
+use Rattle.input.proofs.Sequences.{ascii_less}
 use Rattle.input.proofs.utf8.is_short_ascii.Goals as goal
 
-pub returns-then-s-from-ge16 : goal.returns-then-s-from-ge16
-unfolding every
-returns-then-s-from-ge16 c h =
-    let a = c.args in let none : a.to - (a.from + 16) ≡ 0 = omega arith in
-    ascii_block a.s.now a.from a.to (sym c.is_ascii.ensures ∙ h) (rw none refl)
-
-pub returns-else-s-from-ge16 : goal.returns-else-s-from-ge16
-returns-else-s-from-ge16 c h = absurd (false≢true h)
-
-pub returns-else-to-from-le16 : goal.returns-else-to-from-le16
-returns-else-to-from-le16 c h = absurd (false≢true h)
+pub returns-then-n-le16 : goal.returns-then-n-le16
+returns-then-n-le16 c h =
+    let first : c.in-Some.block.now ≡ take 16 c.args.s.now = search rules in
+    ascii_less c.args.n 16 c.args.s.now c.if-n-le16.true (sym (ap (every is_ascii) first) ∙ sym c.is_ascii.ensures ∙ h)

@@ -1,0 +1,10 @@
+use Rattle.std.proofs.Common.{◌≡◌, ◌++◌, List, ℕ, length}
+use Rattle.spec.specs.Utf8.{well_formed}
+use Rattle.input.specs.Lead.{make, due}
+use Rattle.input.proofs.utf8.due_at_end.Given as goal
+
+abbrev pub invariant-loop-block : goal.invariant-loop-block
+invariant-loop-block l = (behind : List ℕ) → well_formed (due (make 0 0x80 0xBF)) (l.s ++ behind) ≡ well_formed (due l.due) (l.rest ++ behind)
+
+abbrev pub decreases-loop-block : goal.decreases-loop-block
+decreases-loop-block l = length l.rest
