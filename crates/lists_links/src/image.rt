@@ -1,6 +1,6 @@
 // elements/image.rs. The element opens at `place` of the sheet; a value is a part of the sheet.
 ghost use Rattle.std.proofs.Math.Option.{some};
-ghost use Rattle.std.specs.Prelude.{◌+◌, ◌-◌, ◌≤◌, length, take, drop};
+ghost use Rattle.std.specs.Prelude.{◌+◌, ◌≤◌, length, take};
 ghost use Rattle.spec.specs.Bytes.{ascii, or_else};
 ghost use Rattle.spec.specs.Tree.{attr};
 ghost use Rattle.spec.specs.Md.Ctx.{new};
@@ -16,68 +16,58 @@ use spec::ctx::FormatOpts;
 use text::buffer::{Wrote, push_all, trim_end_matches, trim_start_matches};
 use text::class::{Black, Only, White};
 use text::white_space::trim_end;
-use tree::attributes::{Value, attribute};
+use tree::attributes::attribute;
 
 // The value of an attribute, if it holds more than White_Space.
-fn filled_value(sheet: &[u8], place: usize, name: &[u8]) -> Value
+fn filled_value<'a>(sheet: &'a [u8], place: usize, name: &[u8]) -> Option<&'a [u8]>
     requires { place + 3 ≤ length sheet.now }
     ensures { Valued sheet.now result (def.filled_value (attr name.now (attrs_behind sheet.now place))) }
 {
     match attribute(sheet, place, name) {
-        Value::At(from, to) => {
-            if trim_end(&sheet[from..to]) == 0 {
-                return Value::Missing;
-            }
-            Value::At(from, to)
-        }
-        Value::Missing => Value::Missing,
+        Some(value) if trim_end(value) != 0 => Some(value),
+        _ => None,
     }
 }
 
-// The first word from `from` to `to`, without commas at its end.
-fn first_word(sheet: &[u8], from: usize, to: usize) -> Value
-    requires { (from ≤ to) × (to ≤ length sheet.now) }
-    ensures { Valued sheet.now result (def.first_source (some (take (to - from) (drop from sheet.now)))) }
+// The first word of a value, without commas at its end.
+fn first_word(value: &[u8]) -> Option<&[u8]>
+    ensures { Valued value.now result (def.first_source (some value.now)) }
 {
-    let start = from + trim_start_matches::<White>(&sheet[from..to]);
-    let end = start + trim_start_matches::<Black>(&sheet[start..to]);
-    let n = trim_end_matches::<Only<b','>>(&sheet[start..end]);
+    let rest = &value[trim_start_matches::<White>(value)..];
+    let word = &rest[..trim_start_matches::<Black>(rest)];
+    let n = trim_end_matches::<Only<b','>>(word);
     if n == 0 {
-        return Value::Missing;
+        return None;
     }
-    Value::At(start, start + n)
+    Some(&word[..n])
 }
 
 // The first source of a `srcset`, if there is one.
-fn first_source(sheet: &[u8], place: usize) -> Value
+fn first_source(sheet: &[u8], place: usize) -> Option<&[u8]>
     requires { place + 3 ≤ length sheet.now }
     ensures { Valued sheet.now result (def.first_source (attr (ascii "srcset") (attrs_behind sheet.now place))) }
 {
     match attribute(sheet, place, b"srcset") {
-        Value::At(from, to) => first_word(sheet, from, to),
-        Value::Missing => Value::Missing,
+        Some(srcset) => first_word(srcset),
+        None => None,
     }
 }
 
 // The source of an image without a `src`.
-fn other_source(sheet: &[u8], place: usize) -> Value
+#[tactic(auto, unfolding(spec::specs::Bytes::or_else))]
+fn other_source(sheet: &[u8], place: usize) -> Option<&[u8]>
     requires { place + 3 ≤ length sheet.now }
     ensures { Valued sheet.now result (or_else (def.first_source (attr (ascii "srcset") (attrs_behind sheet.now place))) (def.filled_value (attr (ascii "data-src") (attrs_behind sheet.now place)))) }
 {
-    match first_source(sheet, place) {
-        Value::At(from, to) => Value::At(from, to),
-        Value::Missing => filled_value(sheet, place, b"data-src"),
-    }
+    first_source(sheet, place).or_else(|| filled_value(sheet, place, b"data-src"))
 }
 
-fn source(sheet: &[u8], place: usize) -> Value
+#[tactic(auto, unfolding(spec::specs::Bytes::or_else, spec::specs::Md::Elements::Image::source))]
+fn source(sheet: &[u8], place: usize) -> Option<&[u8]>
     requires { place + 3 ≤ length sheet.now }
     ensures { Valued sheet.now result (def.source (attrs_behind sheet.now place)) }
 {
-    match filled_value(sheet, place, b"src") {
-        Value::At(from, to) => Value::At(from, to),
-        Value::Missing => other_source(sheet, place),
-    }
+    filled_value(sheet, place, b"src").or_else(|| other_source(sheet, place))
 }
 
 // Appends the alternative text, if there is one.
@@ -87,26 +77,19 @@ fn push_alt(text: &mut [u8], len: usize, sheet: &[u8], place: usize) -> Wrote
 {
     let opts = FormatOpts::new();
     match attribute(sheet, place, b"alt") {
-        Value::At(from, to) => push_normalized_text(text, len, &sheet[from..to], opts),
-        Value::Missing => Ok(len),
+        Some(alt) => push_normalized_text(text, len, alt, opts),
+        None => Ok(len),
     }
 }
 
-// Appends an image whose source stands from `from` to `to` in the sheet.
-fn push_image(
-    text: &mut [u8],
-    len: usize,
-    sheet: &[u8],
-    place: usize,
-    from: usize,
-    to: usize,
-) -> Wrote
-    requires { (len ≤ length text.old) × (place + 3 ≤ length sheet.now) × (from ≤ to) × (to ≤ length sheet.now) × (length sheet.now ≤ 1048576) }
-    ensures { Writes (length text.old) text.new result (def.image_of (attrs_behind sheet.now place) (take (to - from) (drop from sheet.now)) (take len text.old)) }
+// Appends an image with this source.
+fn push_image(text: &mut [u8], len: usize, sheet: &[u8], place: usize, source: &[u8]) -> Wrote
+    requires { (len ≤ length text.old) × (place + 3 ≤ length sheet.now) × (length source.now ≤ 1048576) }
+    ensures { Writes (length text.old) text.new result (def.image_of (attrs_behind sheet.now place) source.now (take len text.old)) }
 {
     let n = push_all(text, len, b"![")?;
     let m = push_alt(text, n, sheet, place)?;
-    push_link_end(text, m, sheet, place, from, to)
+    push_link_end(text, m, sheet, place, source)
 }
 
 pub fn write_img(text: &mut [u8], len: usize, sheet: &[u8], place: usize) -> Wrote
@@ -114,7 +97,7 @@ pub fn write_img(text: &mut [u8], len: usize, sheet: &[u8], place: usize) -> Wro
     ensures { Writes (length text.old) text.new result (def.write_img (attrs_behind sheet.now place) (take len text.old)) }
 {
     match source(sheet, place) {
-        Value::At(from, to) => push_image(text, len, sheet, place, from, to),
-        Value::Missing => Ok(len),
+        Some(source) => push_image(text, len, sheet, place, source),
+        None => Ok(len),
     }
 }

@@ -1,5 +1,5 @@
 // The leaves of elements/link.rs. The element opens at `place` of the sheet.
-ghost use Rattle.std.specs.Prelude.{◌+◌, ◌-◌, ◌≤◌, length, take, drop};
+ghost use Rattle.std.specs.Prelude.{◌+◌, ◌≤◌, length, take};
 ghost use Rattle.spec.specs.Bytes.{ascii};
 ghost use Rattle.spec.specs.Tree.{attr};
 ghost use Rattle.spec.specs.Out.{push, and_then};
@@ -12,7 +12,7 @@ ghost use Rattle.text.specs.Writes.{Writes};
 use crate::title::push_title;
 use crate::url::push_md_url;
 use text::buffer::{Wrote, push_all, push_byte};
-use tree::attributes::{Value, attribute};
+use tree::attributes::attribute;
 
 // Appends the title, if there is one.
 fn push_title_of(text: &mut [u8], len: usize, sheet: &[u8], place: usize) -> Wrote
@@ -20,33 +20,26 @@ fn push_title_of(text: &mut [u8], len: usize, sheet: &[u8], place: usize) -> Wro
     ensures { Writes (length text.old) text.new result (if_some (attr (ascii "title") (attrs_behind sheet.now place)) push_title (take len text.old)) }
 {
     match attribute(sheet, place, b"title") {
-        Value::At(from, to) => push_title(text, len, &sheet[from..to]),
-        Value::Missing => Ok(len),
+        Some(title) => push_title(text, len, title),
+        None => Ok(len),
     }
 }
 
-// Appends the destination, which stands from `from` to `to` in the sheet.
-fn push_dest(text: &mut [u8], len: usize, sheet: &[u8], from: usize, to: usize) -> Wrote
-    requires { (len ≤ length text.old) × (from ≤ to) × (to ≤ length sheet.now) × (length sheet.now ≤ 1048576) }
-    ensures { Writes (length text.old) text.new result (and_then (push (ascii "](") (take len text.old)) (push_md_url (take (to - from) (drop from sheet.now)))) }
+// Appends the destination.
+fn push_dest(text: &mut [u8], len: usize, dest: &[u8]) -> Wrote
+    requires { (len ≤ length text.old) × (length dest.now ≤ 1048576) }
+    ensures { Writes (length text.old) text.new result (and_then (push (ascii "](") (take len text.old)) (push_md_url dest.now)) }
 {
     let n = push_all(text, len, b"](")?;
-    push_md_url(text, n, &sheet[from..to])
+    push_md_url(text, n, dest)
 }
 
 // Appends what follows the text of a link or an image.
-pub fn push_link_end(
-    text: &mut [u8],
-    len: usize,
-    sheet: &[u8],
-    place: usize,
-    from: usize,
-    to: usize,
-) -> Wrote
-    requires { (len ≤ length text.old) × (place + 3 ≤ length sheet.now) × (from ≤ to) × (to ≤ length sheet.now) × (length sheet.now ≤ 1048576) }
-    ensures { Writes (length text.old) text.new result (def.link_end (attrs_behind sheet.now place) (take (to - from) (drop from sheet.now)) (take len text.old)) }
+pub fn push_link_end(text: &mut [u8], len: usize, sheet: &[u8], place: usize, dest: &[u8]) -> Wrote
+    requires { (len ≤ length text.old) × (place + 3 ≤ length sheet.now) × (length dest.now ≤ 1048576) }
+    ensures { Writes (length text.old) text.new result (def.link_end (attrs_behind sheet.now place) dest.now (take len text.old)) }
 {
-    let n = push_dest(text, len, sheet, from, to)?;
+    let n = push_dest(text, len, dest)?;
     let m = push_title_of(text, n, sheet, place)?;
-    push_byte(text, m, 41)
+    push_byte(text, m, b')')
 }

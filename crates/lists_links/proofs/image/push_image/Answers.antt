@@ -20,24 +20,24 @@ push_all-requires c =
 pub push_alt-requires : goal.push_alt-requires
 unfolding image_of
 push_alt-requires c =
-    ((owes_step (owes_all c.args.text.now c.args.len (image_of (attrs_behind c.args.sheet.now c.args.place) (take (c.args.to - c.args.from) (drop c.args.from c.args.sheet.now))) c.requires.0 refl) (push (ascii "![")) (λ (t : List ℕ). and_then ((if_some (attr (ascii "alt") (attrs_behind c.args.sheet.now c.args.place)) (λ (alt : List ℕ). push_normalized_text alt new)) t) (λ (t : List ℕ). and_then (push (ascii "](") t) (λ (u : List ℕ). and_then (push_md_url (take (c.args.to - c.args.from) (drop c.args.from c.args.sheet.now)) u) (λ (t : List ℕ). and_then (if_some (attr (ascii "title") (attrs_behind c.args.sheet.now c.args.place)) push_title t) (push (ascii ")")))))) refl c.in_ok-n.was c.push_all.ensures).reach, c.requires.1)
+    ((owes_step (owes_all c.args.text.now c.args.len (image_of (attrs_behind c.args.sheet.now c.args.place) c.args.source.now) c.requires.0 refl) (push (ascii "![")) (λ (t : List ℕ). and_then ((if_some (attr (ascii "alt") (attrs_behind c.args.sheet.now c.args.place)) (λ (alt : List ℕ). push_normalized_text alt new)) t) (λ (t : List ℕ). and_then (push (ascii "](") t) (λ (u : List ℕ). and_then (push_md_url c.args.source.now u) (λ (t : List ℕ). and_then (if_some (attr (ascii "title") (attrs_behind c.args.sheet.now c.args.place)) push_title t) (push (ascii ")")))))) refl c.in_ok-n.was c.push_all.ensures).reach, c.requires.1)
 
 pub push_link_end-requires : goal.push_link_end-requires
 unfolding image_of
 push_link_end-requires c =
-    ((owes_step (owes_step (owes_all c.args.text.now c.args.len (image_of (attrs_behind c.args.sheet.now c.args.place) (take (c.args.to - c.args.from) (drop c.args.from c.args.sheet.now))) c.requires.0 refl) (push (ascii "![")) (λ (t : List ℕ). and_then ((if_some (attr (ascii "alt") (attrs_behind c.args.sheet.now c.args.place)) (λ (alt : List ℕ). push_normalized_text alt new)) t) (λ (t : List ℕ). and_then (push (ascii "](") t) (λ (u : List ℕ). and_then (push_md_url (take (c.args.to - c.args.from) (drop c.args.from c.args.sheet.now)) u) (λ (t : List ℕ). and_then (if_some (attr (ascii "title") (attrs_behind c.args.sheet.now c.args.place)) push_title t) (push (ascii ")")))))) refl c.in_ok-n.was c.push_all.ensures) (if_some (attr (ascii "alt") (attrs_behind c.args.sheet.now c.args.place)) (λ (alt : List ℕ). push_normalized_text alt new)) (λ (t : List ℕ). and_then (push (ascii "](") t) (λ (u : List ℕ). and_then (push_md_url (take (c.args.to - c.args.from) (drop c.args.from c.args.sheet.now)) u) (λ (t : List ℕ). and_then (if_some (attr (ascii "title") (attrs_behind c.args.sheet.now c.args.place)) push_title t) (push (ascii ")"))))) refl c.in_ok-m.was c.push_alt.ensures).reach, c.requires.1, c.requires.2, c.requires.3, c.requires.4)
+    ((owes_step (owes_step (owes_all c.args.text.now c.args.len (image_of (attrs_behind c.args.sheet.now c.args.place) c.args.source.now) c.requires.0 refl) (push (ascii "![")) (λ (t : List ℕ). and_then ((if_some (attr (ascii "alt") (attrs_behind c.args.sheet.now c.args.place)) (λ (alt : List ℕ). push_normalized_text alt new)) t) (λ (t : List ℕ). and_then (push (ascii "](") t) (λ (u : List ℕ). and_then (push_md_url c.args.source.now u) (λ (t : List ℕ). and_then (if_some (attr (ascii "title") (attrs_behind c.args.sheet.now c.args.place)) push_title t) (push (ascii ")")))))) refl c.in_ok-n.was c.push_all.ensures) (if_some (attr (ascii "alt") (attrs_behind c.args.sheet.now c.args.place)) (λ (alt : List ℕ). push_normalized_text alt new)) (λ (t : List ℕ). and_then (push (ascii "](") t) (λ (u : List ℕ). and_then (push_md_url c.args.source.now u) (λ (t : List ℕ). and_then (if_some (attr (ascii "title") (attrs_behind c.args.sheet.now c.args.place)) push_title t) (push (ascii ")"))))) refl c.in_ok-m.was c.push_alt.ensures).reach, c.requires.1, c.requires.2)
 
 pub returns : goal.returns
 unfolding image_of link_end
 returns c =
-    owes_last (owes_step (owes_step (owes_all c.args.text.now c.args.len (image_of (attrs_behind c.args.sheet.now c.args.place) (take (c.args.to - c.args.from) (drop c.args.from c.args.sheet.now))) c.requires.0 refl) (push (ascii "![")) (λ (t : List ℕ). and_then ((if_some (attr (ascii "alt") (attrs_behind c.args.sheet.now c.args.place)) (λ (alt : List ℕ). push_normalized_text alt new)) t) (λ (t : List ℕ). and_then (push (ascii "](") t) (λ (u : List ℕ). and_then (push_md_url (take (c.args.to - c.args.from) (drop c.args.from c.args.sheet.now)) u) (λ (t : List ℕ). and_then (if_some (attr (ascii "title") (attrs_behind c.args.sheet.now c.args.place)) push_title t) (push (ascii ")")))))) refl c.in_ok-n.was c.push_all.ensures) (if_some (attr (ascii "alt") (attrs_behind c.args.sheet.now c.args.place)) (λ (alt : List ℕ). push_normalized_text alt new)) (λ (t : List ℕ). and_then (push (ascii "](") t) (λ (u : List ℕ). and_then (push_md_url (take (c.args.to - c.args.from) (drop c.args.from c.args.sheet.now)) u) (λ (t : List ℕ). and_then (if_some (attr (ascii "title") (attrs_behind c.args.sheet.now c.args.place)) push_title t) (push (ascii ")"))))) refl c.in_ok-m.was c.push_alt.ensures) (alike (sym (then_assoc (push (ascii "](") (take c.in_ok-m.m c.push_alt.new.text)) (push_md_url (take (c.args.to - c.args.from) (drop c.args.from c.args.sheet.now))) (λ (t : List ℕ). and_then (if_some (attr (ascii "title") (attrs_behind c.args.sheet.now c.args.place)) push_title t) (push (ascii ")"))))) c.push_link_end.ensures)
+    owes_last (owes_step (owes_step (owes_all c.args.text.now c.args.len (image_of (attrs_behind c.args.sheet.now c.args.place) c.args.source.now) c.requires.0 refl) (push (ascii "![")) (λ (t : List ℕ). and_then ((if_some (attr (ascii "alt") (attrs_behind c.args.sheet.now c.args.place)) (λ (alt : List ℕ). push_normalized_text alt new)) t) (λ (t : List ℕ). and_then (push (ascii "](") t) (λ (u : List ℕ). and_then (push_md_url c.args.source.now u) (λ (t : List ℕ). and_then (if_some (attr (ascii "title") (attrs_behind c.args.sheet.now c.args.place)) push_title t) (push (ascii ")")))))) refl c.in_ok-n.was c.push_all.ensures) (if_some (attr (ascii "alt") (attrs_behind c.args.sheet.now c.args.place)) (λ (alt : List ℕ). push_normalized_text alt new)) (λ (t : List ℕ). and_then (push (ascii "](") t) (λ (u : List ℕ). and_then (push_md_url c.args.source.now u) (λ (t : List ℕ). and_then (if_some (attr (ascii "title") (attrs_behind c.args.sheet.now c.args.place)) push_title t) (push (ascii ")"))))) refl c.in_ok-m.was c.push_alt.ensures) (alike (sym (then_assoc (push (ascii "](") (take c.in_ok-m.m c.push_alt.new.text)) (push_md_url c.args.source.now) (λ (t : List ℕ). and_then (if_some (attr (ascii "title") (attrs_behind c.args.sheet.now c.args.place)) push_title t) (push (ascii ")"))))) c.push_link_end.ensures)
 
 pub returns-in_err-m : goal.returns-in_err-m
 unfolding image_of
 returns-in_err-m c =
-    stops c.from_residual-in_err-m.ensures.0 (owes_stop (owes_step (owes_all c.args.text.now c.args.len (image_of (attrs_behind c.args.sheet.now c.args.place) (take (c.args.to - c.args.from) (drop c.args.from c.args.sheet.now))) c.requires.0 refl) (push (ascii "![")) (λ (t : List ℕ). and_then ((if_some (attr (ascii "alt") (attrs_behind c.args.sheet.now c.args.place)) (λ (alt : List ℕ). push_normalized_text alt new)) t) (λ (t : List ℕ). and_then (push (ascii "](") t) (λ (u : List ℕ). and_then (push_md_url (take (c.args.to - c.args.from) (drop c.args.from c.args.sheet.now)) u) (λ (t : List ℕ). and_then (if_some (attr (ascii "title") (attrs_behind c.args.sheet.now c.args.place)) push_title t) (push (ascii ")")))))) refl c.in_ok-n.was c.push_all.ensures) (if_some (attr (ascii "alt") (attrs_behind c.args.sheet.now c.args.place)) (λ (alt : List ℕ). push_normalized_text alt new)) (λ (t : List ℕ). and_then (push (ascii "](") t) (λ (u : List ℕ). and_then (push_md_url (take (c.args.to - c.args.from) (drop c.args.from c.args.sheet.now)) u) (λ (t : List ℕ). and_then (if_some (attr (ascii "title") (attrs_behind c.args.sheet.now c.args.place)) push_title t) (push (ascii ")"))))) refl c.in_err-m.was c.push_alt.ensures)
+    stops c.from_residual-in_err-m.ensures.0 (owes_stop (owes_step (owes_all c.args.text.now c.args.len (image_of (attrs_behind c.args.sheet.now c.args.place) c.args.source.now) c.requires.0 refl) (push (ascii "![")) (λ (t : List ℕ). and_then ((if_some (attr (ascii "alt") (attrs_behind c.args.sheet.now c.args.place)) (λ (alt : List ℕ). push_normalized_text alt new)) t) (λ (t : List ℕ). and_then (push (ascii "](") t) (λ (u : List ℕ). and_then (push_md_url c.args.source.now u) (λ (t : List ℕ). and_then (if_some (attr (ascii "title") (attrs_behind c.args.sheet.now c.args.place)) push_title t) (push (ascii ")")))))) refl c.in_ok-n.was c.push_all.ensures) (if_some (attr (ascii "alt") (attrs_behind c.args.sheet.now c.args.place)) (λ (alt : List ℕ). push_normalized_text alt new)) (λ (t : List ℕ). and_then (push (ascii "](") t) (λ (u : List ℕ). and_then (push_md_url c.args.source.now u) (λ (t : List ℕ). and_then (if_some (attr (ascii "title") (attrs_behind c.args.sheet.now c.args.place)) push_title t) (push (ascii ")"))))) refl c.in_err-m.was c.push_alt.ensures)
 
 pub returns-in_err-n : goal.returns-in_err-n
 unfolding image_of
 returns-in_err-n c =
-    stops c.from_residual.ensures.0 (owes_stop (owes_all c.args.text.now c.args.len (image_of (attrs_behind c.args.sheet.now c.args.place) (take (c.args.to - c.args.from) (drop c.args.from c.args.sheet.now))) c.requires.0 refl) (push (ascii "![")) (λ (t : List ℕ). and_then ((if_some (attr (ascii "alt") (attrs_behind c.args.sheet.now c.args.place)) (λ (alt : List ℕ). push_normalized_text alt new)) t) (λ (t : List ℕ). and_then (push (ascii "](") t) (λ (u : List ℕ). and_then (push_md_url (take (c.args.to - c.args.from) (drop c.args.from c.args.sheet.now)) u) (λ (t : List ℕ). and_then (if_some (attr (ascii "title") (attrs_behind c.args.sheet.now c.args.place)) push_title t) (push (ascii ")")))))) refl c.in_err-n.was c.push_all.ensures)
+    stops c.from_residual.ensures.0 (owes_stop (owes_all c.args.text.now c.args.len (image_of (attrs_behind c.args.sheet.now c.args.place) c.args.source.now) c.requires.0 refl) (push (ascii "![")) (λ (t : List ℕ). and_then ((if_some (attr (ascii "alt") (attrs_behind c.args.sheet.now c.args.place)) (λ (alt : List ℕ). push_normalized_text alt new)) t) (λ (t : List ℕ). and_then (push (ascii "](") t) (λ (u : List ℕ). and_then (push_md_url c.args.source.now u) (λ (t : List ℕ). and_then (if_some (attr (ascii "title") (attrs_behind c.args.sheet.now c.args.place)) push_title t) (push (ascii ")")))))) refl c.in_err-n.was c.push_all.ensures)

@@ -13,26 +13,14 @@ pub push_all-requires : goal.push_all-requires
 push_all-requires c =
     c.requires.0
 
-pub slice_bounds-push_md_url-count : goal.slice_bounds-push_md_url-count
-slice_bounds-push_md_url-count c =
-    omega (arith, c.requires.1, c.requires.2)
-
-pub slice_bounds-push_md_url-start : goal.slice_bounds-push_md_url-start
-slice_bounds-push_md_url-start c =
-    omega (arith, c.requires.1, c.requires.2)
-
-pub slice_bounds-push_md_url-end : goal.slice_bounds-push_md_url-end
-slice_bounds-push_md_url-end c =
-    omega (arith, c.requires.1, c.requires.2)
-
 pub push_md_url-requires : goal.push_md_url-requires
 push_md_url-requires c =
-    ((owes_step (owes_all c.args.text.now c.args.len (λ (t : List ℕ). and_then (push (ascii "](") t) (push_md_url (take (c.args.to - c.args.from) (drop c.args.from c.args.sheet.now)))) c.requires.0 refl) (push (ascii "](")) (push_md_url (take (c.args.to - c.args.from) (drop c.args.from c.args.sheet.now))) refl c.in_ok-n.was c.push_all.ensures).reach, omega (arith, length-take (c.args.to - c.args.from) (drop c.args.from c.args.sheet.now), c.requires.1, c.requires.2, c.requires.3))
+    ((owes_step (owes_all c.args.text.now c.args.len (λ (t : List ℕ). and_then (push (ascii "](") t) (push_md_url c.args.dest.now)) c.requires.0 refl) (push (ascii "](")) (push_md_url c.args.dest.now) refl c.in_ok-n.was c.push_all.ensures).reach, c.requires.1)
 
 pub returns : goal.returns
 returns c =
-    owes_last (owes_step (owes_all c.args.text.now c.args.len (λ (t : List ℕ). and_then (push (ascii "](") t) (push_md_url (take (c.args.to - c.args.from) (drop c.args.from c.args.sheet.now)))) c.requires.0 refl) (push (ascii "](")) (push_md_url (take (c.args.to - c.args.from) (drop c.args.from c.args.sheet.now))) refl c.in_ok-n.was c.push_all.ensures) c.push_md_url.ensures
+    owes_last (owes_step (owes_all c.args.text.now c.args.len (λ (t : List ℕ). and_then (push (ascii "](") t) (push_md_url c.args.dest.now)) c.requires.0 refl) (push (ascii "](")) (push_md_url c.args.dest.now) refl c.in_ok-n.was c.push_all.ensures) c.push_md_url.ensures
 
 pub returns-in_err-n : goal.returns-in_err-n
 returns-in_err-n c =
-    stops c.from_residual.ensures.0 (owes_stop (owes_all c.args.text.now c.args.len (λ (t : List ℕ). and_then (push (ascii "](") t) (push_md_url (take (c.args.to - c.args.from) (drop c.args.from c.args.sheet.now)))) c.requires.0 refl) (push (ascii "](")) (push_md_url (take (c.args.to - c.args.from) (drop c.args.from c.args.sheet.now))) refl c.in_err-n.was c.push_all.ensures)
+    stops c.from_residual.ensures.0 (owes_stop (owes_all c.args.text.now c.args.len (λ (t : List ℕ). and_then (push (ascii "](") t) (push_md_url c.args.dest.now)) c.requires.0 refl) (push (ascii "](")) (push_md_url c.args.dest.now) refl c.in_err-n.was c.push_all.ensures)

@@ -14,29 +14,29 @@ use Rattle.lists_links.proofs.link.push_link_end.Goals as goal
 
 pub push_dest-requires : goal.push_dest-requires
 push_dest-requires c =
-    (c.requires.0, c.requires.2, c.requires.3, c.requires.4)
+    (c.requires.0, c.requires.2)
 
 pub push_title_of-requires : goal.push_title_of-requires
 unfolding link_end
 push_title_of-requires c =
-    ((owes_step (owes_all c.args.text.now c.args.len (link_end (attrs_behind c.args.sheet.now c.args.place) (take (c.args.to - c.args.from) (drop c.args.from c.args.sheet.now))) c.requires.0 refl) (λ (t : List ℕ). and_then (push (ascii "](") t) (push_md_url (take (c.args.to - c.args.from) (drop c.args.from c.args.sheet.now)))) (λ (t : List ℕ). and_then ((if_some (attr (ascii "title") (attrs_behind c.args.sheet.now c.args.place)) push_title) t) (push (ascii ")"))) refl c.in_ok-n.was c.push_dest.ensures).reach, c.requires.1)
+    ((owes_step (owes_all c.args.text.now c.args.len (link_end (attrs_behind c.args.sheet.now c.args.place) c.args.dest.now) c.requires.0 refl) (λ (t : List ℕ). and_then (push (ascii "](") t) (push_md_url c.args.dest.now)) (λ (t : List ℕ). and_then ((if_some (attr (ascii "title") (attrs_behind c.args.sheet.now c.args.place)) push_title) t) (push (ascii ")"))) refl c.in_ok-n.was c.push_dest.ensures).reach, c.requires.1)
 
 pub push_byte-requires : goal.push_byte-requires
 unfolding link_end
 push_byte-requires c =
-    (owes_step (owes_step (owes_all c.args.text.now c.args.len (link_end (attrs_behind c.args.sheet.now c.args.place) (take (c.args.to - c.args.from) (drop c.args.from c.args.sheet.now))) c.requires.0 refl) (λ (t : List ℕ). and_then (push (ascii "](") t) (push_md_url (take (c.args.to - c.args.from) (drop c.args.from c.args.sheet.now)))) (λ (t : List ℕ). and_then ((if_some (attr (ascii "title") (attrs_behind c.args.sheet.now c.args.place)) push_title) t) (push (ascii ")"))) refl c.in_ok-n.was c.push_dest.ensures) (if_some (attr (ascii "title") (attrs_behind c.args.sheet.now c.args.place)) push_title) (push (ascii ")")) refl c.in_ok-m.was c.push_title_of.ensures).reach
+    (owes_step (owes_step (owes_all c.args.text.now c.args.len (link_end (attrs_behind c.args.sheet.now c.args.place) c.args.dest.now) c.requires.0 refl) (λ (t : List ℕ). and_then (push (ascii "](") t) (push_md_url c.args.dest.now)) (λ (t : List ℕ). and_then ((if_some (attr (ascii "title") (attrs_behind c.args.sheet.now c.args.place)) push_title) t) (push (ascii ")"))) refl c.in_ok-n.was c.push_dest.ensures) (if_some (attr (ascii "title") (attrs_behind c.args.sheet.now c.args.place)) push_title) (push (ascii ")")) refl c.in_ok-m.was c.push_title_of.ensures).reach
 
 pub returns : goal.returns
 unfolding link_end
 returns c =
-    owes_last (owes_step (owes_step (owes_all c.args.text.now c.args.len (link_end (attrs_behind c.args.sheet.now c.args.place) (take (c.args.to - c.args.from) (drop c.args.from c.args.sheet.now))) c.requires.0 refl) (λ (t : List ℕ). and_then (push (ascii "](") t) (push_md_url (take (c.args.to - c.args.from) (drop c.args.from c.args.sheet.now)))) (λ (t : List ℕ). and_then ((if_some (attr (ascii "title") (attrs_behind c.args.sheet.now c.args.place)) push_title) t) (push (ascii ")"))) refl c.in_ok-n.was c.push_dest.ensures) (if_some (attr (ascii "title") (attrs_behind c.args.sheet.now c.args.place)) push_title) (push (ascii ")")) refl c.in_ok-m.was c.push_title_of.ensures) c.push_byte.ensures
+    owes_last (owes_step (owes_step (owes_all c.args.text.now c.args.len (link_end (attrs_behind c.args.sheet.now c.args.place) c.args.dest.now) c.requires.0 refl) (λ (t : List ℕ). and_then (push (ascii "](") t) (push_md_url c.args.dest.now)) (λ (t : List ℕ). and_then ((if_some (attr (ascii "title") (attrs_behind c.args.sheet.now c.args.place)) push_title) t) (push (ascii ")"))) refl c.in_ok-n.was c.push_dest.ensures) (if_some (attr (ascii "title") (attrs_behind c.args.sheet.now c.args.place)) push_title) (push (ascii ")")) refl c.in_ok-m.was c.push_title_of.ensures) c.push_byte.ensures
 
 pub returns-in_err-m : goal.returns-in_err-m
 unfolding link_end
 returns-in_err-m c =
-    stops c.from_residual-in_err-m.ensures.0 (owes_stop (owes_step (owes_all c.args.text.now c.args.len (link_end (attrs_behind c.args.sheet.now c.args.place) (take (c.args.to - c.args.from) (drop c.args.from c.args.sheet.now))) c.requires.0 refl) (λ (t : List ℕ). and_then (push (ascii "](") t) (push_md_url (take (c.args.to - c.args.from) (drop c.args.from c.args.sheet.now)))) (λ (t : List ℕ). and_then ((if_some (attr (ascii "title") (attrs_behind c.args.sheet.now c.args.place)) push_title) t) (push (ascii ")"))) refl c.in_ok-n.was c.push_dest.ensures) (if_some (attr (ascii "title") (attrs_behind c.args.sheet.now c.args.place)) push_title) (push (ascii ")")) refl c.in_err-m.was c.push_title_of.ensures)
+    stops c.from_residual-in_err-m.ensures.0 (owes_stop (owes_step (owes_all c.args.text.now c.args.len (link_end (attrs_behind c.args.sheet.now c.args.place) c.args.dest.now) c.requires.0 refl) (λ (t : List ℕ). and_then (push (ascii "](") t) (push_md_url c.args.dest.now)) (λ (t : List ℕ). and_then ((if_some (attr (ascii "title") (attrs_behind c.args.sheet.now c.args.place)) push_title) t) (push (ascii ")"))) refl c.in_ok-n.was c.push_dest.ensures) (if_some (attr (ascii "title") (attrs_behind c.args.sheet.now c.args.place)) push_title) (push (ascii ")")) refl c.in_err-m.was c.push_title_of.ensures)
 
 pub returns-in_err-n : goal.returns-in_err-n
 unfolding link_end
 returns-in_err-n c =
-    stops c.from_residual.ensures.0 (owes_stop (owes_all c.args.text.now c.args.len (link_end (attrs_behind c.args.sheet.now c.args.place) (take (c.args.to - c.args.from) (drop c.args.from c.args.sheet.now))) c.requires.0 refl) (λ (t : List ℕ). and_then (push (ascii "](") t) (push_md_url (take (c.args.to - c.args.from) (drop c.args.from c.args.sheet.now)))) (λ (t : List ℕ). and_then ((if_some (attr (ascii "title") (attrs_behind c.args.sheet.now c.args.place)) push_title) t) (push (ascii ")"))) refl c.in_err-n.was c.push_dest.ensures)
+    stops c.from_residual.ensures.0 (owes_stop (owes_all c.args.text.now c.args.len (link_end (attrs_behind c.args.sheet.now c.args.place) c.args.dest.now) c.requires.0 refl) (λ (t : List ℕ). and_then (push (ascii "](") t) (push_md_url c.args.dest.now)) (λ (t : List ℕ). and_then ((if_some (attr (ascii "title") (attrs_behind c.args.sheet.now c.args.place)) push_title) t) (push (ascii ")"))) refl c.in_err-n.was c.push_dest.ensures)
