@@ -14,7 +14,7 @@ use Rattle.spec.specs.Md.Elements.Code.{is_tab_or_blank, trim_edges}
 use Rattle.tree.specs.Memory.{place_at}
 use Rattle.tree.specs.Represents.{Rep}
 use Rattle.tree.specs.Nodes.{text_at, PartIs}
-use Rattle.tree.specs.declared.nodes.Part.{Part}
+use Rattle.std.specs.declared.ops.Range.{Range}
 use Rattle.tree.proofs.Ranges.{text_pieces}
 use Rattle.text.specs.Trimmed.{Trimmed, Skipped}
 use Rattle.text.proofs.Reading.{starts_byte, ends_byte, drop_take}
@@ -46,7 +46,7 @@ front_stays p (a ∷ x) y {b} {t} e = go (p a) (front_stays p x y) e
 
 module _ (sh ns : Bytes) (e i : ℕ) where
   -- the field of node i stands at p, its text is the part r of the sheet, and begins with k tabs and blanks
-  module _ (l : i < e) {p : ℕ} (q : p ≡ place_at ns i) {r : Part} (a : PartIs sh r (text_at sh p)) {k : ℕ}
+  module _ (l : i < e) {p : ℕ} (q : p ≡ place_at ns i) {r : Range ℕ} (a : PartIs sh r (text_at sh p)) {k : ℕ}
       (w : Skipped (take (r.end - r.start) (drop r.start sh)) k (trim_start_matches is_tab_or_blank (take (r.end - r.start) (drop r.start sh)))) where
     part_long : length (take (r.end - r.start) (drop r.start sh)) ≡ r.end - r.start
     part_long = length-take-le (r.end - r.start) (drop r.start sh) (omega (arith, length-drop r.start sh, a.inside))

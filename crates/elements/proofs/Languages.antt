@@ -7,7 +7,7 @@ use mathlib.Core.Bool.{Bool, true, false, cond, false≢true}
 use mathlib.Core.List.{List, [], ◌∷◌}
 use mathlib.Core.Option.{Option, none, some, map}
 use lib.ListN.{length, take, drop, get_or}
-use lib.Seq.{slice, length-slice, take-nil, drop-drop}
+use lib.Seq.{slice, take-length, length-slice, take-nil, drop-drop}
 use borrow.Author.Tests.{eq-eqb, ne_eqb}
 use Rattle.spec.specs.Bytes.{Bytes, ascii, white, words, split, parts, filled, null, starts_with, first_word, or_else, or_nothing}
 use Rattle.spec.specs.Names.{tag_of}
@@ -15,27 +15,23 @@ use Rattle.spec.specs.Tree.{Attr, Forest, nothing, text, comment, element, attr}
 use Rattle.spec.specs.Md.MDSerializer.{Ancestors}
 use Rattle.spec.specs.Md.Elements.Code.{filter, sanitize_attr_value, find_code_lang_attribute, nearest_language, language_class, class_language, find_code_language_css_class}
 use Rattle.spec.specs.Md.Elements.List.{name_of}
-use Rattle.tree.specs.Attributes.{Valued, language_attr}
+use Rattle.tree.specs.Attributes.{PartOf, Valued, language_attr}
 use Rattle.tree.specs.Memory.{place_at, parent_at}
 use Rattle.tree.specs.Represents.{Rep, Around, attrs_behind, rest_of}
 use Rattle.tree.specs.Nodes.{name_at}
-use Rattle.tree.specs.declared.attributes.Value.{Value}
-use Rattle.tree.specs.declared.attributes.Value.TheVariants.{At, Missing}
+use Rattle.std.specs.Prelude.{Option as Answer, Some, None}
+use Rattle.std.specs.Borrow.{Bor}
 use Rattle.tree.proofs.Ancestry.{Innermost, innermost, around_in, around_none}
 use Rattle.spec.proofs.Order.{le_or_lt}
 use Rattle.tree.proofs.Kin.{first_name}
-use Rattle.tree.proofs.Values.{language_found}
+use Rattle.tree.proofs.Values.{language_found, part_of_part}
 use Rattle.normalized.specs.Words.{WordAt, WordEnd}
 use Rattle.text.proofs.Reading.{starts_short}
 use Rattle.text.proofs.Sourcing.{part_is, part_none}
 use Rattle.elements.specs.Languages.{Language, Within}
 use Rattle.nodes.specs.Stands.{ElementAt}
 
--- what is known in the arm of a `match` on an answer
-pub language_as : {sh : Bytes} {r z : Value} {o : Option Bytes} → r ≡ z → Language sh r o → Language sh z o
-language_as {sh} {r} {z} {o} e w = subst (λ (x : Value). Language sh x o) e w
-
-pub language_of : {sh : Bytes} {r : Value} {o p : Option Bytes} → o ≡ p → Language sh r p → Language sh r o
+pub language_of : {sh : Bytes} {r : Answer (Bor Bytes)} {o p : Option Bytes} → o ≡ p → Language sh r p → Language sh r o
 language_of {sh} {r} {o} {p} e w = record { inside = w.inside; language_is = e ∙ w.language_is }
 
 -- ---- the elements around
@@ -71,7 +67,7 @@ module _ {sh ns : Bytes} {i at left : ℕ} (p : Up sh ns i at left) where
         let q : left ≡ suc (left - 1) = omega arith in
         ap (λ (x : Ancestors). nearest_language (take left x)) n.anc_is ∙ ap (λ (k : ℕ). nearest_language (take k (attrs_behind sh (place_at ns at) ∷ n.more))) q
 
-    pub up_on : Valued sh Missing (language_attr (attrs_behind sh (place_at ns at))) → Up sh ns i (parent_at ns at) (left - 1)
+    pub up_on : Valued sh None (language_attr (attrs_behind sh (place_at ns at))) → Up sh ns i (parent_at ns at) (left - 1)
     up_on v =
         record {
           here = (up_node.more, up_node.around);
@@ -81,26 +77,26 @@ module _ {sh ns : Bytes} {i at left : ℕ} (p : Up sh ns i at left) where
               (n.more, n.around, q.2 ∙ (here_is q.0 q.1 ∙ or_none _ _ (language_found _ ∙ ap (map sanitize_attr_value) v.value_is)));
         }
 
-    pub up_found : {a b : ℕ} → Valued sh (At a b) (language_attr (attrs_behind sh (place_at ns at))) → (anc : Ancestors) → Around sh ns i anc
-        → Language sh (At a b) (nearest_language (take 4 anc))
+    pub up_found : {x : Bor Bytes} → Valued sh (Some x) (language_attr (attrs_behind sh (place_at ns at))) → (anc : Ancestors) → Around sh ns i anc
+        → Language sh (Some x) (nearest_language (take 4 anc))
     unfolding or_else
-    up_found {a} {b} v anc r =
+    up_found {x} v anc r =
         let q = p.goes anc r in
         let n = innermost sh ns at q.0 q.1 within_some in
         record {
           inside = v.inside;
           language_is = q.2 ∙ (here_is q.0 q.1
-              ∙ ap (λ (x : Option Bytes). or_else x (nearest_language (take (left - 1) n.more))) (language_found _ ∙ ap (map sanitize_attr_value) v.value_is));
+              ∙ ap (λ (o : Option Bytes). or_else o (nearest_language (take (left - 1) n.more))) (language_found _ ∙ ap (map sanitize_attr_value) v.value_is));
         }
 
-  pub up_root : at ≡ 0 → (anc : Ancestors) → Around sh ns i anc → Language sh Missing (nearest_language (take 4 anc))
+  pub up_root : at ≡ 0 → (anc : Ancestors) → Around sh ns i anc → Language sh None (nearest_language (take 4 anc))
   unfolding nearest_language
   up_root e anc a =
       let q = p.goes anc a in
       let z : q.0 ≡ [] = around_none sh ns q.0 (subst (λ (k : ℕ). Around sh ns k q.0) e q.1) in
       record { inside = tt; language_is = q.2 ∙ (ap (λ (x : Ancestors). nearest_language (take left x)) z ∙ ap nearest_language (take-nil left)) }
 
-  pub up_none : left ≤ 0 → (anc : Ancestors) → Around sh ns i anc → Language sh Missing (nearest_language (take 4 anc))
+  pub up_none : left ≤ 0 → (anc : Ancestors) → Around sh ns i anc → Language sh None (nearest_language (take 4 anc))
   unfolding nearest_language
   up_none l anc a =
       let q = p.goes anc a in
@@ -108,6 +104,9 @@ module _ {sh ns : Bytes} {i at left : ℕ} (p : Up sh ns i at left) where
       record { inside = tt; language_is = q.2 ∙ ap (λ (k : ℕ). nearest_language (take k q.0)) z }
 
 -- ---- the words of a class
+
+pub whole : (s : Bytes) → slice 0 (length s) s ≡ s
+whole s = take-length s
 
 -- the words from `at` on are left
 pub record ClassLeft (s : Bytes) (from to at : ℕ) : Type 0 where
@@ -141,26 +140,36 @@ module _ {s : Bytes} {from to at : ℕ} (p : ClassLeft s from to at) where
       pub class_long : at + 9 ≤ e
       class_long = ⊎_elim (λ (l : at + 9 ≤ e). l) (λ (l : e < at + 9). absurd (false≢true (sym (starts_short (slice at e s) (ascii "language-") (omega (arith, length-slice at e s (omega (arith, w.within))))) ∙ (sym (ap (starts_with (ascii "language-")) (part_is at e s)) ∙ (sym q ∙ t))))) (le_or_lt (at + 9) e)
 
-      pub class_found : Language s (At (at + 9) e) (language_class (words (slice from to s)))
-      class_found =
+      pub class_found : (x : Bor Bytes) → x.now ≡ take (e - (at + 9)) (drop (at + 9) s) → Language s (Some x) (language_class (words (slice from to s)))
+      class_found x d =
           record {
-            inside = (class_long, omega (arith, w.within));
+            inside = (at + 9, e, class_long, omega (arith, w.within), d);
             language_is = first_is_lem ∙ (ap (λ (x : Bool). cond x (some (sanitize_attr_value (drop 9 (slice at e s)))) (language_class (words (slice e to s)))) t
-                ∙ ap (λ (x : Bytes). some (sanitize_attr_value x)) (drop-drop 9 at (take e s) ∙ sym (part_is (at + 9) e s)));
+                ∙ ap (λ (x : Bytes). some (sanitize_attr_value x)) (drop-drop 9 at (take e s) ∙ sym (part_is (at + 9) e s) ∙ sym d));
           }
 
-  pub class_none : to ≤ at → Language s Missing (language_class (words (slice from to s)))
+  pub class_none : to ≤ at → Language s None (language_class (words (slice from to s)))
   unfolding language_class words split parts filled null
   class_none l = record { inside = tt; language_is = p.same_language ∙ ap (λ (x : Bytes). language_class (words x)) (part_none at to s l) }
 
 -- ---- the class of an element
 
-module _ {sh : Bytes} {v : Option Bytes} where
-  pub class_value : {a b : ℕ} {r : Value} → Valued sh (At a b) v → Language sh r (language_class (words (slice a b sh))) → Language sh r (class_language v)
-  unfolding class_language
-  class_value {a} {b} w = language_of (ap class_language w.value_is ∙ ap (λ (x : Bytes). language_class (words x)) (part_is a b sh))
+-- a part of a value is a part of the sheet
+language_within : {sh x : Bytes} {r : Answer (Bor Bytes)} {o : Option Bytes} → PartOf sh x → Language x r o → Language sh r o
+language_within {sh} {x} {r} {o} p w = go r w
+  where
+    go : (r : Answer (Bor Bytes)) → Language x r o → Language sh r o
+    go None w = record { inside = tt; language_is = w.language_is }
+    go (Some y) w =
+        let (a, b, o, i, e) = w.inside in
+        record { inside = subst (λ (z : Bytes). PartOf sh z) (sym e) (part_of_part sh x a b p o i); language_is = w.language_is }
 
-  pub class_missing : Valued sh Missing v → Language sh Missing (class_language v)
+module _ {sh : Bytes} {v : Option Bytes} where
+  pub class_value : {x : Bor Bytes} {r : Answer (Bor Bytes)} → Valued sh (Some x) v → Language x.now r (language_class (words x.now)) → Language sh r (class_language v)
+  unfolding class_language
+  class_value w u = language_of (ap class_language w.value_is) (language_within w.inside u)
+
+  pub class_missing : Valued sh None v → Language sh None (class_language v)
   unfolding class_language
   class_missing w = record { inside = tt; language_is = ap class_language w.value_is }
 
@@ -193,17 +202,17 @@ pub around_it : {sh ns : Bytes} {i : ℕ} {name : Bytes} {attrs : List Attr} {ki
 around_it {sh} {ns} {i} {name} {attrs} {kids} anc x a = around_in sh ns i attrs anc x.positive x.inside x.field.head x.attrs_are a
 
 module _ {sh : Bytes} {o : Option Bytes} where
-  pub language_first : {a b : ℕ} (y : Option Bytes) → Language sh (At a b) o → Language sh (At a b) (or_else o y)
+  pub language_first : {x : Bor Bytes} (y : Option Bytes) → Language sh (Some x) o → Language sh (Some x) (or_else o y)
   unfolding or_else
-  language_first y w = record { inside = w.inside; language_is = ap (λ (x : Option Bytes). or_else x y) w.language_is }
+  language_first y w = record { inside = w.inside; language_is = ap (λ (z : Option Bytes). or_else z y) w.language_is }
 
-  pub language_second : {r : Value} {y : Option Bytes} → Language sh Missing o → Language sh r y → Language sh r (or_else o y)
+  pub language_second : {r : Answer (Bor Bytes)} {y : Option Bytes} → Language sh None o → Language sh r y → Language sh r (or_else o y)
   language_second {r} {y} w u = language_of (or_none o y w.language_is) u
 
-  pub language_some : {a b : ℕ} → Language sh (At a b) o → or_nothing o ≡ sanitize_attr_value (take (b - a) (drop a sh))
+  pub language_some : {x : Bor Bytes} → Language sh (Some x) o → or_nothing o ≡ sanitize_attr_value x.now
   unfolding or_nothing
   language_some w = ap or_nothing w.language_is
 
-  pub language_none : Language sh Missing o → or_nothing o ≡ sanitize_attr_value []
+  pub language_none : Language sh None o → or_nothing o ≡ sanitize_attr_value []
   unfolding or_nothing sanitize_attr_value words split parts filled null first_word filter
   language_none w = ap or_nothing w.language_is

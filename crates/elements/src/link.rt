@@ -1,5 +1,5 @@
 // elements/link.rs: what follows once a link's text stands behind the text.
-ghost use Rattle.std.specs.Prelude.{◌+◌, ◌-◌, ◌≤◌, length, take, drop};
+ghost use Rattle.std.specs.Prelude.{◌+◌, ◌≤◌, length, take, drop};
 ghost use Rattle.tree.specs.Represents.{attrs_behind};
 ghost use Rattle.text.specs.Writes.{Writes};
 ghost use Rattle.spec.specs.Out.{beside};
@@ -58,19 +58,18 @@ fn push_shown(
     base: usize,
     len: usize,
     place: usize,
-    from: usize,
-    to: usize,
+    dest: &[u8],
     plain: bool,
     opts: FormatOpts,
 ) -> Wrote
-    requires { ((len ≤ base) × (base ≤ length text.old)) × ((place + 3 ≤ length sheet.now) × (from ≤ to) × (to ≤ length sheet.now) × (length sheet.now ≤ 1048576)) }
-    ensures { Writes (length text.old) text.new result (link_shown (attrs_behind sheet.now place) (take (to - from) (drop from sheet.now)) (drop base text.old) (append_by plain opts) (take len text.old)) }
+    requires { ((len ≤ base) × (base ≤ length text.old)) × ((place + 3 ≤ length sheet.now) × (length dest.now ≤ 1048576)) }
+    ensures { Writes (length text.old) text.new result (link_shown (attrs_behind sheet.now place) dest.now (drop base text.old) (append_by plain opts) (take len text.old)) }
 {
     let m = push_link_text(text, base, len, plain, opts)?;
-    push_link_end(text, m, sheet, place, from, to)
+    push_link_end(text, m, sheet, place, dest)
 }
 
-// The link, from its text, the n bytes behind the text; the destination stands from `from` to `to` in the sheet.
+// The link, from its text, the n bytes behind the text.
 // `plain`: the words of the link's text are appended, escaped.
 pub fn push_link(
     sheet: &[u8],
@@ -78,20 +77,19 @@ pub fn push_link(
     len: usize,
     n: usize,
     place: usize,
-    from: usize,
-    to: usize,
+    dest: &[u8],
     plain: bool,
     opts: FormatOpts,
 ) -> Wrote
-    requires { (len + n ≤ length text.old) × (place + 3 ≤ length sheet.now) × (from ≤ to) × (to ≤ length sheet.now) × (length sheet.now ≤ 1048576) }
-    ensures { Writes (length text.old) text.new result (link_step (attrs_behind sheet.now place) (take (to - from) (drop from sheet.now)) (take n (drop len text.old)) (append_by plain opts) (take len text.old)) }
+    requires { (len + n ≤ length text.old) × (place + 3 ≤ length sheet.now) × (length dest.now ≤ 1048576) }
+    ensures { Writes (length text.old) text.new result (link_step (attrs_behind sheet.now place) dest.now (take n (drop len text.old)) (append_by plain opts) (take len text.old)) }
 {
     if n == 0 {
         return Ok(len);
     }
     let base = text.len() - n;
     lift(text, len, n, base);
-    push_shown(sheet, text, base, len, place, from, to, plain, opts)
+    push_shown(sheet, text, base, len, place, dest, plain, opts)
 }
 
 // A link that shows only white bytes parts the words around it.
@@ -111,17 +109,16 @@ pub fn push_text_link(
     len: usize,
     n: usize,
     place: usize,
-    from: usize,
-    to: usize,
+    dest: &[u8],
     opts: FormatOpts,
 ) -> Wrote
-    requires { (len + n ≤ length text.old) × (place + 3 ≤ length sheet.now) × (from ≤ to) × (to ≤ length sheet.now) × (length sheet.now ≤ 1048576) }
-    ensures { Writes (length text.old) text.new result (text_link_step opts (attrs_behind sheet.now place) (take (to - from) (drop from sheet.now)) (take n (drop len text.old)) (take len text.old)) }
+    requires { (len + n ≤ length text.old) × (place + 3 ≤ length sheet.now) × (length dest.now ≤ 1048576) }
+    ensures { Writes (length text.old) text.new result (text_link_step opts (attrs_behind sheet.now place) dest.now (take n (drop len text.old)) (take len text.old)) }
 {
     let own = opts.fresh();
     let end = len + n;
     if all_in::<White>(&text[len..end]) {
         return push_blank_link(text, len, n, own);
     }
-    push_link(sheet, text, len, n, place, from, to, true, own)
+    push_link(sheet, text, len, n, place, dest, true, own)
 }

@@ -17,7 +17,7 @@ use nodes::nodes::{is_white_space, node_name};
 use spec::ctx::ListKind;
 use text::buffer::all_in;
 use text::class::White;
-use tree::attributes::{Value, attribute};
+use tree::attributes::attribute;
 use tree::nodes::{node_end, node_place, tag_at, text_at};
 
 // The number of the attribute of that name of the element at `place`.
@@ -26,8 +26,8 @@ pub fn number_of(sheet: &[u8], place: usize, name: &[u8]) -> Parsed
     ensures { result ≡ parsed_of (def.number_of (attr name.now (attrs_behind sheet.now place))) }
 {
     match attribute(sheet, place, name) {
-        Value::At(from, to) => parse_list_number(&sheet[from..to]),
-        Value::Missing => Parsed::Nothing,
+        Some(value) => parse_list_number(value),
+        None => Parsed::Nothing,
     }
 }
 

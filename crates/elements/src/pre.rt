@@ -18,7 +18,6 @@ use normalized::text_utils::push_block_space;
 use spec::ctx::FormatOpts;
 use text::buffer::{Full, Wrote, push_byte, push_byte_if};
 use text::class::{ByteClass, White};
-use tree::attributes::Value;
 use tree::nodes::{node_end, node_place, text_at};
 
 // How long a text is behind the words of a piece, whether a word stands there, and whether a white byte came last.
@@ -125,8 +124,8 @@ fn push_pre(sheet: &[u8], nodes: &[u8], text: &mut [u8], len: usize, n: usize, i
     ensures { (name : Bytes) (attrs : List Attr) (kids : Forest) (anc : Ancestors) → ElementAt sheet.now nodes.now i name attrs kids → Around sheet.now nodes.now (parent_at nodes.now i) anc → Writes (length text.old) text.new result (push (cond (ends_with (ascii "\n\n") (take len text.old)) [] (ascii "\n") ++ def.fenced_block (or_nothing (def.find_code_language anc attrs kids)) (take n (drop len text.old))) (take len text.old)) }
 {
     match find_code_language(sheet, nodes, i) {
-        Value::At(a, b) => push_fenced_block(text, len, len, n, &sheet[a..b]),
-        Value::Missing => push_fenced_block(text, len, len, n, b""),
+        Some(language) => push_fenced_block(text, len, len, n, language),
+        None => push_fenced_block(text, len, len, n, b""),
     }
 }
 

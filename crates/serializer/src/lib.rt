@@ -53,7 +53,7 @@ use tables::rows::{is_table_node_writable, next_filled_row, next_row};
 use tables::table::{next_cell, push_table, store_span};
 use text::buffer::{Full, Wrote};
 use texts::{is_blank_text, is_one_text, trim_behind_text};
-use tree::attributes::{Value, attribute};
+use tree::attributes::attribute;
 use tree::nodes::{node_end, node_place, tag_at};
 
 pub mod options;
@@ -299,17 +299,15 @@ fn write_link(
     let place = node_place(nodes, at);
     let fresh = opts.fresh();
     match attribute(sheet, place, b"href") {
-        Value::At(from, to) => link(
-            sheet, own, run, nodes, text, len, at, from, to, opts, levels,
-        ),
-        Value::Missing => {
+        Some(dest) => link(sheet, own, run, nodes, text, len, at, dest, opts, levels),
+        None => {
             let bits = packed(fresh);
             kids(sheet, own, run, nodes, text, len, at, bits, levels)
         }
     }
 }
 
-// A link to what stands from `from` to `to` in the sheet.
+// A link with this destination.
 #[cycle(writers)]
 fn link(
     sheet: &[u8],
@@ -319,14 +317,13 @@ fn link(
     text: &mut [u8],
     len: usize,
     at: usize,
-    from: usize,
-    to: usize,
+    dest: &[u8],
     opts: FormatOpts,
     levels: usize,
 ) -> Wrote
-    requires { Placed sheet.now nodes.old at × Ready sheet.now text.old len × Fits opts (levels + 1) × (from ≤ to) × (to ≤ length sheet.now) }
+    requires { Placed sheet.now nodes.old at × Ready sheet.now text.old len × Fits opts (levels + 1) × (length dest.now ≤ 1048576) }
     ensures kept { Kept at (end_at nodes.old at) nodes.old nodes.new }
-    ensures writes_element { WritesElement sheet.now nodes.old at (λ anc name attrs kids. link_to (self_at own run.now levels) anc opts (take (to - from) (drop from sheet.now)) name attrs kids) (take len text.old) (length text.old) text.new result }
+    ensures writes_element { WritesElement sheet.now nodes.old at (λ anc name attrs kids. link_to (self_at own run.now levels) anc opts dest.now name attrs kids) (take len text.old) (length text.old) text.new result }
 {
     let end = node_end(nodes, at);
     let fresh = opts.fresh();
@@ -339,8 +336,7 @@ fn link(
             text,
             len,
             at,
-            from,
-            to,
+            dest,
             fresh.link_body(),
             levels,
         );
@@ -348,12 +344,10 @@ fn link(
     let plain = fresh.include_node().skip_escape();
     let n = write_text(sheet, nodes, &mut text[len..], 0, at + 1, end, plain)?;
     if n == 0 {
-        body(
-            sheet, own, run, nodes, text, len, at, from, to, fresh, levels,
-        )
+        body(sheet, own, run, nodes, text, len, at, dest, fresh, levels)
     } else {
         let place = node_place(nodes, at);
-        push_text_link(sheet, text, len, n, place, from, to, opts)
+        push_text_link(sheet, text, len, n, place, dest, opts)
     }
 }
 
@@ -367,14 +361,13 @@ fn body(
     text: &mut [u8],
     len: usize,
     at: usize,
-    from: usize,
-    to: usize,
+    dest: &[u8],
     opts: FormatOpts,
     levels: usize,
 ) -> Wrote
-    requires { Placed sheet.now nodes.old at × Ready sheet.now text.old len × Fits opts levels × (from ≤ to) × (to ≤ length sheet.now) }
+    requires { Placed sheet.now nodes.old at × Ready sheet.now text.old len × Fits opts levels × (length dest.now ≤ 1048576) }
     ensures kept { Kept at (end_at nodes.old at) nodes.old nodes.new }
-    ensures writes_element { WritesElement sheet.now nodes.old at (λ anc name attrs kids. link_of attrs (take (to - from) (drop from sheet.now)) (write_kids (self_at own run.now levels) anc opts (element name attrs kids nothing) []) push) (take len text.old) (length text.old) text.new result }
+    ensures writes_element { WritesElement sheet.now nodes.old at (λ anc name attrs kids. link_of attrs dest.now (write_kids (self_at own run.now levels) anc opts (element name attrs kids nothing) []) push) (take len text.old) (length text.old) text.new result }
 {
     let place = node_place(nodes, at);
     let bits = packed(opts);
@@ -389,7 +382,7 @@ fn body(
         bits,
         levels,
     )?;
-    push_link(sheet, text, len, n, place, from, to, false, opts)
+    push_link(sheet, text, len, n, place, dest, false, opts)
 }
 
 // elements/list.rs.

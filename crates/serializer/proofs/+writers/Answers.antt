@@ -6,7 +6,7 @@ use Rattle.elements.specs.EmphasisStep.{emphasis_step}
 use Rattle.elements.specs.ItemStep.{ended_list}
 use Rattle.elements.specs.LinkStep.{link_step, text_link_step}
 use Rattle.input.specs.Scans.{skip_list}
-use Rattle.lists_links.proofs.Values.{value_as}
+use Rattle.tree.proofs.Values.{part_short}
 use Rattle.lists_links.specs.Items.{item_of, ended_item}
 use Rattle.nodes.proofs.Interrupts.{element_kids, element_name}
 use Rattle.nodes.specs.Stands.{Placeds, ElementAt, NodeAt, Placed, PlacedNode}
@@ -245,14 +245,12 @@ body-push_link-requires t c =
       nest-fits c.args.text.now c.args.len c.requires.1.0 (c.kids.ensures.writes_element.for p.0.0 p.0.1 p.0.2 p.1.0 p.0.3 p.1.1) c.in_ok-n.was,
       omega (arith, c.node_place-place.ensures, (placed_node c.args.sheet.now c.args.nodes.now c.args.at p).placed),
       c.requires.3,
-      c.requires.4,
-      c.requires.1.1,
     )
 
 pub body-returns : goal.body-returns
 body-returns t c =
     let a = c.args in
-    let href = take (a.to - a.from) (drop a.from a.sheet.now) in record {
+    let href = a.dest.now in record {
       kept = c.kids.ensures.kept;
       writes_element = record {
         for = λ name attrs kids anc x h. let link = write_kids (self_at a.own a.run.now a.levels) anc a.opts (element name attrs kids nothing) [] in
@@ -265,7 +263,7 @@ body-returns t c =
 pub body-returns-in_err-n : goal.body-returns-in_err-n
 body-returns-in_err-n t c =
     let a = c.args in
-    let href = take (a.to - a.from) (drop a.from a.sheet.now) in record {
+    let href = a.dest.now in record {
       kept = c.kids.ensures.kept;
       writes_element = stops_element c.from_residual.ensures.0 (record {
         for = λ name attrs kids anc x h. let link = write_kids (self_at a.own a.run.now a.levels) anc a.opts (element name attrs kids nothing) [] in
@@ -1007,12 +1005,12 @@ link-has_element-requires t c =
 
 pub link-body-requires : goal.link-body-requires
 link-body-requires t c =
-    (falls_in c.args.levels c.decreases (lit< tt), (c.requires.0, c.requires.1, subst (λ (o : FormatOpts). Fits o c.args.levels) (sym (c.link_body.ensures ∙ ap link_body c.fresh-fresh.ensures)) (omega (arith, c.requires.2)), c.requires.3, c.requires.4))
+    (falls_in c.args.levels c.decreases (lit< tt), (c.requires.0, c.requires.1, subst (λ (o : FormatOpts). Fits o c.args.levels) (sym (c.link_body.ensures ∙ ap link_body c.fresh-fresh.ensures)) (omega (arith, c.requires.2)), c.requires.3))
 
 pub link-returns-then-has_element : goal.link-returns-then-has_element
 link-returns-then-has_element t c =
     let a = c.args in
-    let href = take (a.to - a.from) (drop a.from a.sheet.now) in record {
+    let href = a.dest.now in record {
       kept = c.body.ensures.kept;
       writes_element = record {
         for = λ name attrs kids anc x h.
@@ -1032,14 +1030,14 @@ link-body-requires-then-n-eq0 t c =
     let a = c.args in
     let p = c.requires.0 in
     let w = done c.in_ok-n.was (wrote_here _ _ _ p.0.3) in
-    (falls_in a.levels c.decreases (lit< tt), (p, (omega (arith, back_length a.text.now a.len c.requires.1.0 (shown_text a.opts p.0.2) w, c.requires.1.0), c.requires.1.1), subst (λ (o : FormatOpts). Fits o a.levels) (sym c.fresh-fresh.ensures) (omega (arith, c.requires.2)), c.requires.3, c.requires.4))
+    (falls_in a.levels c.decreases (lit< tt), (p, (omega (arith, back_length a.text.now a.len c.requires.1.0 (shown_text a.opts p.0.2) w, c.requires.1.0), c.requires.1.1), subst (λ (o : FormatOpts). Fits o a.levels) (sym c.fresh-fresh.ensures) (omega (arith, c.requires.2)), c.requires.3))
 
 pub link-returns-then-n-eq0 : goal.link-returns-then-n-eq0
 link-returns-then-n-eq0 t c =
     let wrote_here : (name : Bytes) (attrs : List Attr) (kids : Forest) → ElementAt c.args.sheet.now c.args.nodes.now c.args.at name attrs kids → Writes (length (lent c.args.text.now c.args.len)) c.write_text.new.text c.write_text.result (shown_text c.args.opts kids) = λ name attrs kids x. let a = c.args in subst (λ (o : FormatOpts). Writes (length (lent a.text.now a.len)) c.write_text.new.text c.write_text.result (write_text o kids [])) (c.skip_escape-plain.ensures ∙ ap skip_escape (c.include_node.ensures ∙ ap include_node c.fresh-fresh.ensures)) (c.write_text.ensures a.at kids (element_kids x c.node_end-end.ensures)) in
     let bare_here : (name : Bytes) (attrs : List Attr) (kids : Forest) → ElementAt c.args.sheet.now c.args.nodes.now c.args.at name attrs kids → has_element 22 kids ≡ false = λ _ _ kids x. sym (c.has_element.ensures c.args.at kids (element_kids x c.node_end-end.ensures)) ∙ c.if-has_element.false in
     let a = c.args in
-    let href = take (a.to - a.from) (drop a.from a.sheet.now) in record {
+    let href = a.dest.now in record {
       kept = c.body-then-n-eq0.ensures.kept;
       writes_element = record {
         for = λ name attrs kids anc x h.
@@ -1058,14 +1056,14 @@ pub link-push_text_link-requires : goal.link-push_text_link-requires
 link-push_text_link-requires t c =
     let wrote_here : (name : Bytes) (attrs : List Attr) (kids : Forest) → ElementAt c.args.sheet.now c.args.nodes.now c.args.at name attrs kids → Writes (length (lent c.args.text.now c.args.len)) c.write_text.new.text c.write_text.result (shown_text c.args.opts kids) = λ name attrs kids x. let a = c.args in subst (λ (o : FormatOpts). Writes (length (lent a.text.now a.len)) c.write_text.new.text c.write_text.result (write_text o kids [])) (c.skip_escape-plain.ensures ∙ ap skip_escape (c.include_node.ensures ∙ ap include_node c.fresh-fresh.ensures)) (c.write_text.ensures a.at kids (element_kids x c.node_end-end.ensures)) in
     let p = c.requires.0 in
-    (nest-fits c.args.text.now c.args.len c.requires.1.0 (wrote_here _ _ _ p.0.3) c.in_ok-n.was, omega (arith, c.node_place-place.ensures, (placed_node c.args.sheet.now c.args.nodes.now c.args.at p).placed), c.requires.3, c.requires.4, c.requires.1.1)
+    (nest-fits c.args.text.now c.args.len c.requires.1.0 (wrote_here _ _ _ p.0.3) c.in_ok-n.was, omega (arith, c.node_place-place.ensures, (placed_node c.args.sheet.now c.args.nodes.now c.args.at p).placed), c.requires.3)
 
 pub link-returns-else-n-eq0 : goal.link-returns-else-n-eq0
 link-returns-else-n-eq0 t c =
     let wrote_here : (name : Bytes) (attrs : List Attr) (kids : Forest) → ElementAt c.args.sheet.now c.args.nodes.now c.args.at name attrs kids → Writes (length (lent c.args.text.now c.args.len)) c.write_text.new.text c.write_text.result (shown_text c.args.opts kids) = λ name attrs kids x. let a = c.args in subst (λ (o : FormatOpts). Writes (length (lent a.text.now a.len)) c.write_text.new.text c.write_text.result (write_text o kids [])) (c.skip_escape-plain.ensures ∙ ap skip_escape (c.include_node.ensures ∙ ap include_node c.fresh-fresh.ensures)) (c.write_text.ensures a.at kids (element_kids x c.node_end-end.ensures)) in
     let bare_here : (name : Bytes) (attrs : List Attr) (kids : Forest) → ElementAt c.args.sheet.now c.args.nodes.now c.args.at name attrs kids → has_element 22 kids ≡ false = λ _ _ kids x. sym (c.has_element.ensures c.args.at kids (element_kids x c.node_end-end.ensures)) ∙ c.if-has_element.false in
     let a = c.args in
-    let href = take (a.to - a.from) (drop a.from a.sheet.now) in record {
+    let href = a.dest.now in record {
       kept = kept_none a.nodes.now;
       writes_element = record {
         for = λ name attrs kids anc x h.
@@ -1081,7 +1079,7 @@ link-returns-in_err-n t c =
     let bare_here : (name : Bytes) (attrs : List Attr) (kids : Forest) → ElementAt c.args.sheet.now c.args.nodes.now c.args.at name attrs kids → has_element 22 kids ≡ false = λ _ _ kids x. sym (c.has_element.ensures c.args.at kids (element_kids x c.node_end-end.ensures)) ∙ c.if-has_element.false in
     let wrote_here : (name : Bytes) (attrs : List Attr) (kids : Forest) → ElementAt c.args.sheet.now c.args.nodes.now c.args.at name attrs kids → Writes (length (lent c.args.text.now c.args.len)) c.write_text.new.text c.write_text.result (shown_text c.args.opts kids) = λ name attrs kids x. let a = c.args in subst (λ (o : FormatOpts). Writes (length (lent a.text.now a.len)) c.write_text.new.text c.write_text.result (write_text o kids [])) (c.skip_escape-plain.ensures ∙ ap skip_escape (c.include_node.ensures ∙ ap include_node c.fresh-fresh.ensures)) (c.write_text.ensures a.at kids (element_kids x c.node_end-end.ensures)) in
     let a = c.args in
-    let href = take (a.to - a.from) (drop a.from a.sheet.now) in record {
+    let href = a.dest.now in record {
       kept = kept_none a.nodes.now;
       writes_element = stops_element c.from_residual.ensures.0 (record {
         for = λ name attrs kids anc x h.
@@ -1570,17 +1568,17 @@ write_link-attribute-requires t c =
 
 pub write_link-link-requires : goal.write_link-link-requires
 write_link-link-requires t c =
-    let k = value_as c.in-At.is c.attribute.ensures in
-    (falls_in c.args.levels c.decreases (lit< tt), (c.requires.0, c.requires.1, c.requires.2, k.inside.0, k.inside.1))
+    let k = c.in-Some.ensures in
+    (falls_in c.args.levels c.decreases (lit< tt), (c.requires.0, c.requires.1, c.requires.2, omega (arith, part_short c.args.sheet.now c.in-Some.dest.now k.inside, c.requires.1.1)))
 
-pub write_link-returns-in-At : goal.write_link-returns-in-At
-write_link-returns-in-At t c =
+pub write_link-returns-in-Some : goal.write_link-returns-in-Some
+write_link-returns-in-Some t c =
     let a = c.args in
-    let k = value_as c.in-At.is c.attribute.ensures in record {
+    let k = c.in-Some.ensures in record {
       kept = c.link.ensures.kept;
       writes_element = record {
         for = λ name attrs kids anc x h.
-            alike (link_some (self_at a.own a.run.now a.levels) anc a.opts (take (c.in-At.to - c.in-At.from) (drop c.in-At.from a.sheet.now)) name attrs kids (take a.len a.text.now)
+            alike (link_some (self_at a.own a.run.now a.levels) anc a.opts c.in-Some.dest.now name attrs kids (take a.len a.text.now)
             (ap (attr (ascii "href")) (x.attrs_are ∙ ap (attrs_behind a.sheet.now) (sym c.node_place-place.ensures)) ∙ k.value_is)) (c.link.ensures.writes_element.for name attrs kids anc x h);
       };
     }
@@ -1593,14 +1591,14 @@ pub write_link-kids-requires : goal.write_link-kids-requires
 write_link-kids-requires t c =
     (falls_in c.args.levels c.decreases (lit< tt), (c.requires.0, c.requires.1, subst (λ (o : FormatOpts). Fits o c.args.levels) (sym (c.packed-bits.ensures ∙ c.fresh-fresh.ensures)) (omega (arith, c.requires.2))))
 
-pub write_link-returns-in-Missing : goal.write_link-returns-in-Missing
-write_link-returns-in-Missing t c =
+pub write_link-returns-in-None : goal.write_link-returns-in-None
+write_link-returns-in-None t c =
     let a = c.args in record {
       kept = c.kids.ensures.kept;
       writes_element = record {
         for = λ name attrs kids anc x h.
             alike (link_none (self_at a.own a.run.now a.levels) anc a.opts name attrs kids (take a.len a.text.now)
-            (ap (attr (ascii "href")) (x.attrs_are ∙ ap (attrs_behind a.sheet.now) (sym c.node_place-place.ensures)) ∙ (value_as c.in-Missing.is c.attribute.ensures).value_is))
+            (ap (attr (ascii "href")) (x.attrs_are ∙ ap (attrs_behind a.sheet.now) (sym c.node_place-place.ensures)) ∙ (c.in-None.ensures).value_is))
             (subst (λ (o : FormatOpts). Writes (length a.text.now) c.kids.new.text c.kids.result (write_kids (self_at a.own a.run.now a.levels) anc o (element name attrs kids nothing) (take a.len a.text.now))) (c.packed-bits.ensures ∙ c.fresh-fresh.ensures) (c.kids.ensures.writes_element.for name attrs kids anc x h));
       };
     }

@@ -1,7 +1,7 @@
 use mathlib.Core.List.{◌∷◌}
 use Rattle.spec.specs.Md.Elements.Code.{find_code_language}
 use Rattle.nodes.proofs.Interrupts.{element_kids}
-use Rattle.elements.proofs.Languages.{around_it, language_as, language_first, language_second}
+use Rattle.elements.proofs.Languages.{around_it, language_first, language_second}
 use Rattle.elements.proofs.code_language.find_code_language.Goals as goal
 
 pub nearest_language-requires : goal.nearest_language-requires
@@ -18,13 +18,13 @@ find_code_language_css_class-requires c =
     let p = c.requires in
     (c.args.i, p.0.2, element_kids p.0.3 c.node_end-to.ensures)
 
-pub returns-in-At : goal.returns-in-At
+pub returns-in-Some : goal.returns-in-Some
 unfolding find_code_language
-returns-in-At c =
-    λ name attrs kids anc x y. language_first _ (language_as c.in-At.is (c.nearest_language.ensures (attrs ∷ anc) (around_it anc x y)))
+returns-in-Some c =
+    λ name attrs kids anc x y. language_first _ (c.in-Some.ensures (attrs ∷ anc) (around_it anc x y))
 
-pub returns-in-Missing : goal.returns-in-Missing
+pub returns-in-None : goal.returns-in-None
 unfolding find_code_language
-returns-in-Missing c =
-    λ name attrs kids anc x y. language_second (language_as c.in-Missing.is (c.nearest_language.ensures (attrs ∷ anc) (around_it anc x y)))
+returns-in-None c =
+    λ name attrs kids anc x y. language_second (c.in-None.ensures (attrs ∷ anc) (around_it anc x y))
     (c.find_code_language_css_class.ensures c.args.i kids (element_kids x c.node_end-to.ensures))

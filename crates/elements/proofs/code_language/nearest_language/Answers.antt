@@ -1,8 +1,8 @@
+use Rattle.std.specs.Prelude.{Some, None}
 use mathlib.Core.Path.{sym, subst}
 use Prim.Native.Nat.{ℕ, ◌-◌}
 use Rattle.tree.specs.Attributes.{Valued, language_attr}
 use Rattle.tree.specs.Represents.{attrs_behind}
-use Rattle.lists_links.proofs.Values.{value_as}
 use Rattle.elements.proofs.Languages.{Up, up_all, up_node, up_on, up_found, up_root, up_none}
 use native.Mathlib.Omega.{arith}
 use Rattle.elements.proofs.code_language.nearest_language.Goals as goal
@@ -23,10 +23,10 @@ pub language_attribute-requires : goal.language_attribute-requires
 language_attribute-requires c =
     omega (arith, (up_node c.loop-left.invariant c.loop-left-test.true c.if-at-eq0.false).readable.1, c.node_place-place.ensures)
 
-pub returns-in-At : goal.returns-in-At
-returns-in-At c =
+pub returns-in-Some : goal.returns-in-Some
+returns-in-Some c =
     up_found c.loop-left.invariant c.loop-left-test.true c.if-at-eq0.false
-    (value_as c.in-At.is (subst (λ (p : ℕ). Valued c.args.sheet.now c.language_attribute.result (language_attr (attrs_behind c.args.sheet.now p))) c.node_place-place.ensures c.language_attribute.ensures))
+    (subst (λ (p : ℕ). Valued c.args.sheet.now (Some c.in-Some.language) (language_attr (attrs_behind c.args.sheet.now p))) c.node_place-place.ensures c.in-Some.ensures)
 
 pub node_parent-at-requires : goal.node_parent-at-requires
 node_parent-at-requires c =
@@ -36,7 +36,7 @@ pub loop-left-preserved : goal.loop-left-preserved
 loop-left-preserved c =
     subst (λ (k : ℕ). Up c.args.sheet.now c.args.nodes.now c.args.i k (c.loop-left.left - 1)) (sym c.node_parent-at.ensures)
     (up_on c.loop-left.invariant c.loop-left-test.true c.if-at-eq0.false
-    (value_as c.in-Missing.is (subst (λ (p : ℕ). Valued c.args.sheet.now c.language_attribute.result (language_attr (attrs_behind c.args.sheet.now p))) c.node_place-place.ensures c.language_attribute.ensures)))
+    (subst (λ (p : ℕ). Valued c.args.sheet.now None (language_attr (attrs_behind c.args.sheet.now p))) c.node_place-place.ensures c.in_default.ensures))
 
 pub returns : goal.returns
 returns c =

@@ -19,7 +19,7 @@ returns-in_err-n c =
     let l = c.loop-b in
     joins_not c.from_residual.ensures.0
     (owes_stop l.invariant.owes (push (word_byte (l.any && l.white) (get_or s l.b-index 0))) (push (words_on _ _ (drop (l.b-index + 1) s)))
-        (byte_turn s l.b-index c.loop-b-test.true l.any l.white refl (take l.n l.text)) c.in_err-n.was c.push_word_byte.ensures)
+    (byte_turn s l.b-index c.loop-b-test.true l.any l.white refl (take l.n l.text)) c.in_err-n.was c.push_word_byte.ensures)
 
 pub loop-b-preserved : goal.loop-b-preserved
 loop-b-preserved c =
