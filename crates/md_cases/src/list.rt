@@ -1,7 +1,7 @@
 // The stored list: how many calls, a head of 38 bytes for each, and the bytes that the heads point to.
 ghost use Rattle.std.specs.Prelude.{◌+◌, ◌≤◌, ◌<◌, length};
 
-use tree::memory::read_quad;
+use tree::memory::read;
 
 // A stored call. A flag says that the skip list is an own one, that the start node is written too, that the sheet is all zeros.
 // The number is that of the question that says no; 0 is none, and then the room is the peak.
@@ -34,9 +34,9 @@ pub fn read_head(list: &[u8], at: usize) -> Head
         with_node: has(flags, 2),
         zeros: has(flags, 4),
         number: list[at + 1],
-        start: read_quad(list, at + 2),
-        memory: read_quad(list, at + 6),
-        room: read_quad(list, at + 10),
+        start: read::<4>(list, at + 2),
+        memory: read::<4>(list, at + 6),
+        room: read::<4>(list, at + 10),
     }
 }
 
@@ -57,7 +57,7 @@ pub fn part(s: &[u8], from: usize, n: usize) -> &[u8] {
 pub fn pointed(list: &[u8], at: usize) -> &[u8]
     requires { at + 8 ≤ length list.now }
 {
-    let from = read_quad(list, at);
-    let n = read_quad(list, at + 4);
+    let from = read::<4>(list, at);
+    let n = read::<4>(list, at + 4);
     part(list, from, n)
 }

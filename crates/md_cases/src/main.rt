@@ -14,7 +14,7 @@ use list::{Head, part, pointed, read_head};
 use md::call::serialize_md;
 use reading::read_full;
 use std::io;
-use tree::memory::read_quad;
+use tree::memory::read;
 
 fn fill(m: &mut [u8], b: u8) {
     let mut i = 0;
@@ -194,7 +194,7 @@ fn replay_at(list: &[u8], zeros: &[u8], at: usize, nodes: &mut [u8], text: &mut 
     let run = pointed(list, at + 22);
     let expected = pointed(list, at + 30);
     if head.zeros {
-        let n = read_quad(list, at + 18);
+        let n = read::<4>(list, at + 18);
         return replay_head(part(zeros, 0, n), run, head, expected, nodes, text);
     }
     replay_head(pointed(list, at + 14), run, head, expected, nodes, text)
@@ -251,7 +251,7 @@ fn replay_list(
     if list.len() < 4 {
         return Ok(());
     }
-    replay_all(rt, list, zeros, read_quad(list, 0), nodes, text)
+    replay_all(rt, list, zeros, read::<4>(list, 0), nodes, text)
 }
 
 fn space() -> [u8; 1048577]
