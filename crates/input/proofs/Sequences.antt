@@ -2,13 +2,13 @@
 use Prim.Native.Nat.{ℕ, zero, suc, ◌+◌, ◌-◌, ◌<◌, ◌≤◌}
 use native.Mathlib.Omega.{arith}
 use mathlib.Core.Path.{◌≡◌, refl, ap, ap₂, ◌∙◌, sym}
-use mathlib.Core.Bool.{Bool, true, false, cond, not, ◌&&◌, ◌||◌, and-eq-true_iff, and_assoc, and-true, false≢true}
+use mathlib.Core.Bool.{Bool, true, false, cond, not, ◌&&◌, and-eq-true_iff, and_assoc, and-true, false≢true}
 use mathlib.Core.List.{List, [], ◌∷◌, ◌++◌, append-nil, append_assoc}
 use lib.ListN.{length, get_or, take, drop, replicate, drop_of_length-le}
 use lib.Seq.{drop-cons}
 use native.Mathlib.Numerals.{add-one}
 use lib.Dec.{eqb, leb, ltb, eqb-suc-zero}
-use borrow.Author.Tests.{eqb-true, eqb-false, not-true, ltb-true, ltb-false, lt-ltb, leb-false, le-leb, lt-leb}
+use borrow.Author.Tests.{eqb-true, eqb-false, not-true, ltb-true, ltb-false, lt-ltb, le-leb, lt-leb}
 use Rattle.std.specs.Prelude.{Option, None, Some}
 use Rattle.spec.specs.Bytes.{Bytes, every}
 use Rattle.spec.specs.Utf8.{Range, to, row, sequences, within, begins, following, fits, due_after, well_formed, is_utf8}
@@ -138,11 +138,6 @@ all_ascii s h = sym (ap (well_formed []) (sym (append-nil s)) ∙ ascii_on (make
 
 -- ---- from byte to byte of a part, and from block to block
 
-neither : (t u : Bool) → (not t || u) ≡ false → (t ≡ true) × (u ≡ false)
-neither true true e = absurd (false≢true (sym e))
-neither true false e = (refl, refl)
-neither false u e = absurd (false≢true (sym e))
-
 module _ (d : Lead) (part : Bytes) (i : ℕ) (rest : Bytes) (h : i < length part) where
   parted : drop i part ++ rest ≡ get_or part i 0 ∷ (drop (i + 1) part ++ rest)
   parted = rw add-one (ap (λ (l : Bytes). l ++ rest) (drop-cons part i 0 h))
@@ -159,12 +154,12 @@ module _ (d : Lead) (part : Bytes) (i : ℕ) (rest : Bytes) (h : i < length part
       → well_formed (due d) (drop i part ++ rest) ≡ well_formed (due e) (drop (i + 1) part ++ rest)
   right_byte e small q = turn small ∙ ap (λ (r : Option Lead). after r (drop (i + 1) part ++ rest)) q
 
-  pub ascii_byte : (not (eqb d.more 0) || leb 0x80 (get_or part i 0)) ≡ false
+  pub ascii_byte : (eqb d.more 0 && is_ascii (get_or part i 0)) ≡ true
       → well_formed (due d) (drop i part ++ rest) ≡ well_formed (due d) (drop (i + 1) part ++ rest)
   ascii_byte e =
-      let p = neither (eqb d.more 0) (leb 0x80 (get_or part i 0)) e in
+      let p : (eqb d.more 0 ≡ true) × (ltb (get_or part i 0) 0x80 ≡ true) = (and-eq-true_iff _ _).0 e in
       ap (well_formed (due d)) parted
-      ∙ ascii_law d (get_or part i 0) (drop (i + 1) part ++ rest) (eqb-true d.more 0 p.0) (leb-false 0x80 (get_or part i 0) p.1)
+      ∙ ascii_law d (get_or part i 0) (drop (i + 1) part ++ rest) (eqb-true d.more 0 p.0) (ltb-true (get_or part i 0) 0x80 p.1)
 
 pub block_turn : (d : Lead) (r : Option Lead) (all block behind rest : Bytes) → all ≡ block ++ behind → Behind d block r
     → well_formed (due d) (all ++ rest) ≡ after r (behind ++ rest)

@@ -55,13 +55,16 @@ fn next_byte(due: Lead, b: u8) -> Option<Lead>
     })
 }
 
-// Whether all bytes are ASCII: without an early exit, so that many bytes can be tested at once.
+// Whether all bytes are ASCII: without an early exit, so that many bytes can be tested at once. With `for` the test of a
+// block in `is_utf8_part` is 19 instructions and not 3.
 fn is_ascii(s: &[u8]) -> bool
     ensures { result ≡ every is_ascii s.now }
 {
     let mut all = true;
-    for b in s {
-        all = all & (*b < 0x80);
+    let mut i = 0;
+    while i < s.len() {
+        all = all & (s[i] < 0x80);
+        i += 1;
     }
     all
 }
@@ -73,9 +76,10 @@ fn due_behind(before: Lead, part: &[u8]) -> Option<Lead>
 {
     let mut due = before;
     for b in part {
-        if (due.more != 0) | (*b >= 0x80) {
-            due = next_byte(due, *b)?;
+        if (due.more == 0) & (*b < 0x80) {
+            continue;
         }
+        due = next_byte(due, *b)?;
     }
     Some(due)
 }
