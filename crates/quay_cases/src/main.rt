@@ -13,7 +13,7 @@ use input::refusal::Refusal;
 use md::call::serialize_md;
 use sheet_main::answer_to;
 use std::io;
-use text::buffer::{front};
+use text::buffer::front;
 
 // The bytes, with `/` for LF.
 fn print_slashed(rt: &impl Print, s: &[u8]) -> io::Result<()> {

@@ -9,7 +9,7 @@ use md::call::serialize_md;
 use reading::read_full;
 use std::io;
 use std::io::{Input, Read};
-use text::buffer::{front};
+use text::buffer::front;
 
 // Whether the input has a byte more.
 fn has_more<R: Read>(input: &mut R) -> io::Result<bool> {
