@@ -18,7 +18,7 @@ use Rattle.tree.specs.Nodes.{name_at, text_at}
 use Rattle.tree.proofs.Firsts.{first}
 use Rattle.tree.proofs.Kin.{first_name, first_text_lem}
 use Rattle.lists_links.specs.Parsed.{parsed_of}
-use Rattle.lists_links.specs.declared.list_number.Parsed.TheVariants.{Number, Nothing}
+use Rattle.std.specs.Prelude.{Some, None}
 
 -- ---- blocks
 
@@ -97,12 +97,12 @@ module _ (sh ns : Bytes) (parent i e : ℕ) (f : Forest) (h : Rep sh ns parent i
 
 -- ---- numbers
 
-pub parsed_number : {m : ℕ} (o : Option ℕ) (n : ℕ) → parsed_of o ≡ Number m → m ≡ number_or o n
+pub parsed_number : {m : ℕ} (o : Option ℕ) (n : ℕ) → parsed_of o ≡ Some m → m ≡ number_or o n
 unfolding number_or
 parsed_number none n e = let z : ◌≡◌ {A = ℕ} 0 1 = cc in absurd (omega arith)
 parsed_number (some k) n e = cc
 
-pub parsed_nothing : (o : Option ℕ) (n : ℕ) → parsed_of o ≡ Nothing → n ≡ number_or o n
+pub parsed_nothing : (o : Option ℕ) (n : ℕ) → parsed_of o ≡ None → n ≡ number_or o n
 unfolding number_or
 parsed_nothing none n e = refl
 parsed_nothing (some k) n e = let z : ◌≡◌ {A = ℕ} 0 1 = cc in absurd (omega arith)

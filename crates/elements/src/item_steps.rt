@@ -14,7 +14,6 @@ ghost use Rattle.elements.specs.ItemStep.{ended_list, child_opts, line_if, flow_
 
 use crate::list_nodes::{is_list, number_of};
 use lists_links::list::Item;
-use lists_links::list_number::Parsed;
 use marks::heading::{escape_closing_hashes, is_heading, push_md_prefix};
 use normalized::text_utils::{add_linebreaks, push_linebreak};
 use spec::ctx::{FormatOpts, ListContext, ListKind};
@@ -44,12 +43,12 @@ fn with_kind(ctx: ListContext, kind: ListKind) -> ListContext
 }
 
 // The context of an ordered list at an item with that number.
-fn with_number(ctx: ListContext, number: Parsed) -> ListContext
+fn with_number(ctx: ListContext, number: Option<u32>) -> ListContext
     ensures { (m : ℕ) (o : Option ℕ) → number ≡ parsed_of o → result ≡ def.renumbered (kinds.Ol m) o ctx }
 {
     match number {
-        Parsed::Number(n) => with_kind(ctx, ListKind::Ol(n)),
-        Parsed::Nothing => ctx,
+        Some(n) => with_kind(ctx, ListKind::Ol(n)),
+        None => ctx,
     }
 }
 

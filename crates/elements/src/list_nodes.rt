@@ -12,7 +12,7 @@ ghost use Rattle.lists_links.specs.Parsed.{parsed_of};
 ghost use Rattle.nodes.specs.FirstElement.{first_element};
 ghost use Rattle.nodes.specs.Stands.{Siblings, SomeNode, NodeAt, ElementAt, SomeElement};
 
-use lists_links::list_number::{Parsed, parse_list_number};
+use lists_links::list_number::parse_list_number;
 use nodes::nodes::{is_white_space, node_name};
 use spec::ctx::ListKind;
 use text::buffer::all_in;
@@ -21,22 +21,22 @@ use tree::attributes::attribute;
 use tree::nodes::{node_end, node_place, tag_at, text_at};
 
 // The number of the attribute of that name of the element at `place`.
-pub fn number_of(sheet: &[u8], place: usize, name: &[u8]) -> Parsed
+pub fn number_of(sheet: &[u8], place: usize, name: &[u8]) -> Option<u32>
     requires { place + 3 ≤ length sheet.now }
     ensures { result ≡ parsed_of (def.number_of (attr name.now (attrs_behind sheet.now place))) }
 {
     match attribute(sheet, place, name) {
         Some(value) => parse_list_number(value),
-        None => Parsed::Nothing,
+        None => None,
     }
 }
 
-pub fn number_or(number: Parsed, n: u32) -> u32
+pub fn number_or(number: Option<u32>, n: u32) -> u32
     ensures { (o : Option ℕ) → number ≡ parsed_of o → result ≡ def.number_or o n }
 {
     match number {
-        Parsed::Number(m) => m,
-        Parsed::Nothing => n,
+        Some(m) => m,
+        None => n,
     }
 }
 

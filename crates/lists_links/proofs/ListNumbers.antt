@@ -14,7 +14,7 @@ use Rattle.spec.specs.Bytes.{null, same, starts_with, digit, take_while, value_f
 use Rattle.spec.specs.Md.Elements.List.{clamped}
 use Rattle.lists_links.specs.Parsed.{parsed_of, signed, unsigned}
 use Rattle.text.specs.Trimmed.{Skipped}
-use Rattle.lists_links.specs.declared.list_number.Parsed.TheVariants.{Number, Nothing}
+use Rattle.std.specs.Prelude.{Some, None}
 use Rattle.text.proofs.Writing.{yes, no}
 use Rattle.text.proofs.Reading.{null_none, null_some, rest_part}
 
@@ -89,21 +89,21 @@ module _ (v : List ℕ) (sign n : ℕ) (p : Skipped v sign (unsigned v)) (q : Sk
       ap length (sym digits_are ∙ ap (take n) (sym p.is))
       ∙ length-take-le n (drop sign v) (omega (arith, length-drop sign v, digits_within))
 
-  pub signed_none : n ≡ 0 → Nothing ≡ parsed_of (signed v)
+  pub signed_none : n ≡ 0 → None ≡ parsed_of (signed v)
   signed_none e = rw (null_none (take_while digit (unsigned v)) (digits_count ∙ e))
 
   module _ (h : n ≡ 0 → ⊥) where
     not_null : null (take_while digit (unsigned v)) ≡ false
     not_null = null_some (take_while digit (unsigned v)) (λ e. h (sym digits_count ∙ e))
 
-    pub signed_minus : starts_with (45 ∷ []) v ≡ true → Number 0 ≡ parsed_of (signed v)
+    pub signed_minus : starts_with (45 ∷ []) v ≡ true → Some 0 ≡ parsed_of (signed v)
     signed_minus e = rw (not_null, e)
 
     pub signed_plus : starts_with (45 ∷ []) v ≡ false → (k : ℕ) → k ≡ clamped (trim_start_matches (λ b. eqb b 48) (take (sign + n - sign) (drop sign v)))
-        → Number k ≡ parsed_of (signed v)
+        → Some k ≡ parsed_of (signed v)
     signed_plus e k f =
         let z : sign + n - sign ≡ n = omega arith in
         let d : take (sign + n - sign) (drop sign v) ≡ take_while digit (unsigned v) = ap (λ (j : ℕ). take j (drop sign v)) z ∙ ap (take n) p.is ∙ digits_are in
         let x : ℕ = clamped (trim_start_matches (λ b. eqb b 48) (take_while digit (unsigned v))) in
-        ap Number (f ∙ ap (λ (s : List ℕ). clamped (trim_start_matches (λ b. eqb b 48) s)) d)
-        ∙ sym (ap (λ (t : Bool). parsed_of (cond t none (some (cond (starts_with (45 ∷ []) v) 0 x)))) not_null ∙ ap (λ (t : Bool). Number (cond t 0 x)) e)
+        ap Some (f ∙ ap (λ (s : List ℕ). clamped (trim_start_matches (λ b. eqb b 48) s)) d)
+        ∙ sym (ap (λ (t : Bool). parsed_of (cond t none (some (cond (starts_with (45 ∷ []) v) 0 x)))) not_null ∙ ap (λ (t : Bool). Some (cond t 0 x)) e)

@@ -3,12 +3,11 @@ use Rattle.std.specs.Prelude.{ℕ, cond, ◌||◌, eqb, drop}
 use Rattle.std.proofs.Math.Option.{Option, none, some}
 use Rattle.spec.specs.Bytes.{Bytes, ascii, null, starts_with, digit, take_while, trim_start_matches}
 use Rattle.spec.specs.Md.Elements.List.{clamped}
-use Rattle.lists_links.specs.declared.list_number.Parsed.{Parsed}
-use Rattle.lists_links.specs.declared.list_number.Parsed.TheVariants.{Number, Nothing}
+use Rattle.std.specs.Prelude.{Option as Answer, Some, None}
 
-abbrev pub parsed_of : Option ℕ → Parsed
-parsed_of none = Nothing
-parsed_of (some n) = Number n
+abbrev pub parsed_of : Option ℕ → Answer ℕ
+parsed_of none = None
+parsed_of (some n) = Some n
 
 -- s without the sign that begins it
 abbrev pub unsigned : Bytes → Bytes

@@ -10,13 +10,7 @@ use text::buffer::{starts_with_byte, trim_start_matches};
 use text::class::{Digit, Only, White};
 
 // The number that an attribute's value says, if it says one.
-#[derive(Clone, Copy)]
-pub enum Parsed {
-    Number(u32),
-    Nothing,
-}
-
-pub fn parse_list_number(value: &[u8]) -> Parsed
+pub fn parse_list_number(value: &[u8]) -> Option<u32>
     ensures { result ≡ parsed_of (def.parse_list_number value.now) }
 {
     let start = trim_start_matches::<White>(value);
@@ -24,19 +18,19 @@ pub fn parse_list_number(value: &[u8]) -> Parsed
 }
 
 // A number without white bytes before it.
-fn parse_signed(value: &[u8]) -> Parsed
+fn parse_signed(value: &[u8]) -> Option<u32>
     ensures { result ≡ parsed_of (signed value.now) }
 {
     let sign = sign_len(value);
     let digits_len = trim_start_matches::<Digit>(&value[sign..]);
     if digits_len == 0 {
-        return Parsed::Nothing;
+        return None;
     }
     if starts_with_byte(value, 45) {
-        return Parsed::Number(0);
+        return Some(0);
     }
     let end = sign + digits_len;
-    Parsed::Number(clamped(&value[sign..end]))
+    Some(clamped(&value[sign..end]))
 }
 
 // How many bytes a sign takes at the front.
@@ -72,10 +66,8 @@ fn value_of(digits: &[u8]) -> u32
     ensures { result ≡ min (value_from 0 digits.now) MAX_LIST_NUMBER }
 {
     let mut n: usize = 0;
-    let mut i = 0;
-    while i < digits.len() {
-        n = n * 10 + digit_value(digits[i]);
-        i += 1;
+    for b in digits {
+        n = n * 10 + digit_value(*b);
     }
     if n < 999999999 { n as u32 } else { 999999999 }
 }

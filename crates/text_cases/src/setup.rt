@@ -2,7 +2,7 @@
 ghost use Rattle.std.specs.Prelude.{◌≤◌, length};
 
 use lists_links::list::Item;
-use lists_links::list_number::{Parsed, parse_list_number};
+use lists_links::list_number::parse_list_number;
 use spec::ctx::{FormatOpts, ListContext, ListKind};
 use text::buffer::{Full, Wrote, push_all};
 
@@ -61,8 +61,8 @@ pub fn truth(b: bool) -> Wrote {
 
 pub fn parsed(value: &[u8]) -> Wrote {
     match parse_list_number(value) {
-        Parsed::Number(n) => Ok(n as usize),
-        Parsed::Nothing => Err(Full),
+        Some(n) => Ok(n as usize),
+        None => Err(Full),
     }
 }
 

@@ -2,10 +2,10 @@ use mathlib.Core.Path.{sym, ◌∙◌}
 use Rattle.elements.proofs.ListTests.{parsed_number, parsed_nothing}
 use Rattle.elements.proofs.list_nodes.number_or.Goals as goal
 
-pub returns-in-Number : goal.returns-in-Number
-returns-in-Number c =
-    λ o e. parsed_number o c.args.n (sym e ∙ c.in-Number.is)
+pub returns-in-Some : goal.returns-in-Some
+returns-in-Some c =
+    λ o e. parsed_number o c.args.n (sym e ∙ c.in-Some.is)
 
-pub returns-in-Nothing : goal.returns-in-Nothing
-returns-in-Nothing c =
-    λ o e. parsed_nothing o c.args.n (sym e ∙ c.in-Nothing.is)
+pub returns-in-None : goal.returns-in-None
+returns-in-None c =
+    λ o e. parsed_nothing o c.args.n (sym e ∙ c.in-None.is)

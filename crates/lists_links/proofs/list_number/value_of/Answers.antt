@@ -7,31 +7,31 @@ use Rattle.lists_links.proofs.ListNumbers.{value_on, value_end, ten, ten_most}
 use native.Mathlib.Omega.{arith}
 use Rattle.lists_links.proofs.list_number.value_of.Goals as goal
 
-pub loop-i-init : goal.loop-i-init
-loop-i-init c =
+pub loop-b-init : goal.loop-b-init
+loop-b-init c =
     (omega arith, refl, omega arith)
 
 pub overflow_mul-n : goal.overflow_mul-n
 overflow_mul-n c =
-    omega (arith, ten_most c.loop-i.i 9 (omega (arith, c.requires)))
+    omega (arith, ten_most c.loop-b.b-index 9 (omega (arith, c.requires)))
 
 pub overflow_add-n : goal.overflow_add-n
 overflow_add-n c =
-    omega (arith, ten_most c.loop-i.i 9 (omega (arith, c.requires)))
+    omega (arith, ten_most c.loop-b.b-index 9 (omega (arith, c.requires)))
 
-pub loop-i-preserved : goal.loop-i-preserved
-loop-i-preserved c =
-    let l = c.loop-i in
+pub loop-b-preserved : goal.loop-b-preserved
+loop-b-preserved c =
+    let l = c.loop-b in
     let v = c.digit_value.ensures in (
       omega arith,
-      l.invariant.1 ∙ value_on c.args.digits.now l.n l.i c.loop-i-test.true ∙ ap (λ (d : ℕ). value_from (l.n * 10 + d) (drop (l.i + 1) c.args.digits.now)) (sym v.0),
-      omega (arith, ap ten (add-one l.i), l.invariant.2, v.1),
+      l.invariant.1 ∙ value_on c.args.digits.now l.n l.b-index c.loop-b-test.true ∙ ap (λ (d : ℕ). value_from (l.n * 10 + d) (drop (l.b-index + 1) c.args.digits.now)) (sym v.0),
+      omega (arith, ap ten (add-one l.b-index), l.invariant.2, v.1),
     )
 
 pub returns-then-n-lt999999999 : goal.returns-then-n-lt999999999
 returns-then-n-lt999999999 c =
-    omega (arith, c.loop-i.invariant.1 ∙ value_end c.args.digits.now c.loop-i.n c.loop-i.i c.loop-i-test.false)
+    omega (arith, c.loop-b.invariant.1 ∙ value_end c.args.digits.now c.loop-b.n c.loop-b.b-index c.loop-b-test.false)
 
 pub returns-else-n-lt999999999 : goal.returns-else-n-lt999999999
 returns-else-n-lt999999999 c =
-    omega (arith, c.loop-i.invariant.1 ∙ value_end c.args.digits.now c.loop-i.n c.loop-i.i c.loop-i-test.false)
+    omega (arith, c.loop-b.invariant.1 ∙ value_end c.args.digits.now c.loop-b.n c.loop-b.b-index c.loop-b-test.false)

@@ -5,8 +5,5 @@ use Rattle.spec.specs.Bytes.{value_from}
 use Rattle.lists_links.proofs.ListNumbers.{ten}
 use Rattle.lists_links.proofs.list_number.value_of.Given as goal
 
-abbrev pub invariant-loop-i : goal.invariant-loop-i
-invariant-loop-i l = (l.i ≤ length l.digits) × (value_from 0 l.digits ≡ value_from l.n (drop l.i l.digits)) × (l.n + 23 ≤ 23 * ten l.i)
-
-abbrev pub decreases-loop-i : goal.decreases-loop-i
-decreases-loop-i l = length l.digits - l.i
+abbrev pub invariant-loop-b : goal.invariant-loop-b
+invariant-loop-b l = (l.b-index ≤ length l.digits) × (value_from 0 l.digits ≡ value_from l.n (drop l.b-index l.digits)) × (l.n + 23 ≤ 23 * ten l.b-index)
