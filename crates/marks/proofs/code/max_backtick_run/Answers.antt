@@ -36,4 +36,4 @@ unfolding max_backtick_run
 returns c =
     let l = c.loop-i in
     let s = c.args.s.now in
-    c.ended_run.ensures ∙ sym (runs_all s (runs_to s l.i (length s) l.invariant.0 l.invariant.1 c.runs_behind-runs.ensures))
+    c.max.ensures ∙ sym (runs_all s (runs_to s l.i (length s) l.invariant.0 l.invariant.1 c.runs_behind-runs.ensures))

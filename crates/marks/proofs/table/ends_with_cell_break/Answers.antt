@@ -22,4 +22,4 @@ slice_bounds-backslashes-end c =
 
 pub returns : goal.returns
 returns c =
-    cell_is c.args.s.now c.backslashes-count.result (sym c.ends_with.ensures ∙ c.if-not-ends_with.false) c.backslashes-count.ensures
+    cell_is c.args.s.now c.backslashes.result (sym c.ends_with.ensures ∙ c.if-not-ends_with.false) c.backslashes.ensures

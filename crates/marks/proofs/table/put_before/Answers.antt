@@ -28,10 +28,10 @@ pub returns-then-escaped : goal.returns-then-escaped
 returns-then-escaped c =
     before_escaped c.args.text.now c.args.at c.args.b c.args.escaped c.requires.0 c.requires.1 c.if-escaped.true
 
-pub overflow_sub-result-2 : goal.overflow_sub-result-2
-overflow_sub-result-2 c =
+pub overflow_sub-result-else-escaped : goal.overflow_sub-result-else-escaped
+overflow_sub-result-else-escaped c =
     omega (arith, fits_one c.args.b c.args.escaped c.requires.0, c.requires.1)
 
-pub returns : goal.returns
-returns c =
+pub returns-else-escaped : goal.returns-else-escaped
+returns-else-escaped c =
     before_plain c.args.text.now c.args.at c.args.b c.args.escaped c.requires.0 c.requires.1 c.if-escaped.false
