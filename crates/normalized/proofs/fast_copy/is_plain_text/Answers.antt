@@ -20,7 +20,7 @@ returns-then-last-ge16 c =
 
 pub loop-i-init : goal.loop-i-init
 loop-i-init c =
-    (omega arith, flows_none c.args.escape c.args.s.now)
+    flows_none c.args.escape c.args.s.now
 
 pub returns-then-not-is_plain : goal.returns-then-not-is_plain
 returns-then-not-is_plain c =
@@ -29,8 +29,8 @@ returns-then-not-is_plain c =
 pub loop-i-preserved : goal.loop-i-preserved
 loop-i-preserved c =
     let r = c.is_plain in
-    (omega arith, flows_next c.loop-i.invariant.1 (record { followed = omega arith; adds_itself = r.ensures (c.if-not-is_plain.false) }))
+    flows_next c.loop-i.invariant (record { followed = omega arith; adds_itself = r.ensures (c.if-not-is_plain.false) })
 
 pub returns : goal.returns
 returns c =
-    λ e n q. subst (Flows c.args.escape c.args.s.now) (omega arith) c.loop-i.invariant.1
+    λ e n q. subst (Flows c.args.escape c.args.s.now) (omega arith) c.loop-i.invariant

@@ -10,9 +10,6 @@ use Rattle.normalized.proofs.Streaming.{own_flow, next_go, next_stop}
 use native.Mathlib.Omega.{arith}
 use Rattle.normalized.proofs.normalize_own.push_normalized_own.Goals as goal
 
-pub overflow_add-from : goal.overflow_add-from
-overflow_add-from c = omega (arith, c.requires.1, c.lay_out_own-l.ensures.within, length-drop c.args.base c.args.text.now)
-
 pub push_own_front-requires : goal.push_own_front-requires
 push_own_front-requires c =
     (c.requires.0, c.lay_out_own-l.ensures.ordered, omega (arith, c.requires.1, c.lay_out_own-l.ensures.within, length-drop c.args.base c.args.text.now))

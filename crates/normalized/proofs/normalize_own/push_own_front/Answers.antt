@@ -14,12 +14,6 @@ use Rattle.normalized.proofs.Streaming.{own_bytes, next_go, next_stop}
 use native.Mathlib.Omega.{arith}
 use Rattle.normalized.proofs.normalize_own.push_own_front.Goals as goal
 
-pub overflow_add-from : goal.overflow_add-from
-overflow_add-from c = omega (arith, c.requires.1, c.requires.2)
-
-pub overflow_add-stop : goal.overflow_add-stop
-overflow_add-stop c = omega (arith, c.requires.2)
-
 pub put_if-requires : goal.put_if-requires
 put_if-requires c = (c.requires.0, omega (arith, c.requires.2))
 
