@@ -1,4 +1,4 @@
-use Rattle.std.proofs.Common.{true, false, List, ℕ, cond, ◌≡◌, ◌||◌, refl, sym, take, arith}
+use Rattle.std.proofs.Common.{true, false, List, ℕ, cond, ◌≡◌, ◌||◌, refl, sym, take}
 use Rattle.std.proofs.Math.Seq.{length-take-le}
 use Rattle.spec.specs.Bytes.{null}
 use Rattle.spec.specs.Out.{Step, push, keep}
@@ -11,14 +11,6 @@ use Rattle.marks.proofs.table.add_cell_block_break.Goals as goal
 
 abbrev behind : List ℕ → Step
 behind lb u = cond (null u || ends_with_cell_break u) (keep u) (push lb u)
-
-pub slice_bounds-ends_with_cell_break-end : goal.slice_bounds-ends_with_cell_break-end
-slice_bounds-ends_with_cell_break-end c =
-    omega (arith, c.trim_trailing_space-n.ensures.within, length-take-le c.args.len c.args.text.now c.requires)
-
-pub push_all-requires : goal.push_all-requires
-push_all-requires c =
-    omega (arith, c.trim_trailing_space-n.ensures.within, length-take-le c.args.len c.args.text.now c.requires)
 
 pub returns-then-n-ends_with_cell_break : goal.returns-then-n-ends_with_cell_break
 unfolding add_cell_block_break trim_trailing_space

@@ -1,7 +1,4 @@
 use mathlib.Core.Path.{sym, ◌∙◌}
-use Prim.Native.Nat.{◌-◌}
-use lib.ListN.{length}
-use lib.Seq.{length-take-le}
 use Rattle.spec.specs.Bytes.{ascii}
 use Rattle.text.proofs.Reading.{ends_long}
 use Rattle.marks.proofs.Leaves.{cell_not, cell_is}
@@ -15,10 +12,6 @@ returns-then-not-ends_with c =
 pub overflow_sub-n : goal.overflow_sub-n
 overflow_sub-n c =
     omega (arith, ends_long c.args.s.now (ascii "<br>") (sym c.ends_with.ensures ∙ c.if-not-ends_with.false))
-
-pub slice_bounds-backslashes-end : goal.slice_bounds-backslashes-end
-slice_bounds-backslashes-end c =
-    let s = c.args.s.now in sym (length-take-le (length s - 4) s (omega arith))
 
 pub returns : goal.returns
 returns c =

@@ -1,13 +1,7 @@
-use Rattle.std.proofs.Common.{◌-◌, ◌≤◌, sym, ap, ◌∙◌, length, arith}
-use Rattle.std.proofs.Math.Seq.{take-length, length-take-le}
-use Rattle.spec.specs.Md.Elements.Table.{without_breaks}
+use Rattle.std.proofs.Common.{◌-◌, ◌≤◌, sym, ◌∙◌, arith}
+use Rattle.std.proofs.Math.Seq.{length-take-le}
 use Rattle.marks.proofs.Leaves.{cell_long, breaks_end, breaks_on}
 use Rattle.marks.proofs.table.trim_trailing_cell_break.Goals as goal
-
-pub loop-n-init : goal.loop-n-init
-loop-n-init c =
-    let s = c.args.s.now in
-    record { within = omega arith; left = length s; enough = omega arith; is = ap (without_breaks (length s)) (sym (take-length s)) }
 
 pub slice_bounds-trim_trailing_space-count : goal.slice_bounds-trim_trailing_space-count
 slice_bounds-trim_trailing_space-count c =
