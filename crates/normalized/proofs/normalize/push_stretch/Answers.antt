@@ -3,12 +3,6 @@ use Rattle.normalized.proofs.Blocks.{fit, block_writes, signs_small}
 use native.Mathlib.Omega.{arith}
 use Rattle.normalized.proofs.normalize.push_stretch.Goals as goal
 
-pub block_at-even-requires : goal.block_at-even-requires
-block_at-even-requires c =
-    let a = c.args in
-    let f = fit a.from a.stop (length a.s.now) (length a.text.now) a.len c.requires.1 c.requires.0 c.if-stop-from.true in
-    omega (arith, f.sixteen, f.followed)
-
 pub push_block-requires : goal.push_block-requires
 push_block-requires c =
     let a = c.args in

@@ -1,25 +1,14 @@
 use Prim.Native.Nat.{ℕ, ◌+◌}
-use mathlib.Core.Path.{refl, ap}
+use mathlib.Core.Path.{ap}
 use mathlib.Core.List.{List}
 use lib.ListN.{length, take, get_or}
 use lib.Seq.{slice}
 use Rattle.spec.specs.Out.{push}
 use Rattle.text.specs.Flow.{added, flow_before}
-use Rattle.text.proofs.Sourcing.{owed_all, owed_step, owed_stop, owed_nothing, owed_reach, alike_in, stops_in}
+use Rattle.text.proofs.Sourcing.{owed_step, owed_stop, owed_nothing, alike_in, stops_in}
 use Rattle.normalized.proofs.Streaming.{byte_turn, bytes_ended, own_byte}
 use native.Mathlib.Omega.{arith}
 use Rattle.normalized.proofs.normalize_own.push_own_bytes.Goals as goal
-
-pub loop-i-init : goal.loop-i-init
-loop-i-init c =
-    let a = c.args in
-    let d = a.text.now in
-    owed_all a.base d a.len (push (flow_before a.escape (slice a.from a.stop d) (slice a.stop (length d) d))) c.requires.0 (omega (arith, c.requires.1, c.requires.2, c.requires.3)) refl
-
-pub push_own_byte-requires : goal.push_own_byte-requires
-push_own_byte-requires c =
-    let l = c.loop-i in
-    (owed_reach l.invariant, omega (arith, c.requires.1, l.auto.i), omega (arith, c.loop-i-test.true, c.requires.3, l.invariant.still.long))
 
 pub returns-in_err-n : goal.returns-in_err-n
 returns-in_err-n c =
@@ -44,9 +33,6 @@ loop-i-preserved c =
     owed_step o (push x) (push (flow_before a.escape (slice (l.i + 1) a.stop d) (slice a.stop (length d) d)))
     (byte_turn d a.escape t l.i a.stop c.loop-i-test.true c.requires.3) c.in_ok-n.was
     (alike_in (ap (λ (y : List ℕ). push y t) (own_byte a.escape (omega (arith, c.requires.1, c.requires.2, c.requires.3)) o.still l.i (omega (arith, c.requires.1, l.auto.i)))) c.push_own_byte.ensures)
-
-pub shape_of-text : goal.shape_of-text
-shape_of-text c = c.loop-i.invariant.still.long
 
 pub returns : goal.returns
 returns c =
