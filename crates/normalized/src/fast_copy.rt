@@ -1,4 +1,5 @@
-// Text that is tested and copied 16 bytes at a time.
+// Text that is tested and copied 16 bytes at a time. The loops over 16 bytes count by hand: whether `for` gives code
+// as fast is not measured.
 ghost use Rattle.std.specs.Prelude.{◌≡◌, true, false, not, List, ℕ, ◌+◌, ◌≤◌, ◌<◌, length, take, get_or, eqb};
 ghost use Rattle.std.proofs.Math.Seq.{slice, paste};
 ghost use Rattle.spec.specs.Bytes.{ascii, starts_with, isin};
