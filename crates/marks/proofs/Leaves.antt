@@ -15,11 +15,11 @@ use Rattle.spec.specs.Md.TextUtils.{trim_blanks}
 use Rattle.spec.specs.Md.Elements.Emphasis.{backslashes, is_exact_marker_end, ends_with_emphasis, drop_end, try_trim_prev_emphasis_marker}
 use Rattle.spec.specs.Md.Elements.Table.{ends_with_cell_break, without_breaks}
 use Rattle.spec.specs.Md.Elements.Code.{longest_run, filter}
-use Rattle.text.proofs.Writing.{push_both}
+use Rattle.text.proofs.Writing.{push_both, alike}
 use Rattle.text.specs.Trimmed.{Trimmed}
 use Rattle.marks.specs.Runs.{longest_with, RunsBehind}
 use Rattle.marks.specs.declared.code.Runs.{Runs}
-use Rattle.text.specs.Writes.{Written}
+use Rattle.text.specs.Writes.{Written, Writes, Wrote}
 use Rattle.text.proofs.Spaces.{cut_done}
 use Rattle.text.proofs.Reading.{ends_long, trimmed_length}
 use Rattle.input.proofs.Rules.{null_length}
@@ -129,11 +129,11 @@ run_fits s i to h k p =
     omega (arith, p.small, length-take-le i s (omega arith), length-take-le (to - i) (drop i s) (omega (arith, length-drop i s)))
 
 -- a backtick
-pub runs_tick : (best run b : ℕ) → b ≡ 96 → RunsBehind (record { best = best; run = run }) (b ∷ []) (record { best = best; run = run + 1 })
+pub runs_tick : (r : Runs) (b : ℕ) → b ≡ 96 → RunsBehind r (b ∷ []) (record { best = r.best; run = r.run + 1 })
 unfolding longest_run
-runs_tick best run b e =
+runs_tick r b e =
     record {
-      goes = λ rest. rw (eq-eqb b 96 e) (ap (λ (k : ℕ). max best (longest_run k rest)) (sym (add-one run)));
+      goes = λ rest. rw (eq-eqb b 96 e) (ap (λ (k : ℕ). max r.best (longest_run k rest)) (sym (add-one r.run)));
       small = omega arith;
     }
 
@@ -152,11 +152,15 @@ runs_clean [] rest e = refl
 runs_clean (b ∷ s) rest e = rw (no_tick b s e).0 (omega (arith, runs_clean s rest (no_tick b s e).1))
 
 -- another byte, and any number of them behind it
-pub runs_other : (best run ended b : ℕ) (s : List ℕ) → ended ≡ max best run → eqb b 96 ≡ false → isin 96 s ≡ false
+runs_other : (best run ended b : ℕ) (s : List ℕ) → ended ≡ max best run → eqb b 96 ≡ false → isin 96 s ≡ false
     → RunsBehind (record { best = best; run = run }) (b ∷ s) (record { best = ended; run = 0 })
 unfolding longest_run
 runs_other best run ended b s q e f =
     record { goes = λ rest. rw e (omega (arith, q, runs_clean s rest f)); small = omega arith }
+
+pub runs_not_tick : (r : Runs) (ended b : ℕ) → ended ≡ max r.best r.run → (b ≡ 96 → ⊥) → RunsBehind r (b ∷ []) (record { best = ended; run = 0 })
+unfolding isin
+runs_not_tick r ended b q e = runs_other r.best r.run ended b [] q (ne_eqb b 96 e) refl
 
 -- bytes without a backtick, one at least
 pub runs_away : (best run ended : ℕ) (s : List ℕ) → ended ≡ max best run → 0 < length s → isin 96 s ≡ false
@@ -214,3 +218,7 @@ filter_turn p s t i h =
 pub filter_none : (p : ℕ → Bool) (s t : List ℕ) (i : ℕ) → length s ≤ i → push (filter p (drop i s)) t ≡ push [] t
 unfolding filter
 filter_none p s t i h = ap (λ (x : List ℕ). push (filter p x) t) (drop_of_length-le s h)
+
+-- a byte is appended where a test says so
+pub kept_writes : {room : ℕ} {after : List ℕ} {r : Wrote} (t : List ℕ) (p q : Bool) (b : ℕ) → q ≡ p → Writes room after r (push (cond q (b ∷ []) []) t) → Writes room after r (push (cond p (b ∷ []) []) t)
+kept_writes {room} {after} {r} t p q b e w = alike (ap (λ (x : Bool). push (cond x (b ∷ []) []) t) (sym e)) w

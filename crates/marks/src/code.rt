@@ -11,7 +11,7 @@ use text::buffer::{
     Wrote, all_in, contains_byte, ends_with, ends_with_byte, lift, push_byte, push_byte_if,
     push_repeated, starts_with_byte, trim_start_matches,
 };
-use text::class::{Black, Blank, ByteClass, Digit, White};
+use text::class::{Black, Blank, White};
 use text::lifted::push_lifted;
 
 // The longest run of backticks that has ended, and the run before what follows.
@@ -21,29 +21,19 @@ pub struct Runs {
     pub run: usize,
 }
 
-// The longest run where `run` ends.
-fn ended_run(best: usize, run: usize) -> usize
-    ensures { result ≡ max best run }
-{
-    if best < run { run } else { best }
-}
-
 // The runs behind b.
 fn next_runs(runs: Runs, b: u8) -> Runs
     requires { runs.run + 1 < 2 ^ 64 }
     ensures { RunsBehind runs (b ∷ []) result }
 {
-    let best = runs.best;
-    let run = runs.run;
-    if b == 96 {
-        return Runs {
-            best: best,
-            run: run + 1,
-        };
-    }
-    Runs {
-        best: ended_run(best, run),
-        run: 0,
+    let Runs { best, run } = runs;
+    if b == b'`' {
+        Runs { best, run: run + 1 }
+    } else {
+        Runs {
+            best: best.max(run),
+            run: 0,
+        }
     }
 }
 
@@ -53,26 +43,26 @@ fn runs_behind(before: Runs, s: &[u8]) -> Runs
     ensures { RunsBehind before s.now result }
 {
     let mut runs = before;
-    let mut i = 0;
-    while i < s.len() {
-        runs = next_runs(runs, s[i]);
-        i += 1;
+    for b in s {
+        runs = next_runs(runs, *b);
     }
     runs
 }
 
 // The same for one byte or more, most often without a backtick.
+#[tactic(auto, using(crate::proofs::Leaves::runs_away))]
 fn runs_behind_part(before: Runs, s: &[u8]) -> Runs
     requires { (0 < length s.now) × (before.run + length s.now < 2 ^ 64) }
     ensures { RunsBehind before s.now result }
 {
-    if !contains_byte(s, 96) {
-        return Runs {
-            best: ended_run(before.best, before.run),
+    if contains_byte(s, b'`') {
+        runs_behind(before, s)
+    } else {
+        Runs {
+            best: before.best.max(before.run),
             run: 0,
-        };
+        }
     }
-    runs_behind(before, s)
 }
 
 // The longest run of backticks.
@@ -87,32 +77,33 @@ pub fn max_backtick_run(s: &[u8]) -> usize
         i = end;
     }
     runs = runs_behind(runs, &s[i..]);
-    ended_run(runs.best, runs.run)
+    runs.best.max(runs.run)
 }
 
 // Whether a blank stands between the content and its fences.
+#[tactic(auto, unfolding(spec::specs::Md::Elements::Code::needs_space))]
 pub fn needs_space(s: &[u8]) -> bool
     ensures { result ≡ def.needs_space s.now }
 {
-    (starts_with_byte(s, 96) | ends_with_byte(s, 96))
-        | ((starts_with_byte(s, 32) & ends_with_byte(s, 32)) & !all_in::<Blank>(s))
+    (starts_with_byte(s, b'`') | ends_with_byte(s, b'`'))
+        | ((starts_with_byte(s, b' ') & ends_with_byte(s, b' ')) & !all_in::<Blank>(s))
 }
 
 // A byte that a language's name keeps.
+#[tactic(auto, unfolding(spec::specs::Bytes::isin, spec::specs::Bytes::digit, spec::specs::Md::Elements::Code::is_alphanumeric))]
 fn is_kept(b: u8) -> bool
     ensures { result ≡ kept_byte b }
 {
-    (Digit::has(b) | (((65 <= b) & (b <= 90)) | ((97 <= b) & (b <= 122))))
-        | ((b == 45) | ((b == 95) | ((b == 43) | ((b == 46) | (b == 35)))))
+    matches!(b, b'0'..=b'9' | b'A'..=b'Z' | b'a'..=b'z' | b'-' | b'_' | b'+' | b'.' | b'#')
 }
 
 // Appends b if it is kept.
+#[tactic(auto, using(crate::proofs::Leaves::kept_writes))]
 fn push_kept(text: &mut [u8], len: usize, b: u8) -> Wrote
     requires { len ≤ length text.old }
     ensures { Writes (length text.old) text.new result (push (cond (kept_byte b) (b ∷ []) []) (take len text.old)) }
 {
-    let kept = is_kept(b);
-    push_byte_if(text, len, b, kept)
+    push_byte_if(text, len, b, is_kept(b))
 }
 
 fn push_filtered(text: &mut [u8], len: usize, s: &[u8]) -> Wrote
@@ -120,10 +111,8 @@ fn push_filtered(text: &mut [u8], len: usize, s: &[u8]) -> Wrote
     ensures { Writes (length text.old) text.new result (push (def.filter kept_byte s.now) (take len text.old)) }
 {
     let mut n = len;
-    let mut i = 0;
-    while i < s.len() {
-        n = push_kept(text, n, s[i])?;
-        i += 1;
+    for b in s {
+        n = push_kept(text, n, *b)?;
     }
     Ok(n)
 }
@@ -144,18 +133,18 @@ fn push_opening(text: &mut [u8], len: usize, fence: usize, space: bool) -> Wrote
     requires { len ≤ length text.old }
     ensures { Writes (length text.old) text.new result (push (cond (ends_with (ascii "`") (take len text.old)) (ascii " ") [] ++ (def.backticks fence ++ cond space (ascii " ") [])) (take len text.old)) }
 {
-    let apart = ends_with_byte(&text[..len], 96);
-    let n = push_byte_if(text, len, 32, apart)?;
-    let m = push_repeated(text, n, 96, fence)?;
-    push_byte_if(text, m, 32, space)
+    let apart = ends_with_byte(&text[..len], b'`');
+    let n = push_byte_if(text, len, b' ', apart)?;
+    let m = push_repeated(text, n, b'`', fence)?;
+    push_byte_if(text, m, b' ', space)
 }
 
 fn push_closing(text: &mut [u8], len: usize, fence: usize, space: bool) -> Wrote
     requires { len ≤ length text.old }
     ensures { Writes (length text.old) text.new result (push (cond space (ascii " ") [] ++ def.backticks fence) (take len text.old)) }
 {
-    let n = push_byte_if(text, len, 32, space)?;
-    push_repeated(text, n, 96, fence)
+    let n = push_byte_if(text, len, b' ', space)?;
+    push_repeated(text, n, b'`', fence)
 }
 
 // The code span of what stands from base on, of which in_being bytes count until it is appended.
@@ -184,11 +173,11 @@ pub fn push_code_text(text: &mut [u8], len: usize, from: usize, n: usize, in_bei
 }
 
 // Longer than any run of backticks in the content, and three at least.
+#[tactic(auto, using(crate::proofs::Spans::run_is_short))]
 fn fence_len(content: &[u8]) -> usize
     ensures { result ≡ max (def.max_backtick_run content.now) 2 + 1 }
 {
-    let run = max_backtick_run(content);
-    if run < 2 { 3 } else { run + 1 }
+    max_backtick_run(content).max(2) + 1
 }
 
 // Appends what stands before the content of a fenced block, on lines of its own.
@@ -197,19 +186,19 @@ fn push_block_opening(text: &mut [u8], len: usize, fence: usize, lang: &[u8]) ->
     ensures { Writes (length text.old) text.new result (push (cond (ends_with (ascii "\n\n") (take len text.old)) [] (ascii "\n") ++ (def.backticks fence ++ (def.sanitize_attr_value lang.now ++ ascii "\n"))) (take len text.old)) }
 {
     let begun = ends_with(&text[..len], b"\n\n");
-    let n = push_byte_if(text, len, 10, !begun)?;
-    let m = push_repeated(text, n, 96, fence)?;
+    let n = push_byte_if(text, len, b'\n', !begun)?;
+    let m = push_repeated(text, n, b'`', fence)?;
     let k = push_sanitized(text, m, lang)?;
-    push_byte(text, k, 10)
+    push_byte(text, k, b'\n')
 }
 
 fn push_block_closing(text: &mut [u8], len: usize, fence: usize, ended: bool) -> Wrote
     requires { len ≤ length text.old }
     ensures { Writes (length text.old) text.new result (push (cond ended [] (ascii "\n") ++ (def.backticks fence ++ ascii "\n")) (take len text.old)) }
 {
-    let n = push_byte_if(text, len, 10, !ended)?;
-    let m = push_repeated(text, n, 96, fence)?;
-    push_byte(text, m, 10)
+    let n = push_byte_if(text, len, b'\n', !ended)?;
+    let m = push_repeated(text, n, b'`', fence)?;
+    push_byte(text, m, b'\n')
 }
 
 // The fenced block of what stands from base on.
@@ -218,7 +207,7 @@ fn push_block(text: &mut [u8], base: usize, len: usize, lang: &[u8]) -> Wrote
     ensures { Writes (length text.old) text.new result (push (cond (ends_with (ascii "\n\n") (take len text.old)) [] (ascii "\n") ++ def.fenced_block (def.sanitize_attr_value lang.now) (drop base text.old)) (take len text.old)) }
 {
     let fence = fence_len(&text[base..]);
-    let ended = (base == text.len()) | ends_with_byte(&text[base..], 10);
+    let ended = (base == text.len()) | ends_with_byte(&text[base..], b'\n');
     let n = push_block_opening(&mut text[..base], len, fence, lang)?;
     let m = push_lifted(text, base, n, 0)?;
     push_block_closing(text, m, fence, ended)

@@ -30,7 +30,7 @@ pub fn is_exact_marker_end(tail: &[u8], marker: &[u8]) -> bool
         return false;
     }
     let n = tail.len() - marker.len();
-    let longer = is_same(marker, b"*") & ends_with_byte(&tail[..n], 42);
+    let longer = is_same(marker, b"*") & ends_with_byte(&tail[..n], b'*');
     let count = backslashes(&tail[..n]);
     !longer & (count % 2 == 0)
 }
@@ -57,9 +57,9 @@ pub fn try_trim_prev_emphasis_marker(text: &mut [u8], len: usize, marker: &[u8])
     if !ends_with_emphasis(marker, &text[..len]) {
         return Ok(len);
     }
-    if ends_with_byte(&text[..len], 32) {
+    if ends_with_byte(&text[..len], b' ') {
         let n = len.saturating_sub(marker.len() + 1);
-        push_byte(text, n, 32)
+        push_byte(text, n, b' ')
     } else {
         Ok(len.saturating_sub(marker.len()))
     }
@@ -70,8 +70,8 @@ fn push_lead(text: &mut [u8], len: usize, lead: bool) -> Wrote
     requires { len ≤ length text.old }
     ensures { Writes (length text.old) text.new result (lead_blank lead (take len text.old)) }
 {
-    let ended = ends_with_byte(&text[..len], 32);
-    push_byte_if(text, len, 32, lead & !ended)
+    let ended = ends_with_byte(&text[..len], b' ');
+    push_byte_if(text, len, b' ', lead & !ended)
 }
 
 // Appends the opening marker, unless the emphasis goes on with the one before it.
@@ -112,7 +112,7 @@ fn push_done(text: &mut [u8], base: usize, len: usize, marker: &[u8], lead: bool
     requires { (len ≤ base) × (base ≤ length text.old) }
     ensures { Writes (length text.old) text.new result (marked_with marker.now lead (drop base text.old) (take len text.old)) }
 {
-    let bang = starts_with_byte(&text[base..], 91);
+    let bang = starts_with_byte(&text[base..], b'[');
     let n = push_front(&mut text[..base], len, marker, lead, bang)?;
     let size = text.len() - base;
     push_lifted(text, base, n, size)
@@ -124,7 +124,7 @@ fn push_end(text: &mut [u8], len: usize, marker: &[u8], trail: bool) -> Wrote
     ensures { Writes (length text.old) text.new result (push (marker.now ++ cond trail (ascii " ") []) (take len text.old)) }
 {
     let n = push_all(text, len, marker)?;
-    push_byte_if(text, n, 32, trail)
+    push_byte_if(text, n, b' ', trail)
 }
 
 fn one_if(b: bool) -> usize
@@ -163,9 +163,9 @@ fn push_marked(text: &mut [u8], len: usize, n: usize, marker: &[u8]) -> Wrote
     ensures { Writes (length text.old) text.new result (def.push_marked marker.now (take n (drop len text.old)) (take len text.old)) }
 {
     let end = len + n;
-    let lead = starts_with_byte(&text[len..end], 32);
+    let lead = starts_with_byte(&text[len..end], b' ');
     let from = len + one_if(lead);
-    let trail = ends_with_byte(&text[from..end], 32);
+    let trail = ends_with_byte(&text[from..end], b' ');
     let size = end - from - one_if(trail);
     push_closed(text, len, from, size, marker, lead, trail)
 }

@@ -8,10 +8,11 @@ use text::buffer::{Wrote, ends_with_byte, insert_byte, push_all, trim_end_matche
 use text::class::Only;
 use text::white_space::trim_end;
 
+#[tactic(auto, unfolding(spec::specs::Md::Heading::is_heading, spec::specs::Bytes::isin))]
 pub fn is_heading(name: usize) -> bool
     ensures { result ≡ def.is_heading name }
 {
-    (name == 5) | ((name == 6) | ((name == 7) | ((name == 8) | ((name == 9) | (name == 10)))))
+    matches!(name, 5..=10)
 }
 
 // Appends what begins a heading or is a rule.
@@ -19,28 +20,17 @@ pub fn push_md_prefix(text: &mut [u8], len: usize, name: usize) -> Wrote
     requires { len ≤ length text.old }
     ensures { Writes (length text.old) text.new result (push (def.md_prefix name) (take len text.old)) }
 {
-    if name == 5 {
-        return push_all(text, len, b"# ");
-    }
-    if name == 6 {
-        return push_all(text, len, b"## ");
-    }
-    if name == 7 {
-        return push_all(text, len, b"### ");
-    }
-    if name == 8 {
-        return push_all(text, len, b"#### ");
-    }
-    if name == 9 {
-        return push_all(text, len, b"##### ");
-    }
-    if name == 10 {
-        return push_all(text, len, b"###### ");
-    }
-    if name == 15 {
-        return push_all(text, len, b"---");
-    }
-    Ok(len)
+    let prefix: &[u8] = match name {
+        5 => b"# ",
+        6 => b"## ",
+        7 => b"### ",
+        8 => b"#### ",
+        9 => b"##### ",
+        10 => b"###### ",
+        15 => b"---",
+        _ => b"",
+    };
+    push_all(text, len, prefix)
 }
 
 // Escapes a run of `#` behind a blank at the end, which would close the heading.
@@ -50,8 +40,8 @@ pub fn escape_closing_hashes(text: &mut [u8], len: usize) -> Wrote
 {
     let n = trim_end(&text[..len]);
     let stem = trim_end_matches::<Only<b'#'>>(&text[..n]);
-    if (stem < n) & ends_with_byte(&text[..stem], 32) {
-        insert_byte(text, len, stem, 92)
+    if (stem < n) & ends_with_byte(&text[..stem], b' ') {
+        insert_byte(text, len, stem, b'\\')
     } else {
         Ok(len)
     }

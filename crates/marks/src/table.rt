@@ -17,8 +17,7 @@ pub fn ends_with_cell_break(s: &[u8]) -> bool
         return false;
     }
     let n = s.len() - 4;
-    let count = backslashes(&s[..n]);
-    count % 2 == 0
+    backslashes(&s[..n]) % 2 == 0
 }
 
 pub fn add_cell_block_break(text: &mut [u8], len: usize, linebreak: &[u8]) -> Wrote
@@ -26,13 +25,11 @@ pub fn add_cell_block_break(text: &mut [u8], len: usize, linebreak: &[u8]) -> Wr
     ensures { Writes (length text.old) text.new result (def.add_cell_block_break linebreak.now (take len text.old)) }
 {
     let n = trim_trailing_space(&text[..len]);
-    if n == 0 {
-        return Ok(n);
+    if (n == 0) | ends_with_cell_break(&text[..n]) {
+        Ok(n)
+    } else {
+        push_all(text, n, linebreak)
     }
-    if ends_with_cell_break(&text[..n]) {
-        return Ok(n);
-    }
-    push_all(text, n, linebreak)
 }
 
 // How long s is without the line breaks at its end and the blanks before each.
@@ -40,14 +37,8 @@ pub fn trim_trailing_cell_break(s: &[u8]) -> usize
     ensures { Trimmed s.now result (def.without_breaks (length s.now) s.now) }
 {
     let mut n = s.len();
-    let mut left = s.len();
-    while 0 < left {
-        if !ends_with_cell_break(&s[..n]) {
-            return n;
-        }
-        let m = n - 4;
-        n = trim_trailing_space(&s[..m]);
-        left -= 1;
+    while ends_with_cell_break(&s[..n]) {
+        n = trim_trailing_space(&s[..n - 4]);
     }
     n
 }
@@ -56,11 +47,10 @@ pub fn trim_trailing_cell_break(s: &[u8]) -> usize
 fn ends_with_bare_pipe(s: &[u8]) -> bool
     ensures { result ≡ bare_pipe s.now }
 {
-    if !ends_with_byte(s, 124) {
-        return false;
+    match s {
+        [before @ .., last] if *last == b'|' => !ends_with_byte(before, b'\\'),
+        _ => false,
     }
-    let n = s.len() - 1;
-    !ends_with_byte(&s[..n], 92)
 }
 
 // How many backslashes the pipes of s gain.
@@ -68,10 +58,8 @@ fn count_bare_pipes(s: &[u8]) -> usize
     ensures { length s.now + result ≡ length (def.pipes_escaped false s.now) }
 {
     let mut count = 0;
-    let mut i = 0;
-    while i < s.len() {
-        i += 1;
-        if ends_with_bare_pipe(&s[..i]) {
+    for i in 0..s.len() {
+        if ends_with_bare_pipe(&s[..i + 1]) {
             count += 1;
         }
     }
@@ -85,10 +73,11 @@ fn put_before(text: &mut [u8], at: usize, escaped: bool, b: u8) -> usize
 {
     text[at - 1] = b;
     if escaped {
-        text[at - 2] = 92;
-        return at - 2;
+        text[at - 2] = b'\\';
+        at - 2
+    } else {
+        at - 1
     }
-    at - 1
 }
 
 // The bytes move up from the last on, so that no other memory is used.

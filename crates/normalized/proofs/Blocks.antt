@@ -6,11 +6,10 @@ use mathlib.Core.List.{List, [], ◌∷◌, ◌++◌, append_assoc, append-nil}
 use native.Mathlib.Omega.{arith}
 use native.Mathlib.Numerals.{add-one}
 use lib.ListN.{length, take, drop, get_or, set, length-set, length-append}
-use lib.Seq.{slice, slice_empty, length-slice, length-take-le, take-suc-set, take-set-le, drop-set-lt, take-take, take_all, take_at, take-append-add, drop-drop, get_or-set_same, get_or-set_other, paste, length_paste_head}
+use lib.Seq.{slice, slice_empty, length-slice, length-take-le, take-suc-set, take-set-le, drop-set-lt, take-take, take_all, take_at, take-append-add, drop-drop, paste, length_paste_head}
 use lib.Dec.{eqb, ltb, leb}
-use mir.Val.{bool_byte}
 use borrow.Author.Tests.{eqb-true, ltb-true, leb-true, not-true}
-use Rattle.spec.specs.Bytes.{Bytes, ascii, isin, white, starts_with}
+use Rattle.spec.specs.Bytes.{Bytes, ascii, isin, white}
 use Rattle.spec.specs.Out.{push}
 use Rattle.spec.specs.Md.Constants.{ALWAYS_ESCAPED}
 use Rattle.spec.specs.Md.TextUtils.{is_escaped}
@@ -20,38 +19,13 @@ use Rattle.text.specs.Writes.{Writes, Written}
 use Rattle.normalized.specs.declared.fast_copy.Block.{Block}
 use Rattle.std.specs.Prelude.{Ok}
 use Rattle.text.proofs.Ordinary.{not_escaped}
-use Rattle.normalized.proofs.Flowing.{blank_added, less_or_not}
+use Rattle.normalized.proofs.Flowing.{blank_added}
 use Rattle.text.proofs.Sourcing.{slice_on, follows_some}
 use Rattle.text.proofs.Writing.{alike}
 use Rattle.normalized.proofs.Streaming.{added_black, slice_join}
 use Rattle.normalized.proofs.Wording.{slice_front}
 
 -- ---- the signs, one by one
-
-pub signs_none : (escape : Bool) (s : Bytes) (at : ℕ) (signs : Bytes) → Signs escape s at signs 0
-signs_none escape s at signs = record { each = λ i h. absurd (omega arith) }
-
-pub signs_next : {escape : Bool} {s : Bytes} {at : ℕ} {signs : Bytes} {i : ℕ} (v : ℕ) → i < length signs → Signs escape s at signs i
-    → ((rest : Bytes) → eqb (get_or s (at + i + 1) 0) 91 ≡ starts_with (ascii "[") rest → v ≡ cond (escape && is_escaped false false false (get_or s (at + i) 0) rest) 1 0)
-    → Signs escape s at (set signs i v) (i + 1)
-signs_next {escape} {s} {at} {signs} {i} v h f one =
-    record {
-      each = λ j k.
-          less_or_not j i (λ l rest e. get_or-set_other signs i j v 0 (λ q. omega arith) ∙ f.each j l rest e)
-          (λ l. subst Here (omega arith) (λ rest e. get_or-set_same signs i v 0 h ∙ one rest e));
-    }
-  where
-    Here : ℕ → Type 0
-    Here j =
-        (rest : Bytes) → eqb (get_or s (at + j + 1) 0) 91 ≡ starts_with (ascii "[") rest → get_or (set signs i v) j 0 ≡ cond (escape && is_escaped false false false (get_or s (at + j) 0) rest) 1 0
-
--- a test as a byte
-pub byte_of : (escape : Bool) {t u : Bool} → t ≡ u → bool_byte (escape && t) ≡ cond (escape && u) 1 0
-byte_of escape {t} {u} e = ap (λ (x : Bool). bool_byte (escape && x)) e ∙ on (escape && u)
-  where
-    on : (x : Bool) → bool_byte x ≡ cond x 1 0
-    on true = refl
-    on false = refl
 
 -- a sign is 0 or 1
 pub signs_small : {escape : Bool} {s : Bytes} {at : ℕ} {signs : Bytes} {n to : ℕ} → Signs escape s at signs n → at + n < to → to ≤ length s → (i : ℕ) → i < n → get_or signs i 0 ≤ 1

@@ -94,14 +94,8 @@ flows_on {signs} {s} {m} {n} f h more = record { within = h; each = λ i k. less
 pub flows_next : {signs : Bool} {s : Bytes} {i : ℕ} → Flows signs s i → Plain signs s i → Flows signs s (i + 1)
 flows_next {signs} {s} f p = flows_on f (omega (arith, p.followed)) (λ j h k. subst (Plain signs s) (omega arith) p)
 
--- one byte more of a block, where `all` says that those before it are plain, and `one` that it is
-pub block_next : {signs : Bool} {s : Bytes} {all one : Bool} (at i : ℕ) → at + i + 1 < length s → (all ≡ true → (j : ℕ) → at ≤ j → j < at + i → Plain signs s j)
-    → (one ≡ true → plain signs (get_or s (at + i) 0) (get_or s (at + i + 1) 0) ≡ true) → all && one ≡ true → (j : ℕ) → at ≤ j → j < at + (i + 1) → Plain signs s j
-block_next {signs} {s} {all} {one} at i h before here e j l m =
-    let q = (and-eq-true_iff all one).0 e in
-    less_or_not j (at + i) (before q.0 j l) (λ k. subst (Plain signs s) (omega arith) (record { followed = h; adds_itself = here q.1 }))
-
--- the same where only the first n bytes count, `past` says that this one is none of them
+-- one byte more of a block of which the first n bytes count: `all` says that those before it are plain, `past` that it is none of
+-- them, and `one` that it is plain
 pub front_next : {signs : Bool} {s : Bytes} {all past one : Bool} (at i n : ℕ) → at + i + 1 < length s → (all ≡ true → (j : ℕ) → at ≤ j → j < at + i → j < at + n → Plain signs s j)
     → (past ≡ true → n ≤ i) → (one ≡ true → plain signs (get_or s (at + i) 0) (get_or s (at + i + 1) 0) ≡ true) → all && (past || one) ≡ true
     → (j : ℕ) → at ≤ j → j < at + (i + 1) → j < at + n → Plain signs s j

@@ -1,24 +1,16 @@
--- Bytes behind the room that are copied before it, i of them so far.
+-- Bytes behind the room that are copied before it.
 use Prim.Native.Nat.{ℕ, ◌+◌, ◌-◌, ◌≤◌, ◌<◌}
 use mathlib.Core.Path.{◌≡◌, refl, sym, ap, ◌∙◌}
 use mathlib.Core.List.{List, ◌++◌}
 use native.Mathlib.Omega.{arith}
-use lib.ListN.{length, take, drop, get_or, length-append, length-drop}
-use lib.Seq.{length-take-le, take-take, get_or-drop, drop-drop, slice, paste, length-paste, take-paste, drop-paste}
+use lib.ListN.{length, take, drop, length-append, length-drop}
+use lib.Seq.{length-take-le, take-take, drop-drop, slice, paste, length-paste, take-paste, drop-paste}
 use Rattle.spec.specs.Out.{push}
 use Rattle.text.specs.Source.{WritesIn}
 use Rattle.std.specs.Prelude.{Ok, Err}
 use Rattle.text.proofs.Sourcing.{part_is}
 
 module _ (d : List ℕ) (room len from : ℕ) (h : len ≤ room) (k : room ≤ from) where
-  pub own_byte : (i : ℕ) → len + i < room → from + i < length d → get_or (paste d len (drop from d) i) (from + i) 0 ≡ get_or (drop from d) i 0
-  own_byte i l m =
-      let a : len + i + (from - len) ≡ from + i = omega arith in
-      ap (λ (j : ℕ). get_or (paste d len (drop from d) i) j 0) (sym a)
-      ∙ sym (get_or-drop (len + i) (paste d len (drop from d) i) (from - len) 0)
-      ∙ ap (λ (x : List ℕ). get_or x (from - len) 0) (drop-paste d len (drop from d) i (omega arith) (omega (arith, length-drop from d)))
-      ∙ get_or-drop (len + i) d (from - len) 0 ∙ ap (λ (j : ℕ). get_or d j 0) a ∙ sym (get_or-drop from d i 0)
-
   module _ (n : ℕ) (m : from + n ≤ length d) where
     part : slice from (from + n) d ≡ take n (drop from d)
     part = let a : from + n - from ≡ n = omega arith in sym (part_is from (from + n) d) ∙ ap (λ (j : ℕ). take j (drop from d)) a

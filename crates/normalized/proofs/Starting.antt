@@ -28,11 +28,6 @@ digit_range b h = let q = (and-eq-true_iff (leb 48 b) (leb b 57)).0 h in (leb-tr
 pub digit_black : (b : ℕ) → digit b ≡ true → white b ≡ false
 digit_black b h = not_white b (omega (arith, (digit_range b h).0))
 
--- a text that begins with one has a byte
-pub digit_some : (s : Bytes) → digit (get_or s 0 0) ≡ true → 1 ≤ length s
-digit_some [] h = absurd (omega (arith, (digit_range 0 h).0))
-digit_some (b ∷ s) h = omega arith
-
 -- ---- a marker byte by byte
 
 -- behind a digit, another counts for nothing
@@ -124,10 +119,6 @@ first_digit s h m =
     record { above_dot = omega (arith, r.0); no_underline = λ q. omega (arith, r.1); no_quote = λ q. omega (arith, r.1); no_marker = m }
 
 -- ---- what the first word of a line has more than elsewhere
-
-pub line_inside : (w : Bytes) (start : Bool) → start ≡ false → LineSign w start (length w)
-line_inside w start h =
-    record { within = omega arith; none = λ e. ap (escaped_chunk w true) h; some = λ q. absurd (omega arith) }
 
 -- no test of the beginning of a line holds
 pub line_plain : (w : Bytes) → is_ordered_list_marker w ≡ false → isin (get_or w 0 0) LINE_START_ESCAPED || every (λ b. eqb b 61) w ≡ false → LineSign w true (length w)

@@ -78,7 +78,7 @@ pub fn lay_out(text: &[u8], s: &[u8], opts: FormatOpts) -> Layout
         let blank = !ends_with_either(text, b'\n', b' ') & (at != 0);
         return Layout {
             lead: blank_if(blank),
-            at: at,
+            at,
             mark: at,
             sign: false,
             last: false,
@@ -89,9 +89,9 @@ pub fn lay_out(text: &[u8], s: &[u8], opts: FormatOpts) -> Layout
     let k = line_sign(&s[at..end], !opts.skip_escape & is_line_start(text, opts));
     let mark = mark_of(s, at, end, k);
     Layout {
-        lead: lead,
-        at: at,
-        mark: mark,
+        lead,
+        at,
+        mark,
         sign: k < end - at,
         last: ends_with_white(s),
     }

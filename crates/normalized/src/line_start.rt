@@ -15,7 +15,7 @@ fn is_last_dot(s: &[u8], i: usize) -> bool
     requires { i < length s.now }
     ensures { result ≡ last_dot (drop i s.now) }
 {
-    if !((s[i] == 46) | (s[i] == 41)) {
+    if !((s[i] == b'.') | (s[i] == b')')) {
         return false;
     }
     if s.len() == i + 1 {
@@ -29,12 +29,10 @@ fn begins_marker(s: &[u8]) -> bool
     requires { digit (get_or s.now 0 0) ≡ true }
     ensures { result ≡ def.is_ordered_list_marker (parts white s.now).0 }
 {
-    let mut i = 1;
-    while i < s.len() {
+    for i in 1..s.len() {
         if !Digit::has(s[i]) {
             return is_last_dot(s, i);
         }
-        i += 1;
     }
     false
 }
@@ -57,10 +55,11 @@ pub fn begins_bare(s: &[u8], escape: bool) -> bool
     !begins_marker(s)
 }
 
+#[tactic(auto, unfolding(spec::specs::Bytes::isin))]
 fn is_line_start_escaped(b: u8) -> bool
     ensures { result ≡ isin b LINE_START_ESCAPED }
 {
-    (b == b'#') | ((b == b'>') | ((b == b'-') | (b == b'+')))
+    matches!(b, b'#' | b'>' | b'-' | b'+')
 }
 
 // Before which byte a word has one escape more than elsewhere where it begins a line: before the last of a list marker, or the

@@ -11,7 +11,9 @@ ghost use Rattle.text.specs.Flow.{added, flow, flow_before};
 ghost use Rattle.text.specs.Writes.{Writes};
 ghost use Rattle.normalized.specs.Layout.{Behind, front};
 
-use crate::fast_copy::{block_at, is_sign, is_verbatim, plain_blocks, push_block, push_part};
+use crate::fast_copy::{
+    Block, block_at, is_sign, is_verbatim, plain_blocks, push_block, push_part,
+};
 use crate::layout::{Layout, lay_out};
 use spec::ctx::FormatOpts;
 use text::buffer::{Wrote, push_all, push_byte, push_byte_if, reread};
@@ -53,12 +55,10 @@ fn push_bytes(
     ensures { Writes (length text.old) text.new result (push (flow_before escape (slice from stop s.now) (slice stop (length s.now) s.now)) (take len text.old)) }
 {
     let mut n = len;
-    let mut i = from;
-    while i < stop {
+    for i in from..stop {
         let b = s[i];
         let next = next_of(s, i);
         n = push_byte_of(text, n, b, next, escape)?;
-        i += 1;
     }
     Ok(n)
 }
@@ -76,9 +76,8 @@ fn push_stretch(
     ensures { Writes (length text.old) text.new result (push (flow_before escape (slice from stop s.now) (slice stop (length s.now) s.now)) (take len text.old)) }
 {
     if (stop - from == 16) & ((stop < s.len()) & (32 <= text.len() - len)) {
-        let block = block_at(s, from, escape);
-        if block.even {
-            let signs = block.signs;
+        let Block { signs, even } = block_at(s, from, escape);
+        if even {
             return Ok(push_block(s, text, from, len, signs));
         }
     }
@@ -117,10 +116,13 @@ fn push_front(text: &mut [u8], len: usize, s: &[u8], l: Layout, escape: bool) ->
     requires { (len ≤ length text.old) × (l.at ≤ l.mark) × (l.mark ≤ length s.now) }
     ensures { Writes (length text.old) text.new result (push (front escape s.now l) (take len text.old)) }
 {
-    let lead = l.lead;
-    let at = l.at;
-    let mark = l.mark;
-    let sign = l.sign;
+    let Layout {
+        lead,
+        at,
+        mark,
+        sign,
+        ..
+    } = l;
     let n = push_byte_if(text, len, lead, lead != 0)?;
     let m = push_bytes(text, n, s, at, mark, escape)?;
     push_byte_if(text, m, b'\\', sign)
@@ -132,12 +134,10 @@ fn push_words(text: &mut [u8], len: usize, s: &[u8], opts: FormatOpts) -> Wrote
     ensures { Writes (length text.old) text.new result (def.push_normalized_text s.now opts (take len text.old)) }
 {
     let l = lay_out(&text[..len], s, opts);
-    let mark = l.mark;
-    let last = l.last;
     let escape = !opts.skip_escape;
     let n = push_front(text, len, s, l, escape)?;
-    let m = push_flow(text, n, s, mark, escape)?;
-    push_byte_if(text, m, b' ', last)
+    let m = push_flow(text, n, s, l.mark, escape)?;
+    push_byte_if(text, m, b' ', l.last)
 }
 
 // The same for a part of a slice, with the options that matter one by one: a record would be copied through memory.
@@ -176,9 +176,12 @@ pub fn push_normalized_text(
     ensures { Writes (length text.old) text.new result (def.push_normalized_text new_text.now f_opts (take len text.old)) }
 {
     let n = new_text.len();
-    let inline = f_opts.inline;
-    let skip_escape = f_opts.skip_escape;
-    let list_item = f_opts.list_item;
+    let FormatOpts {
+        inline,
+        skip_escape,
+        list_item,
+        ..
+    } = f_opts;
     push_text_part(
         text,
         len,

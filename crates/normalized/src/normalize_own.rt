@@ -55,10 +55,8 @@ fn push_own_bytes(
     ensures { WritesIn base text.old text.new result (push (flow_before escape (slice from stop text.old) (slice stop (length text.old) text.old)) (take len text.old)) }
 {
     let mut n = len;
-    let mut i = from;
-    while i < stop {
+    for i in from..stop {
         n = push_own_byte(text, base, n, i, escape)?;
-        i += 1;
     }
     Ok(n)
 }
@@ -71,11 +69,7 @@ fn put_own(text: &mut [u8], base: usize, len: usize, from: usize, n: usize) -> W
     if base - len < n {
         return Err(Full);
     }
-    let mut i = 0;
-    while i < n {
-        text[len + i] = text[from + i];
-        i += 1;
-    }
+    text.copy_within(from..from + n, len);
     Ok(len + n)
 }
 
@@ -95,13 +89,9 @@ fn push_own_front(text: &mut [u8], base: usize, len: usize, l: Layout, escape: b
     requires { (len ≤ base) × (l.at ≤ l.mark) × (base + l.mark ≤ length text.old) }
     ensures { WritesIn base text.old text.new result (push (front escape (drop base text.old) l) (take len text.old)) }
 {
-    let lead = l.lead;
-    let from = base + l.at;
-    let stop = base + l.mark;
-    let sign = l.sign;
-    let n = put_if(text, base, len, lead, lead != 0)?;
-    let m = push_own_bytes(text, base, n, from, stop, escape)?;
-    put_if(text, base, m, b'\\', sign)
+    let n = put_if(text, base, len, l.lead, l.lead != 0)?;
+    let m = push_own_bytes(text, base, n, base + l.at, base + l.mark, escape)?;
+    put_if(text, base, m, b'\\', l.sign)
 }
 
 // The layout of what stands from `base` on, behind the first `len` bytes.
@@ -118,10 +108,8 @@ pub fn push_normalized_own(text: &mut [u8], base: usize, len: usize, opts: Forma
     ensures { WritesIn base text.old text.new result (def.push_normalized_text (drop base text.old) opts (take len text.old)) }
 {
     let l = lay_out_own(text, base, len, opts);
-    let from = base + l.mark;
-    let last = l.last;
     let escape = !opts.skip_escape;
     let n = push_own_front(text, base, len, l, escape)?;
-    let m = push_own_flow(text, base, n, from, escape)?;
-    put_if(text, base, m, b' ', last)
+    let m = push_own_flow(text, base, n, base + l.mark, escape)?;
+    put_if(text, base, m, b' ', l.last)
 }

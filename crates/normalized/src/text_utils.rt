@@ -23,7 +23,7 @@ pub fn is_ordered_list_marker(chunk: &[u8]) -> bool
     if chunk.len() < 2 {
         return false;
     }
-    if !ends_with_either(chunk, 46, 41) {
+    if !ends_with_either(chunk, b'.', b')') {
         return false;
     }
     let n = chunk.len() - 1;
@@ -34,19 +34,13 @@ pub fn is_ordered_list_marker(chunk: &[u8]) -> bool
 fn is_marker(word: &[u8]) -> bool
     ensures { result ≡ same word.now (ascii "-") || (same word.now (ascii "+") || def.is_ordered_list_marker word.now) }
 {
-    if is_same(word, b"-") {
-        return true;
-    }
-    if is_same(word, b"+") {
-        return true;
-    }
-    is_ordered_list_marker(word)
+    is_same(word, b"-") | (is_same(word, b"+") | is_ordered_list_marker(word))
 }
 
 fn before_marker(stem: &[u8]) -> usize
     ensures { Trimmed stem.now result (def.before_marker stem.now) }
 {
-    if !ends_with_byte(stem, 32) {
+    if !ends_with_byte(stem, b' ') {
         return stem.len();
     }
     let n = stem.len() - 1;
@@ -65,7 +59,7 @@ fn at_indent(text: &[u8]) -> bool
     if n == 0 {
         return true;
     }
-    ends_with_byte(&text[..n], 10)
+    ends_with_byte(&text[..n], b'\n')
 }
 
 // Whether the text ends with one to nine digits that begin a line or an item.
@@ -89,14 +83,14 @@ pub fn escape_trailing_bang(text: &mut [u8], len: usize) -> Wrote
     requires { len ≤ length text.old }
     ensures { Writes (length text.old) text.new result (def.escape_trailing_bang (take len text.old)) }
 {
-    if !ends_with_byte(&text[..len], 33) {
+    if !ends_with_byte(&text[..len], b'!') {
         return Ok(len);
     }
     if len == text.len() {
         return Err(Full);
     }
-    text[len - 1] = 92;
-    text[len] = 33;
+    text[len - 1] = b'\\';
+    text[len] = b'!';
     Ok(len + 1)
 }
 
@@ -111,13 +105,11 @@ pub fn add_linebreaks(text: &mut [u8], len: usize, linebreak: &[u8], end: &[u8])
     ensures { Writes (length text.old) text.new result (def.add_linebreaks linebreak.now end.now (take len text.old)) }
 {
     let mut n = trim_trailing_space(&text[..len]);
-    let mut left = end.len();
-    while 0 < left {
+    for _ in 0..end.len() {
         if ends_with(&text[..n], end) {
             return Ok(n);
         }
         n = push_all(text, n, linebreak)?;
-        left -= 1;
     }
     Ok(n)
 }
@@ -132,7 +124,7 @@ pub fn push_block_space(text: &mut [u8], len: usize) -> Wrote
     if ends_with_white(&text[..len]) {
         return Ok(len);
     }
-    push_byte(text, len, 32)
+    push_byte(text, len, b' ')
 }
 
 // Trims white bytes at both ends; the rest moves to the front.

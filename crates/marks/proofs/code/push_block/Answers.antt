@@ -1,81 +1,19 @@
 use Prim.Native.Nat.{ℕ, ◌+◌, ◌≤◌, max}
-use mathlib.Core.Path.{sym, ap, ◌∙◌}
+use mathlib.Core.Path.{ap, ◌∙◌}
 use mathlib.Core.Bool.{cond, ◌||◌}
 use mathlib.Core.List.{List, [], ◌++◌}
 use lib.ListN.{length, take, drop}
 use lib.Dec.{eqb}
-use lib.Seq.{length-take-le}
 use Rattle.spec.specs.Bytes.{ascii, ends_with}
 use Rattle.spec.specs.Out.{push}
 use Rattle.spec.specs.Md.Elements.Code.{backticks, sanitize_attr_value, max_backtick_run}
 use Rattle.text.proofs.Reading.{rest_part}
 use Rattle.text.proofs.Sourcing.{lent_front}
-use Rattle.text.proofs.Lifting.{around_full, joined_reach, around_on, around_stop}
+use Rattle.text.proofs.Lifting.{around_full, around_on, around_stop}
 use Rattle.marks.proofs.Spans.{block_is, ended_is}
 use Rattle.text.proofs.Writing.{alike, owes_last, stops}
 use native.Mathlib.Omega.{arith}
 use Rattle.marks.proofs.code.push_block.Goals as goal
-
-pub slice_bounds-fence_len-count : goal.slice_bounds-fence_len-count
-slice_bounds-fence_len-count c =
-    omega (arith, c.requires.1)
-
-pub slice_bounds-fence_len-start : goal.slice_bounds-fence_len-start
-slice_bounds-fence_len-start c =
-    omega (arith, c.requires.1)
-
-pub slice_bounds-ends_with_byte-count : goal.slice_bounds-ends_with_byte-count
-slice_bounds-ends_with_byte-count c =
-    omega (arith, c.requires.1)
-
-pub slice_bounds-ends_with_byte-start : goal.slice_bounds-ends_with_byte-start
-slice_bounds-ends_with_byte-start c =
-    omega (arith, c.requires.1)
-
-pub slice_bounds-push_block_opening-end : goal.slice_bounds-push_block_opening-end
-slice_bounds-push_block_opening-end c =
-    omega (arith, c.requires.1)
-
-pub slice_bounds-push_block_opening-end-2 : goal.slice_bounds-push_block_opening-end-2
-slice_bounds-push_block_opening-end-2 c =
-    sym (length-take-le c.args.base c.args.text.now (omega (arith, c.requires.1)))
-
-pub push_block_opening-requires : goal.push_block_opening-requires
-push_block_opening-requires c =
-    omega (arith, c.requires.0, length-take-le c.args.base c.args.text.now (omega (arith, c.requires.1)))
-
-pub push_lifted-requires : goal.push_lifted-requires
-push_lifted-requires c =
-    let a = c.args in
-    let d = a.text.now in
-    let t = take a.len d in
-    let b : a.base + 0 ≤ length d = omega (arith, c.requires.1) in
-    let f = c.fence_len-fence.result in
-    let s = eqb a.base (length d) || c.ends_with_byte.result in
-    let begin = cond (ends_with (ascii "\n\n") t) [] (ascii "\n") in
-    let lang = sanitize_attr_value a.lang.now in
-    let x = begin ++ (backticks f ++ (lang ++ ascii "\n")) in
-    let y = cond s [] (ascii "\n") ++ (backticks f ++ ascii "\n") in
-    let e = block_is lang (drop a.base d) t begin f s (c.fence_len-fence.ensures ∙ ap (λ (l : List ℕ). max (max_backtick_run l) 2 + 1) (rest_part a.base d)) (ended_is d a.base c.requires.1 c.ends_with_byte.ensures) in
-    let w = lent_front a.base a.len d _ (λ (u : List ℕ). push (cond (ends_with (ascii "\n\n") u) [] (ascii "\n") ++ (backticks f ++ (lang ++ ascii "\n"))) u) c.requires.0 c.requires.1 c.push_block_opening.auto.text c.push_block_opening.ensures in
-    (joined_reach d a.len a.base 0 c.requires.0 b (push x) w c.in_ok-n.was, omega (arith, w.long))
-
-pub push_block_closing-requires : goal.push_block_closing-requires
-push_block_closing-requires c =
-    let a = c.args in
-    let d = a.text.now in
-    let t = take a.len d in
-    let b : a.base + 0 ≤ length d = omega (arith, c.requires.1) in
-    let f = c.fence_len-fence.result in
-    let s = eqb a.base (length d) || c.ends_with_byte.result in
-    let begin = cond (ends_with (ascii "\n\n") t) [] (ascii "\n") in
-    let lang = sanitize_attr_value a.lang.now in
-    let x = begin ++ (backticks f ++ (lang ++ ascii "\n")) in
-    let y = cond s [] (ascii "\n") ++ (backticks f ++ ascii "\n") in
-    let e = block_is lang (drop a.base d) t begin f s (c.fence_len-fence.ensures ∙ ap (λ (l : List ℕ). max (max_backtick_run l) 2 + 1) (rest_part a.base d)) (ended_is d a.base c.requires.1 c.ends_with_byte.ensures) in
-    let w = lent_front a.base a.len d _ (λ (u : List ℕ). push (cond (ends_with (ascii "\n\n") u) [] (ascii "\n") ++ (backticks f ++ (lang ++ ascii "\n"))) u) c.requires.0 c.requires.1 c.push_block_opening.auto.text c.push_block_opening.ensures in
-    let o = around_on d a.len a.base 0 c.requires.0 b x y w c.in_ok-n.was c.push_lifted.ensures c.in_ok-m.was in
-    o.reach
 
 pub returns : goal.returns
 returns c =

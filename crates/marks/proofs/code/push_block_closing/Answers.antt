@@ -9,28 +9,6 @@ use Rattle.marks.proofs.Spans.{not_wanted}
 use Rattle.text.proofs.Writing.{owes_all, owes_last, push_on, push_stop, stops}
 use Rattle.marks.proofs.code.push_block_closing.Goals as goal
 
-pub push_repeated-requires : goal.push_repeated-requires
-push_repeated-requires c =
-    let a = c.args in
-    let x = cond (not a.ended) (ascii "\n") [] in
-    let y = backticks a.fence in
-    let nl = ascii "\n" in
-    let o₁ = owes_all a.text.now a.len (push (x ++ (y ++ nl))) c.requires (ap (λ l. push (l ++ (y ++ nl)) (take a.len a.text.now)) (not_wanted a.ended nl)) in
-    let o₂ = push_on x (y ++ nl) o₁ c.in_ok-n.was c.push_byte_if.ensures in
-    o₂.reach
-
-pub push_byte-requires : goal.push_byte-requires
-unfolding backticks
-push_byte-requires c =
-    let a = c.args in
-    let x = cond (not a.ended) (ascii "\n") [] in
-    let y = backticks a.fence in
-    let nl = ascii "\n" in
-    let o₁ = owes_all a.text.now a.len (push (x ++ (y ++ nl))) c.requires (ap (λ l. push (l ++ (y ++ nl)) (take a.len a.text.now)) (not_wanted a.ended nl)) in
-    let o₂ = push_on x (y ++ nl) o₁ c.in_ok-n.was c.push_byte_if.ensures in
-    let o₃ = push_on y nl o₂ c.in_ok-m.was c.push_repeated.ensures in
-    o₃.reach
-
 pub returns : goal.returns
 unfolding backticks
 returns c =

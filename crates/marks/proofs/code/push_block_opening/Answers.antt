@@ -2,58 +2,12 @@ use mathlib.Core.Path.{sym, ap, ◌∙◌}
 use mathlib.Core.Bool.{Bool, cond, not}
 use mathlib.Core.List.{[], ◌++◌}
 use lib.ListN.{take}
-use lib.Seq.{length-take-le}
 use Rattle.spec.specs.Bytes.{ascii}
 use Rattle.spec.specs.Out.{push}
 use Rattle.spec.specs.Md.Elements.Code.{backticks, sanitize_attr_value}
 use Rattle.marks.proofs.Spans.{not_wanted}
 use Rattle.text.proofs.Writing.{owes_all, owes_last, push_on, push_stop, stops}
 use Rattle.marks.proofs.code.push_block_opening.Goals as goal
-
-pub slice_bounds-ends_with-end-2 : goal.slice_bounds-ends_with-end-2
-slice_bounds-ends_with-end-2 c =
-    sym (length-take-le c.args.len c.args.text.now c.requires)
-
-pub push_repeated-requires : goal.push_repeated-requires
-push_repeated-requires c =
-    let a = c.args in
-    let begun = c.ends_with-begun.result in
-    let x = cond (not begun) (ascii "\n") [] in
-    let y = backticks a.fence in
-    let z = sanitize_attr_value a.lang.now in
-    let nl = ascii "\n" in
-    let o₁ = owes_all a.text.now a.len (push (x ++ (y ++ (z ++ nl)))) c.requires (ap (λ (t : Bool). push (cond t [] (ascii "\n") ++ (y ++ (z ++ nl))) (take a.len a.text.now)) (sym c.ends_with-begun.ensures) ∙ ap (λ l. push (l ++ (y ++ (z ++ nl))) (take a.len a.text.now)) (not_wanted begun nl)) in
-    let o₂ = push_on x (y ++ (z ++ nl)) o₁ c.in_ok-n.was c.push_byte_if.ensures in
-    o₂.reach
-
-pub push_sanitized-requires : goal.push_sanitized-requires
-unfolding backticks
-push_sanitized-requires c =
-    let a = c.args in
-    let begun = c.ends_with-begun.result in
-    let x = cond (not begun) (ascii "\n") [] in
-    let y = backticks a.fence in
-    let z = sanitize_attr_value a.lang.now in
-    let nl = ascii "\n" in
-    let o₁ = owes_all a.text.now a.len (push (x ++ (y ++ (z ++ nl)))) c.requires (ap (λ (t : Bool). push (cond t [] (ascii "\n") ++ (y ++ (z ++ nl))) (take a.len a.text.now)) (sym c.ends_with-begun.ensures) ∙ ap (λ l. push (l ++ (y ++ (z ++ nl))) (take a.len a.text.now)) (not_wanted begun nl)) in
-    let o₂ = push_on x (y ++ (z ++ nl)) o₁ c.in_ok-n.was c.push_byte_if.ensures in
-    let o₃ = push_on y (z ++ nl) o₂ c.in_ok-m.was c.push_repeated.ensures in
-    o₃.reach
-
-pub push_byte-requires : goal.push_byte-requires
-unfolding backticks
-push_byte-requires c =
-    let a = c.args in
-    let begun = c.ends_with-begun.result in
-    let x = cond (not begun) (ascii "\n") [] in
-    let y = backticks a.fence in
-    let z = sanitize_attr_value a.lang.now in
-    let nl = ascii "\n" in
-    let o₁ = owes_all a.text.now a.len (push (x ++ (y ++ (z ++ nl)))) c.requires (ap (λ (t : Bool). push (cond t [] (ascii "\n") ++ (y ++ (z ++ nl))) (take a.len a.text.now)) (sym c.ends_with-begun.ensures) ∙ ap (λ l. push (l ++ (y ++ (z ++ nl))) (take a.len a.text.now)) (not_wanted begun nl)) in
-    let o₂ = push_on x (y ++ (z ++ nl)) o₁ c.in_ok-n.was c.push_byte_if.ensures in
-    let o₃ = push_on y (z ++ nl) o₂ c.in_ok-m.was c.push_repeated.ensures in
-    let o₄ = push_on z nl o₃ c.in_ok-k.was c.push_sanitized.ensures in
-    o₄.reach
 
 pub returns : goal.returns
 unfolding backticks

@@ -7,15 +7,6 @@ use Rattle.spec.specs.Md.Elements.Code.{backticks}
 use Rattle.text.proofs.Writing.{owes_all, owes_last, push_on, push_stop, stops}
 use Rattle.marks.proofs.code.push_closing.Goals as goal
 
-pub push_repeated-requires : goal.push_repeated-requires
-push_repeated-requires c =
-    let a = c.args in
-    let x = cond a.space (ascii " ") [] in
-    let y = backticks a.fence in
-    let o₁ = owes_all a.text.now a.len (push (x ++ y)) c.requires refl in
-    let o₂ = push_on x y o₁ c.in_ok-n.was c.push_byte_if.ensures in
-    o₂.reach
-
 pub returns : goal.returns
 unfolding backticks
 returns c =

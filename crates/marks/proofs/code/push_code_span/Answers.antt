@@ -1,5 +1,5 @@
 use Prim.Native.Nat.{ℕ, ◌+◌, ◌-◌, ◌≤◌}
-use mathlib.Core.Path.{sym, ap, ◌∙◌}
+use mathlib.Core.Path.{ap, ◌∙◌}
 use mathlib.Core.Bool.{cond}
 use mathlib.Core.List.{List, [], ◌++◌}
 use lib.ListN.{length, take, drop, length-drop}
@@ -9,73 +9,16 @@ use Rattle.spec.specs.Out.{push}
 use Rattle.spec.specs.Md.Elements.Code.{backticks, needs_space, max_backtick_run}
 use Rattle.text.proofs.Reading.{rest_part}
 use Rattle.text.proofs.Sourcing.{lent_front}
-use Rattle.text.proofs.Lifting.{around_full, joined_reach, around_on, around_stop}
+use Rattle.text.proofs.Lifting.{around_full, around_on, around_stop}
 use Rattle.marks.proofs.Spans.{span_is, run_is_short}
 use Rattle.text.proofs.Writing.{alike, owes_last, stops}
 use native.Mathlib.Omega.{arith}
 use Rattle.marks.proofs.code.push_code_span.Goals as goal
 
-pub slice_bounds-max_backtick_run-count : goal.slice_bounds-max_backtick_run-count
-slice_bounds-max_backtick_run-count c =
-    omega (arith, c.requires.1)
-
-pub slice_bounds-max_backtick_run-start : goal.slice_bounds-max_backtick_run-start
-slice_bounds-max_backtick_run-start c =
-    omega (arith, c.requires.1)
-
 pub overflow_add-fence : goal.overflow_add-fence
 overflow_add-fence c =
     let a = c.args in
     omega (arith, run_is_short _ c.max_backtick_run-fence.ensures, length-take-le (length a.text.now - a.base) (drop a.base a.text.now) (omega (arith, length-drop a.base a.text.now)))
-
-pub slice_bounds-needs_space-count : goal.slice_bounds-needs_space-count
-slice_bounds-needs_space-count c =
-    omega (arith, c.requires.1)
-
-pub slice_bounds-needs_space-start : goal.slice_bounds-needs_space-start
-slice_bounds-needs_space-start c =
-    omega (arith, c.requires.1)
-
-pub slice_bounds-push_opening-end : goal.slice_bounds-push_opening-end
-slice_bounds-push_opening-end c =
-    omega (arith, c.requires.1)
-
-pub slice_bounds-push_opening-end-2 : goal.slice_bounds-push_opening-end-2
-slice_bounds-push_opening-end-2 c =
-    sym (length-take-le c.args.base c.args.text.now (omega (arith, c.requires.1)))
-
-pub push_opening-requires : goal.push_opening-requires
-push_opening-requires c =
-    omega (arith, c.requires.0, length-take-le c.args.base c.args.text.now (omega (arith, c.requires.1)))
-
-pub push_lifted-requires : goal.push_lifted-requires
-push_lifted-requires c =
-    let a = c.args in
-    let d = a.text.now in
-    let t = take a.len d in
-    let b : a.base ≤ length d = omega (arith, c.requires.1) in
-    let f = c.max_backtick_run-fence.result + 1 in
-    let s = c.needs_space-space.result in
-    let x = cond (ends_with (ascii "`") t) (ascii " ") [] ++ (backticks f ++ cond s (ascii " ") []) in
-    let y = cond s (ascii " ") [] ++ backticks f in
-    let e = span_is a.in_being (drop a.base d) t f s (ap (λ (n : ℕ). n + 1) (c.max_backtick_run-fence.ensures ∙ ap max_backtick_run (rest_part a.base d))) (c.needs_space-space.ensures ∙ ap needs_space (rest_part a.base d)) in
-    let w = lent_front a.base a.len d _ (λ (u : List ℕ). push (cond (ends_with (ascii "`") u) (ascii " ") [] ++ (backticks f ++ cond s (ascii " ") [])) u) c.requires.0 b c.push_opening.auto.text c.push_opening.ensures in
-    (joined_reach d a.len a.base a.in_being c.requires.0 c.requires.1 (push x) w c.in_ok-n.was, omega (arith, w.long))
-
-pub push_closing-requires : goal.push_closing-requires
-push_closing-requires c =
-    let a = c.args in
-    let d = a.text.now in
-    let t = take a.len d in
-    let b : a.base ≤ length d = omega (arith, c.requires.1) in
-    let f = c.max_backtick_run-fence.result + 1 in
-    let s = c.needs_space-space.result in
-    let x = cond (ends_with (ascii "`") t) (ascii " ") [] ++ (backticks f ++ cond s (ascii " ") []) in
-    let y = cond s (ascii " ") [] ++ backticks f in
-    let e = span_is a.in_being (drop a.base d) t f s (ap (λ (n : ℕ). n + 1) (c.max_backtick_run-fence.ensures ∙ ap max_backtick_run (rest_part a.base d))) (c.needs_space-space.ensures ∙ ap needs_space (rest_part a.base d)) in
-    let w = lent_front a.base a.len d _ (λ (u : List ℕ). push (cond (ends_with (ascii "`") u) (ascii " ") [] ++ (backticks f ++ cond s (ascii " ") [])) u) c.requires.0 b c.push_opening.auto.text c.push_opening.ensures in
-    let o = around_on d a.len a.base a.in_being c.requires.0 c.requires.1 x y w c.in_ok-n.was c.push_lifted.ensures c.in_ok-m.was in
-    o.reach
 
 pub returns : goal.returns
 returns c =

@@ -1,38 +1,20 @@
 use Prim.Native.Nat.{ℕ}
 use mathlib.Core.List.{List, [], ◌∷◌}
 use mathlib.Core.Path.{sym, ◌∙◌, ap}
-use lib.Seq.{length-take-le}
 use Rattle.spec.specs.Bytes.{same}
 use Rattle.text.proofs.Reading.{rest_part}
 use Rattle.marks.proofs.Leaves.{emphasis_none, emphasis_not, emphasis_is}
-use native.Mathlib.Omega.{arith}
 use Rattle.marks.proofs.emphasis.ends_with_emphasis.Goals as goal
 
 pub returns-then-marker-acc : goal.returns-then-marker-acc
 returns-then-marker-acc c =
     sym (emphasis_none c.args.marker.now c.args.acc.now c.if-marker-acc.true)
 
-pub slice_bounds-is_same-count : goal.slice_bounds-is_same-count
-slice_bounds-is_same-count c =
-    c.trim_end_matches-n.ensures.within
-
-pub slice_bounds-is_same-start : goal.slice_bounds-is_same-start
-slice_bounds-is_same-start c =
-    c.trim_end_matches-n.ensures.within
-
-pub slice_bounds-is_same-end : goal.slice_bounds-is_same-end
-slice_bounds-is_same-end c =
-    omega arith
-
 pub returns-then-not-n-acc : goal.returns-then-not-n-acc
 returns-then-not-n-acc c =
     let a = c.args in
     sym (emphasis_not a.marker.now a.acc.now c.trim_end_matches-n.result c.is_same.result c.if-marker-acc.false c.trim_end_matches-n.ensures
     (c.is_same.ensures ∙ ap (λ (l : List ℕ). same l (32 ∷ [])) (rest_part c.trim_end_matches-n.result a.acc.now)) (c.if-not-n-acc.true))
-
-pub slice_bounds-is_exact_marker_end-end : goal.slice_bounds-is_exact_marker_end-end
-slice_bounds-is_exact_marker_end-end c =
-    sym (length-take-le c.trim_end_matches-n.result c.args.acc.now c.trim_end_matches-n.ensures.within)
 
 pub returns : goal.returns
 returns c =

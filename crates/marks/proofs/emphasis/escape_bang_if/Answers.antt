@@ -9,8 +9,3 @@ pub returns-then-not-bang : goal.returns-then-not-bang
 returns-then-not-bang c =
     let a = c.args in
     alike (ap (λ (t : Bool). bang_if t (take a.len a.text.now)) (c.if-not-bang.true)) (record { says = keeps a.text.now a.len c.requires })
-
-pub returns : goal.returns
-returns c =
-    let a = c.args in
-    alike (ap (λ (t : Bool). bang_if t (take a.len a.text.now)) (c.if-not-bang.false)) c.escape_trailing_bang.ensures

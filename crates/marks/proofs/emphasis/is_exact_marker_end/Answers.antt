@@ -1,7 +1,4 @@
 use mathlib.Core.Path.{sym, ◌∙◌}
-use Prim.Native.Nat.{◌-◌}
-use lib.ListN.{length}
-use lib.Seq.{length-take-le}
 use Rattle.text.proofs.Reading.{ends_long}
 use Rattle.marks.proofs.Leaves.{exact_not, exact_is}
 use native.Mathlib.Omega.{arith}
@@ -15,16 +12,6 @@ pub overflow_sub-n : goal.overflow_sub-n
 overflow_sub-n c =
     let a = c.args in
     omega (arith, ends_long a.tail.now a.marker.now (sym c.ends_with.ensures ∙ c.if-not-ends_with.false))
-
-pub slice_bounds-ends_with_byte-end : goal.slice_bounds-ends_with_byte-end
-slice_bounds-ends_with_byte-end c =
-    let a = c.args in
-    sym (length-take-le (length a.tail.now - length a.marker.now) a.tail.now (omega arith))
-
-pub slice_bounds-backslashes-end : goal.slice_bounds-backslashes-end
-slice_bounds-backslashes-end c =
-    let a = c.args in
-    sym (length-take-le (length a.tail.now - length a.marker.now) a.tail.now (omega arith))
 
 pub returns : goal.returns
 returns c =

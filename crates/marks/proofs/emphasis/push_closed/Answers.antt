@@ -1,27 +1,15 @@
 use Prim.Native.Nat.{ℕ, ◌+◌, ◌-◌, ◌≤◌}
-use mathlib.Core.Path.{◌≡◌, ap, ◌∙◌}
+use mathlib.Core.Path.{◌≡◌, ap}
 use mathlib.Core.Bool.{cond}
 use mathlib.Core.List.{[], ◌++◌}
 use lib.ListN.{length, take, drop, length-append, length-drop}
 use lib.Seq.{length-take-le}
 use Rattle.spec.specs.Bytes.{ascii}
 use Rattle.marks.specs.Marked.{marked_with}
-use Rattle.marks.proofs.Marking.{one_small, closed_full, end_long, end_reach, end_fits, end_writes, end_size}
+use Rattle.marks.proofs.Marking.{closed_full, end_fits, end_writes, end_size}
 use Rattle.text.proofs.Writing.{done, full, stops}
 use native.Mathlib.Omega.{arith}
 use Rattle.marks.proofs.emphasis.push_closed.Goals as goal
-
-pub overflow_add-size : goal.overflow_add-size
-overflow_add-size c =
-    omega (arith, c.requires.1.0)
-
-pub overflow_add-size-2 : goal.overflow_add-size-2
-overflow_add-size-2 c =
-    omega (arith, c.requires.1.0, c.one_if.ensures, one_small c.args.trail)
-
-pub overflow_sub-text : goal.overflow_sub-text
-overflow_sub-text c =
-    omega (arith, c.requires.0.0, c.requires.1.0)
 
 pub returns-then-text-len : goal.returns-then-text-len
 returns-then-text-len c =
@@ -33,91 +21,6 @@ returns-then-text-len c =
     let y = length-take-le a.n (drop a.from d) (omega (arith, length-drop a.from d, c.requires.1.0)) in
     let z = length-append a.marker.now (cond a.trail (ascii " ") []) in
     record { says = closed_full d a.len a.marker.now (take a.n (drop a.from d) ++ end) a.lead (omega (arith, c.requires.0.0, c.requires.1.0)) (omega (arith, x, y, z, c.requires.1.1)) (omega (arith, x, y, s, c.if-text-len.true)) }
-
-pub overflow_sub-base : goal.overflow_sub-base
-overflow_sub-base c =
-    let a = c.args in
-    let d = a.text.now in
-    let end = a.marker.now ++ cond a.trail (ascii " ") [] in
-    let s : a.n + length a.marker.now + c.one_if.result ≡ a.n + length end = end_size a.marker.now a.n a.trail c.one_if.ensures in
-    let i : a.n + length end ≤ length d = omega (arith, c.if-text-len.false, c.requires.0.0, c.requires.1.0) in
-    let b = ap (λ (k : ℕ). length d - k) s in
-    let h : a.len ≤ length d - (a.n + length a.marker.now + c.one_if.result) = omega (arith, c.if-text-len.false, c.requires.0.0, c.requires.1.0) in
-    let g : a.from ≤ length d - (a.n + length a.marker.now + c.one_if.result) = omega (arith, c.if-text-len.false, c.requires.0.0, c.requires.0.1, c.requires.1.0) in
-    omega (arith, i, s)
-
-pub lift-requires : goal.lift-requires
-lift-requires c =
-    let a = c.args in
-    let d = a.text.now in
-    let end = a.marker.now ++ cond a.trail (ascii " ") [] in
-    let s : a.n + length a.marker.now + c.one_if.result ≡ a.n + length end = end_size a.marker.now a.n a.trail c.one_if.ensures in
-    let i : a.n + length end ≤ length d = omega (arith, c.if-text-len.false, c.requires.0.0, c.requires.1.0) in
-    let b = ap (λ (k : ℕ). length d - k) s in
-    let h : a.len ≤ length d - (a.n + length a.marker.now + c.one_if.result) = omega (arith, c.if-text-len.false, c.requires.0.0, c.requires.1.0) in
-    let g : a.from ≤ length d - (a.n + length a.marker.now + c.one_if.result) = omega (arith, c.if-text-len.false, c.requires.0.0, c.requires.0.1, c.requires.1.0) in
-    (g, omega (arith, i, s))
-
-pub slice_bounds-push_end-count : goal.slice_bounds-push_end-count
-slice_bounds-push_end-count c =
-    let a = c.args in
-    let d = a.text.now in
-    let end = a.marker.now ++ cond a.trail (ascii " ") [] in
-    let s : a.n + length a.marker.now + c.one_if.result ≡ a.n + length end = end_size a.marker.now a.n a.trail c.one_if.ensures in
-    let i : a.n + length end ≤ length d = omega (arith, c.if-text-len.false, c.requires.0.0, c.requires.1.0) in
-    let b = ap (λ (k : ℕ). length d - k) s in
-    let h : a.len ≤ length d - (a.n + length a.marker.now + c.one_if.result) = omega (arith, c.if-text-len.false, c.requires.0.0, c.requires.1.0) in
-    let g : a.from ≤ length d - (a.n + length a.marker.now + c.one_if.result) = omega (arith, c.if-text-len.false, c.requires.0.0, c.requires.0.1, c.requires.1.0) in
-    omega (arith, c.lift.ensures.long)
-
-pub slice_bounds-push_end-start : goal.slice_bounds-push_end-start
-slice_bounds-push_end-start c =
-    let a = c.args in
-    let d = a.text.now in
-    let end = a.marker.now ++ cond a.trail (ascii " ") [] in
-    let s : a.n + length a.marker.now + c.one_if.result ≡ a.n + length end = end_size a.marker.now a.n a.trail c.one_if.ensures in
-    let i : a.n + length end ≤ length d = omega (arith, c.if-text-len.false, c.requires.0.0, c.requires.1.0) in
-    let b = ap (λ (k : ℕ). length d - k) s in
-    let h : a.len ≤ length d - (a.n + length a.marker.now + c.one_if.result) = omega (arith, c.if-text-len.false, c.requires.0.0, c.requires.1.0) in
-    let g : a.from ≤ length d - (a.n + length a.marker.now + c.one_if.result) = omega (arith, c.if-text-len.false, c.requires.0.0, c.requires.0.1, c.requires.1.0) in
-    omega (arith, c.lift.ensures.long)
-
-pub slice_bounds-push_end-end : goal.slice_bounds-push_end-end
-slice_bounds-push_end-end c =
-    let a = c.args in
-    let d = a.text.now in
-    let end = a.marker.now ++ cond a.trail (ascii " ") [] in
-    let s : a.n + length a.marker.now + c.one_if.result ≡ a.n + length end = end_size a.marker.now a.n a.trail c.one_if.ensures in
-    let i : a.n + length end ≤ length d = omega (arith, c.if-text-len.false, c.requires.0.0, c.requires.1.0) in
-    let b = ap (λ (k : ℕ). length d - k) s in
-    let h : a.len ≤ length d - (a.n + length a.marker.now + c.one_if.result) = omega (arith, c.if-text-len.false, c.requires.0.0, c.requires.1.0) in
-    let g : a.from ≤ length d - (a.n + length a.marker.now + c.one_if.result) = omega (arith, c.if-text-len.false, c.requires.0.0, c.requires.0.1, c.requires.1.0) in
-    omega (arith, c.lift.ensures.long)
-
-pub push_end-requires : goal.push_end-requires
-push_end-requires c =
-    let a = c.args in
-    let d = a.text.now in
-    let end = a.marker.now ++ cond a.trail (ascii " ") [] in
-    let s : a.n + length a.marker.now + c.one_if.result ≡ a.n + length end = end_size a.marker.now a.n a.trail c.one_if.ensures in
-    let i : a.n + length end ≤ length d = omega (arith, c.if-text-len.false, c.requires.0.0, c.requires.1.0) in
-    let b = ap (λ (k : ℕ). length d - k) s in
-    let h : a.len ≤ length d - (a.n + length a.marker.now + c.one_if.result) = omega (arith, c.if-text-len.false, c.requires.0.0, c.requires.1.0) in
-    let g : a.from ≤ length d - (a.n + length a.marker.now + c.one_if.result) = omega (arith, c.if-text-len.false, c.requires.0.0, c.requires.0.1, c.requires.1.0) in
-    end_reach end i b h g c.lift.ensures
-
-pub push_done-requires : goal.push_done-requires
-push_done-requires c =
-    let a = c.args in
-    let d = a.text.now in
-    let end = a.marker.now ++ cond a.trail (ascii " ") [] in
-    let s : a.n + length a.marker.now + c.one_if.result ≡ a.n + length end = end_size a.marker.now a.n a.trail c.one_if.ensures in
-    let i : a.n + length end ≤ length d = omega (arith, c.if-text-len.false, c.requires.0.0, c.requires.1.0) in
-    let b = ap (λ (k : ℕ). length d - k) s in
-    let h : a.len ≤ length d - (a.n + length a.marker.now + c.one_if.result) = omega (arith, c.if-text-len.false, c.requires.0.0, c.requires.1.0) in
-    let g : a.from ≤ length d - (a.n + length a.marker.now + c.one_if.result) = omega (arith, c.if-text-len.false, c.requires.0.0, c.requires.0.1, c.requires.1.0) in
-    let w = done c.in_ok-push_end.was c.push_end.ensures in
-    (h, omega (arith, end_long end i b h g c.lift.ensures w, i, s))
 
 pub returns : goal.returns
 returns c =

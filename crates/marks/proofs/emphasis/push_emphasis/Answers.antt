@@ -1,42 +1,10 @@
-use mathlib.Core.Path.{refl, ◌∙◌}
+use mathlib.Core.Path.{refl}
 use Rattle.spec.specs.Out.{push, beside}
 use Rattle.marks.proofs.Marking.{all_blank, some_black, all_marked}
 use Rattle.text.proofs.Lifting.{lifted_writes}
 use Rattle.text.proofs.Writing.{alike}
 use native.Mathlib.Omega.{arith}
 use Rattle.marks.proofs.emphasis.push_emphasis.Goals as goal
-
-pub overflow_add-end : goal.overflow_add-end
-overflow_add-end c =
-    omega (arith, c.requires)
-
-pub slice_bounds-trim_end-count : goal.slice_bounds-trim_end-count
-slice_bounds-trim_end-count c =
-    omega (arith, c.requires)
-
-pub slice_bounds-trim_end-start : goal.slice_bounds-trim_end-start
-slice_bounds-trim_end-start c =
-    omega (arith, c.requires)
-
-pub slice_bounds-trim_end-end : goal.slice_bounds-trim_end-end
-slice_bounds-trim_end-end c =
-    omega (arith, c.requires)
-
-pub overflow_sub-base : goal.overflow_sub-base
-overflow_sub-base c =
-    omega (arith, c.requires)
-
-pub lift-requires : goal.lift-requires
-lift-requires c =
-    (omega (arith, c.requires), omega (arith, c.requires))
-
-pub push_lifted-requires : goal.push_lifted-requires
-push_lifted-requires c =
-    (omega (arith, c.requires), omega (arith, c.requires, c.lift.ensures.long))
-
-pub shape_of-text-then-trim_end-eq0 : goal.shape_of-text-then-trim_end-eq0
-shape_of-text-then-trim_end-eq0 c =
-    c.push_lifted.auto.text ∙ c.lift.ensures.long
 
 pub returns-then-trim_end-eq0 : goal.returns-then-trim_end-eq0
 returns-then-trim_end-eq0 c =

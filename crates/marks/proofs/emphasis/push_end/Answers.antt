@@ -6,15 +6,6 @@ use Rattle.spec.specs.Out.{push}
 use Rattle.text.proofs.Writing.{owes_all, owes_last, push_on, push_stop, stops}
 use Rattle.marks.proofs.emphasis.push_end.Goals as goal
 
-pub push_byte_if-requires : goal.push_byte_if-requires
-push_byte_if-requires c =
-    let a = c.args in
-    let x = a.marker.now in
-    let y = cond a.trail (ascii " ") [] in
-    let o₁ = owes_all a.text.now a.len (push (x ++ y)) c.requires refl in
-    let o₂ = push_on x y o₁ c.in_ok-n.was c.push_all.ensures in
-    o₂.reach
-
 pub returns : goal.returns
 returns c =
     let a = c.args in

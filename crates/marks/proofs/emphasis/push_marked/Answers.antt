@@ -4,33 +4,6 @@ use Rattle.text.proofs.Writing.{alike}
 use native.Mathlib.Omega.{arith}
 use Rattle.marks.proofs.emphasis.push_marked.Goals as goal
 
-pub overflow_add-end : goal.overflow_add-end
-overflow_add-end c =
-    omega (arith, c.requires.0)
-
-pub slice_bounds-starts_with_byte-count : goal.slice_bounds-starts_with_byte-count
-slice_bounds-starts_with_byte-count c =
-    omega (arith, c.requires.0)
-
-pub slice_bounds-starts_with_byte-start : goal.slice_bounds-starts_with_byte-start
-slice_bounds-starts_with_byte-start c =
-    omega (arith, c.requires.0)
-
-pub slice_bounds-starts_with_byte-end : goal.slice_bounds-starts_with_byte-end
-slice_bounds-starts_with_byte-end c =
-    omega (arith, c.requires.0)
-
-pub overflow_add-from : goal.overflow_add-from
-overflow_add-from c =
-    let a = c.args in
-    let d = a.text.now in
-    let lead = c.starts_with_byte-lead.result in
-    let f = c.one_if.ensures in
-    let e = c.starts_with_byte-lead.ensures in
-    let i = lead_fits d a.len a.n lead f e in
-    let j = lead_small d a.len a.n lead f e in
-    omega (arith, i, c.requires.0)
-
 pub slice_bounds-ends_with_byte-count : goal.slice_bounds-ends_with_byte-count
 slice_bounds-ends_with_byte-count c =
     let a = c.args in
@@ -44,17 +17,6 @@ slice_bounds-ends_with_byte-count c =
 
 pub slice_bounds-ends_with_byte-start : goal.slice_bounds-ends_with_byte-start
 slice_bounds-ends_with_byte-start c =
-    let a = c.args in
-    let d = a.text.now in
-    let lead = c.starts_with_byte-lead.result in
-    let f = c.one_if.ensures in
-    let e = c.starts_with_byte-lead.ensures in
-    let i = lead_fits d a.len a.n lead f e in
-    let j = lead_small d a.len a.n lead f e in
-    omega (arith, i, c.requires.0)
-
-pub slice_bounds-ends_with_byte-end : goal.slice_bounds-ends_with_byte-end
-slice_bounds-ends_with_byte-end c =
     let a = c.args in
     let d = a.text.now in
     let lead = c.starts_with_byte-lead.result in

@@ -10,8 +10,3 @@ pub returns-then-merged : goal.returns-then-merged
 returns-then-merged c =
     let a = c.args in
     alike (ap (λ (t : Bool). push (cond t [] a.marker.now) (take a.len a.text.now)) c.if-merged.true) (record { says = keeps_nothing a.text.now a.len c.requires })
-
-pub returns : goal.returns
-returns c =
-    let a = c.args in
-    alike (ap (λ (t : Bool). push (cond t [] a.marker.now) (take a.len a.text.now)) c.if-merged.false) c.push_all.ensures

@@ -2,7 +2,6 @@ use mathlib.Core.Path.{sym, ◌∙◌, refl}
 use mathlib.Core.List.{[], ◌∷◌}
 use Prim.Native.Nat.{◌+◌}
 use lib.ListN.{take, length}
-use lib.Seq.{length-take-le}
 use Rattle.spec.specs.Out.{push, cut}
 use Rattle.spec.specs.Md.Elements.Emphasis.{try_trim_prev_emphasis_marker, drop_end}
 use Rattle.text.proofs.Writing.{alike, keeps, owes_all, owes_on, owes_last, owes_nothing}
@@ -10,22 +9,10 @@ use Rattle.marks.proofs.Leaves.{prev_none, prev_space, prev_plain, short_done}
 use native.Mathlib.Omega.{arith}
 use Rattle.marks.proofs.emphasis.try_trim_prev_emphasis_marker.Goals as goal
 
-pub slice_bounds-ends_with_emphasis-end-2 : goal.slice_bounds-ends_with_emphasis-end-2
-slice_bounds-ends_with_emphasis-end-2 c =
-    sym (length-take-le c.args.len c.args.text.now c.requires)
-
 pub returns-then-not-ends_with_emphasis : goal.returns-then-not-ends_with_emphasis
 returns-then-not-ends_with_emphasis c =
     let a = c.args in
     alike (prev_none a.marker.now a.text.now a.len c.requires (sym c.ends_with_emphasis.ensures ∙ c.if-not-ends_with_emphasis.true)) (record { says = keeps a.text.now a.len c.requires })
-
-pub slice_bounds-ends_with_byte-end-2 : goal.slice_bounds-ends_with_byte-end-2
-slice_bounds-ends_with_byte-end-2 c =
-    sym (length-take-le c.args.len c.args.text.now c.requires)
-
-pub push_byte-requires : goal.push_byte-requires
-push_byte-requires c =
-    omega (arith, c.saturating_sub-n.ensures, c.requires)
 
 pub returns-then-ends_with_byte : goal.returns-then-ends_with_byte
 returns-then-ends_with_byte c =

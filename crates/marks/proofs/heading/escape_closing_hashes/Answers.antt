@@ -1,38 +1,12 @@
 use Prim.Native.Nat.{ℕ}
-use mathlib.Core.Path.{sym, ap, ◌∙◌}
+use mathlib.Core.Path.{ap, ◌∙◌}
 use mathlib.Core.Bool.{Bool, cond}
 use mathlib.Core.List.{List, ◌∷◌, ◌++◌}
 use lib.ListN.{take, drop}
-use lib.Seq.{length-take-le}
 use Rattle.spec.specs.Out.{replace, keep}
 use Rattle.text.proofs.Writing.{alike, keeps}
 use Rattle.marks.proofs.Headings.{closing}
-use native.Mathlib.Omega.{arith}
 use Rattle.marks.proofs.heading.escape_closing_hashes.Goals as goal
-
-pub slice_bounds-trim_end-end-2 : goal.slice_bounds-trim_end-end-2
-slice_bounds-trim_end-end-2 c =
-    sym (length-take-le c.args.len c.args.text.now c.requires)
-
-pub slice_bounds-trim_end_matches-end : goal.slice_bounds-trim_end_matches-end
-slice_bounds-trim_end_matches-end c =
-    omega (arith, c.trim_end-n.ensures.within, length-take-le c.args.len c.args.text.now c.requires, c.requires)
-
-pub slice_bounds-trim_end_matches-end-2 : goal.slice_bounds-trim_end_matches-end-2
-slice_bounds-trim_end_matches-end-2 c =
-    sym (length-take-le c.trim_end-n.result c.args.text.now (omega (arith, c.trim_end-n.ensures.within, length-take-le c.args.len c.args.text.now c.requires, c.requires)))
-
-pub slice_bounds-ends_with_byte-end : goal.slice_bounds-ends_with_byte-end
-slice_bounds-ends_with_byte-end c =
-    omega (arith, c.trim_end_matches-stem.ensures.within, length-take-le c.trim_end-n.result c.args.text.now (omega (arith, c.trim_end-n.ensures.within, length-take-le c.args.len c.args.text.now c.requires, c.requires)), c.trim_end-n.ensures.within, length-take-le c.args.len c.args.text.now c.requires, c.requires)
-
-pub slice_bounds-ends_with_byte-end-2 : goal.slice_bounds-ends_with_byte-end-2
-slice_bounds-ends_with_byte-end-2 c =
-    sym (length-take-le c.trim_end_matches-stem.result c.args.text.now (omega (arith, c.trim_end_matches-stem.ensures.within, length-take-le c.trim_end-n.result c.args.text.now (omega (arith, c.trim_end-n.ensures.within, length-take-le c.args.len c.args.text.now c.requires, c.requires)), c.trim_end-n.ensures.within, length-take-le c.args.len c.args.text.now c.requires, c.requires)))
-
-pub insert_byte-requires : goal.insert_byte-requires
-insert_byte-requires c =
-    (omega (arith, c.trim_end_matches-stem.ensures.within, length-take-le c.trim_end-n.result c.args.text.now (omega (arith, c.trim_end-n.ensures.within, length-take-le c.args.len c.args.text.now c.requires, c.requires)), c.trim_end-n.ensures.within, length-take-le c.args.len c.args.text.now c.requires, c.requires), c.requires)
 
 pub returns-then-stem-n : goal.returns-then-stem-n
 returns-then-stem-n c =

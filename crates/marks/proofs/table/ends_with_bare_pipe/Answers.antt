@@ -1,28 +1,15 @@
-use mathlib.Core.Path.{sym, ◌∙◌}
-use Prim.Native.Nat.{◌-◌}
-use lib.ListN.{length}
-use lib.Seq.{length-take-le}
+use Rattle.std.proofs.Common.{refl}
 use Rattle.spec.specs.Md.Elements.Emphasis.{drop_end}
-use Rattle.text.proofs.Reading.{ends_some}
-use native.Mathlib.Omega.{arith}
+use Rattle.text.proofs.Reading.{ends_is, ends_not, ends_none}
 use Rattle.marks.proofs.table.ends_with_bare_pipe.Goals as goal
 
-pub returns-then-not-ends_with_byte : goal.returns-then-not-ends_with_byte
+pub returns-in-len1-up : goal.returns-in-len1-up
 unfolding drop_end
-returns-then-not-ends_with_byte c =
-    let e = sym c.ends_with_byte.ensures ∙ c.if-not-ends_with_byte.true in
-    rw e
+returns-in-len1-up c =
+    rw (ends_is c.args.s.now 124 c.in-len1-up.len_at_least c.if-last-eq124.true, c.ends_with_byte.ensures) refl
 
-pub overflow_sub-n : goal.overflow_sub-n
-overflow_sub-n c =
-    omega (arith, ends_some c.args.s.now 124 (sym c.ends_with_byte.ensures ∙ c.if-not-ends_with_byte.false))
+pub returns-in_default : goal.returns-in_default
+returns-in_default c = rw (ends_none c.args.s.now 124 c.in_default.len_below) refl
 
-pub slice_bounds-ends_with_byte-end : goal.slice_bounds-ends_with_byte-end
-slice_bounds-ends_with_byte-end c =
-    sym (length-take-le (length c.args.s.now - 1) c.args.s.now (omega arith))
-
-pub returns : goal.returns
-unfolding drop_end
-returns c =
-    let e = sym c.ends_with_byte.ensures ∙ c.if-not-ends_with_byte.false in
-    rw (e, c.ends_with_byte-2.ensures)
+pub returns-in_default-2 : goal.returns-in_default-2
+returns-in_default-2 c = rw (ends_not c.args.s.now 124 c.if-last-eq124.false) refl

@@ -1,7 +1,4 @@
 use mathlib.Core.Path.{sym, ◌∙◌}
-use Prim.Native.Nat.{◌-◌}
-use lib.ListN.{length}
-use lib.Seq.{length-take-le}
 use Rattle.spec.specs.Bytes.{ascii}
 use Rattle.text.proofs.Reading.{ends_long}
 use Rattle.marks.proofs.Leaves.{cell_not, cell_is}
@@ -16,10 +13,6 @@ pub overflow_sub-n : goal.overflow_sub-n
 overflow_sub-n c =
     omega (arith, ends_long c.args.s.now (ascii "<br>") (sym c.ends_with.ensures ∙ c.if-not-ends_with.false))
 
-pub slice_bounds-backslashes-end : goal.slice_bounds-backslashes-end
-slice_bounds-backslashes-end c =
-    let s = c.args.s.now in sym (length-take-le (length s - 4) s (omega arith))
-
 pub returns : goal.returns
 returns c =
-    cell_is c.args.s.now c.backslashes-count.result (sym c.ends_with.ensures ∙ c.if-not-ends_with.false) c.backslashes-count.ensures
+    cell_is c.args.s.now c.backslashes.result (sym c.ends_with.ensures ∙ c.if-not-ends_with.false) c.backslashes.ensures

@@ -5,13 +5,9 @@ use lib.ListN.{length, take}
 use lib.Seq.{length-take-le}
 use Rattle.spec.specs.Out.{replace}
 use Rattle.spec.specs.Md.Elements.Table.{pipes_escaped, escape_table_cell_inplace}
-use Rattle.marks.proofs.Pipes.{pipes_none, escaping_none, escaping_on, escaping_all, escaping_full, piece_fits}
+use Rattle.marks.proofs.Pipes.{pipes_none, escaping_on, escaping_all, escaping_full, piece_fits}
 use native.Mathlib.Omega.{arith}
 use Rattle.marks.proofs.table.escape_table_cell_inplace.Goals as goal
-
-pub slice_bounds-count_bare_pipes-end-2 : goal.slice_bounds-count_bare_pipes-end-2
-slice_bounds-count_bare_pipes-end-2 c =
-    sym (length-take-le c.args.len c.args.text.now c.requires)
 
 pub returns-then-extra-eq0 : goal.returns-then-extra-eq0
 unfolding escape_table_cell_inplace replace
@@ -29,42 +25,15 @@ returns-then-text-len c =
     omega (arith, c.count_bare_pipes-extra.ensures, length-take-le a.len a.text.now c.requires) in
     record { says = escaping_full a.text.now c.requires e c.if-text-len.true }
 
-pub loop-i-init : goal.loop-i-init
-loop-i-init c =
-    let a = c.args in
-    let e : a.len + c.count_bare_pipes-extra.result ≡ length (pipes_escaped false (take a.len a.text.now)) =
-    omega (arith, c.count_bare_pipes-extra.ensures, length-take-le a.len a.text.now c.requires) in
-    escaping_none a.text.now c.requires e
-
-pub slice_bounds-ends_with_bare_pipe-end : goal.slice_bounds-ends_with_bare_pipe-end
-slice_bounds-ends_with_bare_pipe-end c =
-    omega (arith, c.loop-i.invariant.within, c.loop-i.invariant.long, c.requires)
-
-pub slice_bounds-ends_with_bare_pipe-end-in-loop-i : goal.slice_bounds-ends_with_bare_pipe-end-in-loop-i
-slice_bounds-ends_with_bare_pipe-end-in-loop-i c =
-    sym (length-take-le c.loop-i.i c.loop-i.text (omega (arith, c.loop-i.invariant.within, c.loop-i.invariant.long, c.requires)))
-
-pub bounds-text-i : goal.bounds-text-i
-bounds-text-i c =
-    omega (arith, c.loop-i-test.true, c.loop-i.invariant.within, c.loop-i.invariant.long, c.requires)
-
 pub put_before-at-requires : goal.put_before-at-requires
 put_before-at-requires c =
     let l = c.loop-i in
     (piece_fits c.args.text.now c.requires l.invariant (l.i - 1) (omega (arith, c.loop-i-test.true)) c.ends_with_bare_pipe-bare.result c.ends_with_bare_pipe-bare.ensures, omega (arith, l.invariant.under, l.invariant.long, c.if-text-len.false, c.requires))
 
-pub loop-i-smaller : goal.loop-i-smaller
-loop-i-smaller c =
-    omega (arith, c.loop-i-test.true)
-
 pub loop-i-preserved : goal.loop-i-preserved
 loop-i-preserved c =
     let l = c.loop-i in
     escaping_on c.args.text.now c.requires l.invariant (l.i - 1) (omega (arith, c.loop-i-test.true)) c.ends_with_bare_pipe-bare.result c.ends_with_bare_pipe-bare.ensures c.put_before-at.ensures
-
-pub shape_of-text : goal.shape_of-text
-shape_of-text c =
-    c.loop-i.invariant.long
 
 pub returns : goal.returns
 unfolding escape_table_cell_inplace

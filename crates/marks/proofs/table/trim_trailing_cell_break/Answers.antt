@@ -1,48 +1,30 @@
-use Prim.Native.Nat.{◌-◌}
-use mathlib.Core.Path.{sym, ◌∙◌, ap}
-use lib.ListN.{length}
-use lib.Seq.{length-take-le, take-length}
-use Rattle.spec.specs.Md.Elements.Table.{without_breaks}
-use Rattle.marks.proofs.Leaves.{cell_long, breaks_off, breaks_end, breaks_on}
-use native.Mathlib.Omega.{arith}
+use Rattle.std.proofs.Common.{◌-◌, ◌≤◌, sym, ◌∙◌, arith}
+use Rattle.std.proofs.Math.Seq.{length-take-le}
+use Rattle.marks.proofs.Leaves.{cell_long, breaks_end, breaks_on}
 use Rattle.marks.proofs.table.trim_trailing_cell_break.Goals as goal
 
-pub loop-left-init : goal.loop-left-init
-loop-left-init c =
-    let s = c.args.s.now in
-    (omega arith, ap (without_breaks (length s)) (sym (take-length s)))
+pub slice_bounds-trim_trailing_space-count : goal.slice_bounds-trim_trailing_space-count
+slice_bounds-trim_trailing_space-count c =
+    let n = c.loop-n.n in
+    omega (arith, cell_long _ (sym c.loop-n-test.ensures), length-take-le n c.args.s.now c.loop-n.invariant.within)
 
-pub slice_bounds-ends_with_cell_break-end : goal.slice_bounds-ends_with_cell_break-end
-slice_bounds-ends_with_cell_break-end c =
-    sym (length-take-le c.loop-left.n c.args.s.now c.loop-left.invariant.0)
+pub loop-n-smaller : goal.loop-n-smaller
+loop-n-smaller c =
+    let s = c.args.s.now in let n = c.loop-n.n in
+    omega (arith, cell_long _ (sym c.loop-n-test.ensures), length-take-le n s c.loop-n.invariant.within, c.trim_trailing_space-n.ensures.within, length-take-le (n - 4) s (omega arith))
 
-pub returns-then-not-ends_with_cell_break : goal.returns-then-not-ends_with_cell_break
-returns-then-not-ends_with_cell_break c =
-    let s = c.args.s.now in let l = c.loop-left in
-    record { within = l.invariant.0; is = sym (l.invariant.1 ∙ breaks_end s l.n l.left (sym c.ends_with_cell_break.ensures ∙ c.if-not-ends_with_cell_break.true)) }
-
-pub overflow_sub-m : goal.overflow_sub-m
-overflow_sub-m c =
-    let s = c.args.s.now in let l = c.loop-left in
-    omega (arith, cell_long _ (sym c.ends_with_cell_break.ensures ∙ c.if-not-ends_with_cell_break.false), length-take-le l.n s l.invariant.0)
-
-pub slice_bounds-trim_trailing_space-end : goal.slice_bounds-trim_trailing_space-end
-slice_bounds-trim_trailing_space-end c =
-    let s = c.args.s.now in let l = c.loop-left in
-    sym (length-take-le (l.n - 4) s (omega (arith, l.invariant.0)))
-
-pub overflow_sub-left : goal.overflow_sub-left
-overflow_sub-left c =
-    omega (arith, c.loop-left-test.true)
-
-pub loop-left-preserved : goal.loop-left-preserved
-loop-left-preserved c =
-    let s = c.args.s.now in let l = c.loop-left in (
-      omega (arith, c.trim_trailing_space-n.ensures.within, length-take-le (l.n - 4) s (omega (arith, l.invariant.0)), l.invariant.0),
-      l.invariant.1 ∙ breaks_on s l.n c.trim_trailing_space-n.result l.left c.loop-left-test.true l.invariant.0 (sym c.ends_with_cell_break.ensures ∙ c.if-not-ends_with_cell_break.false) c.trim_trailing_space-n.ensures,
-    )
+pub loop-n-preserved : goal.loop-n-preserved
+loop-n-preserved c =
+    let s = c.args.s.now in let n = c.loop-n.n in let i = c.loop-n.invariant in
+    let long : 4 ≤ n = omega (arith, cell_long _ (sym c.loop-n-test.ensures), length-take-le n s i.within) in
+    let m = length-take-le (n - 4) s (omega arith) in record {
+      within = omega (arith, c.trim_trailing_space-n.ensures.within, m);
+      left = i.left - 1;
+      enough = omega (arith, c.trim_trailing_space-n.ensures.within, m);
+      is = i.is ∙ breaks_on s n c.trim_trailing_space-n.result i.left (omega arith) i.within (sym c.loop-n-test.ensures) c.trim_trailing_space-n.ensures;
+    }
 
 pub returns : goal.returns
 returns c =
-    let s = c.args.s.now in let l = c.loop-left in
-    record { within = l.invariant.0; is = sym (l.invariant.1 ∙ breaks_off s l.n l.left c.loop-left-test.false) }
+    let i = c.loop-n.invariant in
+    record { within = i.within; is = sym (i.is ∙ breaks_end c.args.s.now c.loop-n.n i.left (sym c.loop-n-test.ensures)) }

@@ -19,28 +19,12 @@ near n left e =
     let q = neither (ltb 16 n) (ltb left 17) e in
     (ltb-false 16 n q.0, ltb-false left 17 q.1)
 
-pub is_plain_text-requires : goal.is_plain_text-requires
-is_plain_text-requires c =
-    let a = c.args in
-    let p = c.requires in
-    omega (arith, p.0, ap length (part_is a.from a.to a.src.now), length-slice a.from a.to a.src.now p.1)
-
 pub returns-then-n-src : goal.returns-then-n-src
 returns-then-n-src c =
     let a = c.args in
     let p = c.requires in
     let q = part_is a.from a.to a.src.now in
     λ e n z. subst (λ (x : List ℕ). Flows a.escape x n) q (c.is_plain_text.ensures e n (omega (arith, p.0, ap length q, length-slice a.from a.to a.src.now p.1)))
-
-pub overflow_cast-n : goal.overflow_cast-n
-overflow_cast-n c =
-    let a = c.args in
-    record { fits = omega (arith, (near (a.to - a.from) (length a.src.now - a.from) c.if-n-src.false).0) }
-
-pub is_plain_front-requires : goal.is_plain_front-requires
-is_plain_front-requires c =
-    let a = c.args in
-    omega (arith, (near (a.to - a.from) (length a.src.now - a.from) c.if-n-src.false).1)
 
 pub returns : goal.returns
 returns c =

@@ -1,10 +1,8 @@
-use Prim.Native.Nat.{ℕ, zero, suc, ◌-◌, ◌<◌}
+use Prim.Native.Nat.{ℕ, zero, suc, ◌<◌}
 use mathlib.Core.Path.{◌≡◌, sym, ap, subst}
-use mathlib.Core.Bool.{Bool, false, not, ◌&&◌, ◌||◌, false≢true}
+use mathlib.Core.Bool.{Bool, false, not, ◌||◌, false≢true}
 use mathlib.Core.List.{List}
-use lib.ListN.{length}
-use lib.Seq.{length-slice}
-use lib.Dec.{eqb, ltb}
+use lib.Dec.{eqb}
 use Rattle.spec.specs.Md.TextUtils.{normalized}
 use Rattle.normalized.specs.Verbatim.{Whole}
 use Rattle.text.proofs.Sourcing.{part_is}
@@ -14,24 +12,6 @@ use Rattle.normalized.proofs.fast_copy.is_verbatim.Goals as goal
 some : (n : ℕ) (long : Bool) → eqb n 0 || long ≡ false → 0 < n
 some zero long e = absurd (false≢true (sym e))
 some (suc n) long e = omega arith
-
-pub returns-then-n-skip_escape : goal.returns-then-n-skip_escape
-returns-then-n-skip_escape c =
-    λ e. absurd (false≢true e)
-
-pub may_begin-requires : goal.may_begin-requires
-may_begin-requires c =
-    let a = c.args in
-    omega (arith, some (a.to - a.from) (not a.skip_escape && ltb 128 (a.to - a.from)) c.if-n-skip_escape.false, ap length (part_is a.from a.to a.src.now), length-slice a.from a.to a.src.now c.requires.1)
-
-pub returns-then-not-may_begin : goal.returns-then-not-may_begin
-returns-then-not-may_begin c =
-    λ e. absurd (false≢true e)
-
-pub is_whole-requires : goal.is_whole-requires
-is_whole-requires c =
-    let a = c.args in
-    (omega (arith, some (a.to - a.from) (not a.skip_escape && ltb 128 (a.to - a.from)) c.if-n-skip_escape.false), c.requires.1)
 
 pub returns : goal.returns
 returns c =

@@ -1,6 +1,6 @@
 use Prim.Native.Nat.{ℕ, ◌-◌, ◌<◌}
 use mathlib.Core.Path.{◌≡◌, sym, ◌∙◌}
-use mathlib.Core.Bool.{Bool, false, ◌&&◌, ◌||◌, false≢true}
+use mathlib.Core.Bool.{Bool, false, ◌&&◌, ◌||◌}
 use lib.ListN.{length, get_or}
 use lib.Dec.{eqb, leb}
 use borrow.Author.Tests.{eqb-false, leb-false, not-true}
@@ -18,20 +18,6 @@ returns-then-begins_bare c =
     let a = c.args in
     let b = c.begins_bare.ensures c.if-begins_bare.true in
     λ e v opts only item. bare_flow a.s.now v b.0 b.1 opts a.text.now (λ k. sym only ∙ k)
-
-pub returns-then-list_item-text : goal.returns-then-list_item-text
-returns-then-list_item-text c =
-    λ e. absurd (false≢true e)
-
-pub overflow_sub-before : goal.overflow_sub-before
-overflow_sub-before c = (some c.args.list_item (length c.args.text.now) c.if-list_item-text.false).1
-
-pub bounds-text-text : goal.bounds-text-text
-bounds-text-text c = omega (arith, (some c.args.list_item (length c.args.text.now) c.if-list_item-text.false).1)
-
-pub returns-then-before-has : goal.returns-then-before-has
-returns-then-before-has c =
-    λ e. absurd (false≢true e)
 
 pub returns : goal.returns
 returns c =

@@ -1,11 +1,11 @@
 use Prim.Native.Nat.{ℕ, ◌+◌, ◌≤◌, ◌-◌}
-use mathlib.Core.Path.{◌≡◌, refl, sym, ap, ◌∙◌}
-use mathlib.Core.List.{List, ◌++◌, append-nil}
+use mathlib.Core.Path.{◌≡◌, sym, ap, ◌∙◌}
+use mathlib.Core.List.{List}
 use mathlib.Core.Bool.{false, ◌||◌}
 use lib.Dec.{ltb}
 use borrow.Author.Tests.{ltb-false}
 use lib.ListN.{length, take}
-use lib.Seq.{slice, slice_empty, length-slice, length-paste}
+use lib.Seq.{slice, length-slice, length-paste}
 use Rattle.spec.specs.Out.{push}
 use Rattle.normalized.proofs.Blocks.{block_on, part_done}
 use Rattle.text.proofs.Ordinary.{neither}
@@ -31,29 +31,6 @@ returns-then-left-n-2 c =
     let a = c.args in
     alike (ap (λ (x : List ℕ). push x (take a.len a.text.now)) (sym (part_is a.from a.to a.src.now))) c.push_all.ensures
 
-pub loop-i-init : goal.loop-i-init
-loop-i-init c =
-    let a = c.args in
-    let z : a.len + 0 ≡ a.len = omega arith in
-    let w : a.from + 0 ≡ a.from = omega arith in
-    (omega arith, refl, ap (λ (k : ℕ). take k a.text.now) z ∙ sym (ap (λ (x : List ℕ). take a.len a.text.now ++ x) (ap (λ (j : ℕ). slice a.from j a.src.now) w ∙ slice_empty a.from a.src.now) ∙ append-nil (take a.len a.text.now)))
-
-pub bytes_at-b-requires : goal.bytes_at-b-requires
-bytes_at-b-requires c =
-    let a = c.args in
-    let p = c.requires in
-    let l = c.loop-i in
-    let r = enough (length a.text.now - a.len - (a.to - a.from)) (length a.src.now - a.to) c.if-left-n-2.false in
-    omega (arith, r.1, c.loop-i-test.true, p.1, p.2)
-
-pub put_bytes-requires : goal.put_bytes-requires
-put_bytes-requires c =
-    let a = c.args in
-    let l = c.loop-i in
-    let r = enough (length a.text.now - a.len - (a.to - a.from)) (length a.src.now - a.to) c.if-left-n-2.false in
-    let p = c.requires in
-    omega (arith, r.0, l.invariant.1, c.loop-i-test.true, p.0)
-
 pub loop-i-preserved : goal.loop-i-preserved
 loop-i-preserved c =
     let a = c.args in
@@ -66,10 +43,6 @@ loop-i-preserved c =
     let k = b.ensures in
     let q = length-slice (a.from + l.i) (a.from + l.i + 16) a.src.now (omega (arith, r.1, t, p.1, p.2)) in
     (omega (arith, t), ap length e ∙ length-paste l.text (a.len + l.i) b.result 16 (omega (arith, r.0, l.invariant.1, t, p.0)) (omega (arith, ap length k, q)) ∙ l.invariant.1, ap (take (a.len + (l.i + 16))) e ∙ block_on a.text.now l.text b.result a.src.now a.len a.from l.i (omega (arith, r.0, l.invariant.1, t, p.0)) (omega (arith, r.1, t, p.1, p.2)) k l.invariant.2)
-
-pub shape_of-text : goal.shape_of-text
-shape_of-text c =
-    c.loop-i.invariant.1
 
 pub returns : goal.returns
 returns c =

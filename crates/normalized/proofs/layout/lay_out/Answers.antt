@@ -32,39 +32,6 @@ returns-then-at-s c =
     let at = c.trim_start_matches-at in
     laid_blank a.opts a.text.now a.s.now at.result c.blank_if.result c.ends_with_either.result (begins a.s.now at.result at.ensures) c.if-at-s.true c.ends_with_either.ensures c.blank_if.ensures
 
-pub slice_bounds-trim_start_matches-count : goal.slice_bounds-trim_start_matches-count
-slice_bounds-trim_start_matches-count c = omega (arith, c.trim_start_matches-at.ensures.within)
-
-pub overflow_add-end : goal.overflow_add-end
-overflow_add-end c =
-    let s = c.args.s.now in
-    let at = c.trim_start_matches-at in
-    omega (arith, (ends s at.result c.trim_start_matches.result (begins s at.result at.ensures) c.if-at-s.false c.trim_start_matches.ensures).within)
-
-pub slice_bounds-is_dot-count : goal.slice_bounds-is_dot-count
-slice_bounds-is_dot-count c = omega arith
-
-pub slice_bounds-is_dot-start : goal.slice_bounds-is_dot-start
-slice_bounds-is_dot-start c = omega arith
-
-pub slice_bounds-is_dot-end : goal.slice_bounds-is_dot-end
-slice_bounds-is_dot-end c =
-    let s = c.args.s.now in
-    let at = c.trim_start_matches-at in
-    omega (arith, (ends s at.result c.trim_start_matches.result (begins s at.result at.ensures) c.if-at-s.false c.trim_start_matches.ensures).within)
-
-pub slice_bounds-line_sign-count : goal.slice_bounds-line_sign-count
-slice_bounds-line_sign-count c = omega arith
-
-pub slice_bounds-line_sign-start : goal.slice_bounds-line_sign-start
-slice_bounds-line_sign-start c = omega arith
-
-pub slice_bounds-line_sign-end : goal.slice_bounds-line_sign-end
-slice_bounds-line_sign-end c =
-    let s = c.args.s.now in
-    let at = c.trim_start_matches-at in
-    omega (arith, (ends s at.result c.trim_start_matches.result (begins s at.result at.ensures) c.if-at-s.false c.trim_start_matches.ensures).within)
-
 pub line_sign-k-requires : goal.line_sign-k-requires
 line_sign-k-requires c =
     let s = c.args.s.now in
@@ -72,15 +39,6 @@ line_sign-k-requires c =
     let k = c.trim_start_matches.result in
     let e = ends s at.result k (begins s at.result at.ensures) c.if-at-s.false c.trim_start_matches.ensures in
     omega (arith, e.some, ap length (part_is at.result (at.result + k) s), length-slice at.result (at.result + k) s e.within)
-
-pub mark_of-mark-requires : goal.mark_of-mark-requires
-mark_of-mark-requires c =
-    let s = c.args.s.now in
-    let at = c.trim_start_matches-at in
-    (omega arith, (ends s at.result c.trim_start_matches.result (begins s at.result at.ensures) c.if-at-s.false c.trim_start_matches.ensures).within)
-
-pub overflow_sub-result : goal.overflow_sub-result
-overflow_sub-result c = omega arith
 
 pub returns : goal.returns
 returns c =

@@ -17,13 +17,6 @@ returns-then-not-escape c =
     let s = c.args.s.now in
     λ e. (not_white (get_or s 0 0) (omega (arith, ltb-true 32 (get_or s 0 0) e)), λ k. absurd (false≢true (sym (c.if-not-escape.true) ∙ k)))
 
-pub returns-then-not-has : goal.returns-then-not-has
-returns-then-not-has c =
-    λ e. absurd (false≢true e)
-
-pub begins_marker-requires : goal.begins_marker-requires
-begins_marker-requires c = let d = c.has in sym d.ensures ∙ c.if-not-has.false
-
 pub returns : goal.returns
 returns c =
     let s = c.args.s.now in

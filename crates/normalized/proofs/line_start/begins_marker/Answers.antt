@@ -1,12 +1,11 @@
 use mathlib.Core.Path.{sym, ◌∙◌}
-use native.Mathlib.Omega.{arith}
-use Rattle.normalized.proofs.Starting.{digit_some, marker_begun, tail_on, tail_here, tail_none}
+use Rattle.normalized.proofs.Starting.{marker_begun, tail_on, tail_here, tail_none}
 use Rattle.normalized.proofs.line_start.begins_marker.Goals as goal
 
 pub loop-i-init : goal.loop-i-init
 loop-i-init c =
     let s = c.args.s.now in
-    (digit_some s c.requires, marker_begun s c.requires)
+    marker_begun s c.requires
 
 pub returns-then-not-has : goal.returns-then-not-has
 returns-then-not-has c =
@@ -14,16 +13,16 @@ returns-then-not-has c =
     let l = c.loop-i in
     let d = c.has in
     c.is_last_dot.ensures
-    ∙ sym (l.invariant.1 ∙ tail_here s l.i c.loop-i-test.true (sym d.ensures ∙ c.if-not-has.true))
+    ∙ sym (l.invariant ∙ tail_here s l.i c.loop-i-test.true (sym d.ensures ∙ c.if-not-has.true))
 
 pub loop-i-preserved : goal.loop-i-preserved
 loop-i-preserved c =
     let s = c.args.s.now in
     let l = c.loop-i in
     let d = c.has in
-    (omega arith, l.invariant.1 ∙ tail_on s l.i c.loop-i-test.true (sym d.ensures ∙ c.if-not-has.false))
+    l.invariant ∙ tail_on s l.i c.loop-i-test.true (sym d.ensures ∙ c.if-not-has.false)
 
 pub returns : goal.returns
 returns c =
     let l = c.loop-i in
-    sym (l.invariant.1 ∙ tail_none c.args.s.now l.i c.loop-i-test.false)
+    sym (l.invariant ∙ tail_none c.args.s.now l.i c.loop-i-test.false)

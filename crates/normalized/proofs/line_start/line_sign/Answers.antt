@@ -3,13 +3,9 @@ use mathlib.Core.Path.{sym, ap₂, subst, ◌∙◌}
 use mathlib.Core.Bool.{Bool, ◌||◌}
 use lib.ListN.{length}
 use Rattle.normalized.specs.Layout.{LineSign}
-use Rattle.normalized.proofs.Starting.{line_inside, line_marker, line_first, line_plain}
+use Rattle.normalized.proofs.Starting.{line_marker, line_first, line_plain}
 use native.Mathlib.Omega.{arith}
 use Rattle.normalized.proofs.line_start.line_sign.Goals as goal
-
-pub returns-then-not-line_start : goal.returns-then-not-line_start
-returns-then-not-line_start c =
-    line_inside c.args.word.now c.args.line_start (c.if-not-line_start.true)
 
 pub returns-then-is_ordered_list_marker : goal.returns-then-is_ordered_list_marker
 returns-then-is_ordered_list_marker c =

@@ -5,7 +5,7 @@ use Prim.Native.Nat.{ℕ}
 use lib.ListN.{take}
 use Rattle.spec.specs.Bytes.{ascii}
 use Rattle.spec.specs.Out.{push}
-use Rattle.text.proofs.Writing.{alike, done, reaches, owes_all, owes_last, push_on, push_stop, stops}
+use Rattle.text.proofs.Writing.{alike, owes_all, owes_last, push_on, push_stop, stops}
 use Rattle.normalized.proofs.Flowing.{added_ordinary}
 use Rattle.normalized.proofs.Streaming.{added_white, added_black}
 use Rattle.normalized.proofs.normalize.push_byte_of.Goals as goal
@@ -19,9 +19,6 @@ pub returns-then-has-2 : goal.returns-then-has-2
 returns-then-has-2 c =
     let a = c.args in
     λ rest h. alike (ap (λ (x : List ℕ). push x (take a.len a.text.now)) (added_white a.escape a.b rest (sym c.has-2.ensures ∙ c.if-has-2.true) (ap not c.has-then-has-2.ensures ∙ h.word))) c.push_byte_if.ensures
-
-pub push_byte-requires-2 : goal.push_byte-requires-2
-push_byte-requires-2 c = reaches (done c.in_ok-n.was c.push_byte_if-2.ensures)
 
 pub returns : goal.returns
 returns c =

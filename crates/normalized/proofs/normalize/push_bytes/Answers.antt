@@ -1,28 +1,11 @@
 use Prim.Native.Nat.{◌+◌}
-use mathlib.Core.Path.{refl}
 use lib.ListN.{length, take, get_or}
 use lib.Seq.{slice}
 use Rattle.spec.specs.Out.{push}
 use Rattle.text.specs.Flow.{added, flow_before}
-use Rattle.text.proofs.Writing.{owes_all, owes_step, owes_stop, owes_nothing, stops}
+use Rattle.text.proofs.Writing.{owes_step, owes_stop, owes_nothing, stops}
 use Rattle.normalized.proofs.Streaming.{byte_turn, bytes_ended}
-use native.Mathlib.Omega.{arith}
 use Rattle.normalized.proofs.normalize.push_bytes.Goals as goal
-
-pub loop-i-init : goal.loop-i-init
-loop-i-init c =
-    let a = c.args in
-    let s = a.s.now in
-    (omega arith, c.requires.1, owes_all a.text.now a.len (push (flow_before a.escape (slice a.from a.stop s) (slice a.stop (length s) s))) c.requires.0 refl)
-
-pub bounds-s-i : goal.bounds-s-i
-bounds-s-i c = omega (arith, c.loop-i-test.true, c.requires.2)
-
-pub next_of-next-requires : goal.next_of-next-requires
-next_of-next-requires c = omega (arith, c.loop-i-test.true, c.requires.2)
-
-pub push_byte_of-requires : goal.push_byte_of-requires
-push_byte_of-requires c = c.loop-i.invariant.2.reach
 
 pub returns-in_err-n : goal.returns-in_err-n
 returns-in_err-n c =
@@ -30,32 +13,20 @@ returns-in_err-n c =
     let s = a.s.now in
     let l = c.loop-i in
     let rest = slice (l.i + 1) (length s) s in
-    owes_stop l.invariant.2 (push (added a.escape (get_or s l.i 0) rest)) (push (flow_before a.escape (slice (l.i + 1) a.stop s) (slice a.stop (length s) s)))
+    owes_stop l.invariant (push (added a.escape (get_or s l.i 0) rest)) (push (flow_before a.escape (slice (l.i + 1) a.stop s) (slice a.stop (length s) s)))
     (byte_turn s a.escape (take l.n l.text) l.i a.stop c.loop-i-test.true c.requires.2) c.in_err-n.was (c.push_byte_of.ensures rest c.next_of-next.ensures))
-
-pub overflow_add-i : goal.overflow_add-i
-overflow_add-i c = omega (arith, c.loop-i-test.true, c.requires.2)
-
-pub loop-i-smaller : goal.loop-i-smaller
-loop-i-smaller c = omega (arith, c.loop-i-test.true)
 
 pub loop-i-preserved : goal.loop-i-preserved
 loop-i-preserved c =
     let a = c.args in
     let s = a.s.now in
     let l = c.loop-i in
-    let rest = slice (l.i + 1) (length s) s in (
-      omega (arith, l.invariant.0),
-      omega (arith, c.loop-i-test.true),
-      owes_step l.invariant.2 (push (added a.escape (get_or s l.i 0) rest)) (push (flow_before a.escape (slice (l.i + 1) a.stop s) (slice a.stop (length s) s)))
-          (byte_turn s a.escape (take l.n l.text) l.i a.stop c.loop-i-test.true c.requires.2) c.in_ok-n.was (c.push_byte_of.ensures rest c.next_of-next.ensures),
-    )
-
-pub shape_of-text : goal.shape_of-text
-shape_of-text c = c.loop-i.invariant.2.long
+    let rest = slice (l.i + 1) (length s) s in
+    owes_step l.invariant (push (added a.escape (get_or s l.i 0) rest)) (push (flow_before a.escape (slice (l.i + 1) a.stop s) (slice a.stop (length s) s)))
+    (byte_turn s a.escape (take l.n l.text) l.i a.stop c.loop-i-test.true c.requires.2) c.in_ok-n.was (c.push_byte_of.ensures rest c.next_of-next.ensures)
 
 pub returns : goal.returns
 returns c =
     let a = c.args in
     let l = c.loop-i in
-    owes_nothing l.invariant.2 (bytes_ended a.s.now l.i a.stop (length a.s.now) a.escape (take l.n l.text) c.loop-i-test.false)
+    owes_nothing l.invariant (bytes_ended a.s.now l.i a.stop (length a.s.now) a.escape (take l.n l.text) c.loop-i-test.false)

@@ -12,27 +12,6 @@ use Rattle.text.proofs.Writing.{owes_all, owes_last, push_on, push_stop, alike, 
 use Rattle.normalized.proofs.Normal.{lead_is}
 use Rattle.normalized.proofs.normalize.push_front.Goals as goal
 
-pub push_byte_if-requires : goal.push_byte_if-requires
-push_byte_if-requires c = c.requires.0
-
-pub push_bytes-requires : goal.push_bytes-requires
-push_bytes-requires c =
-    let a = c.args in
-    let x = lead_of a.l.lead in
-    let t = take a.len a.text.now in
-    let o = push_on x [] (owes_all a.text.now a.len (push (x ++ [])) c.requires.0 refl) c.in_ok-n.was (alike (ap (λ (z : List ℕ). push z t) (lead_is a.l.lead)) c.push_byte_if.ensures) in
-    (o.reach, c.requires.1, c.requires.2)
-
-pub push_byte_if-requires-2 : goal.push_byte_if-requires-2
-push_byte_if-requires-2 c =
-    let a = c.args in
-    let s = a.s.now in
-    let x = lead_of a.l.lead in
-    let y = flow_before a.escape (slice a.l.at a.l.mark s) (slice a.l.mark (length s) s) in
-    let t = take a.len a.text.now in
-    let o = push_on x (y ++ []) (owes_all a.text.now a.len (push (x ++ (y ++ []))) c.requires.0 refl) c.in_ok-n.was (alike (ap (λ (z : List ℕ). push z t) (lead_is a.l.lead)) c.push_byte_if.ensures) in
-    (push_on y [] o c.in_ok-m.was c.push_bytes.ensures).reach
-
 pub returns : goal.returns
 returns c =
     let a = c.args in

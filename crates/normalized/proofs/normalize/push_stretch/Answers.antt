@@ -3,20 +3,14 @@ use Rattle.normalized.proofs.Blocks.{fit, block_writes, signs_small}
 use native.Mathlib.Omega.{arith}
 use Rattle.normalized.proofs.normalize.push_stretch.Goals as goal
 
-pub block_at-block-requires : goal.block_at-block-requires
-block_at-block-requires c =
-    let a = c.args in
-    let f = fit a.from a.stop (length a.s.now) (length a.text.now) a.len c.requires.1 c.requires.0 c.if-stop-from.true in
-    omega (arith, f.sixteen, f.followed)
-
 pub push_block-requires : goal.push_block-requires
 push_block-requires c =
     let a = c.args in
     let f = fit a.from a.stop (length a.s.now) (length a.text.now) a.len c.requires.1 c.requires.0 c.if-stop-from.true in
-    (omega (arith, f.sixteen, f.followed), f.roomy, signs_small {to = length a.s.now} c.block_at-block.ensures.marked (omega (arith, f.sixteen, f.followed)) (omega arith))
+    (omega (arith, f.sixteen, f.followed), f.roomy, signs_small {to = length a.s.now} c.block_at-even.ensures.marked (omega (arith, f.sixteen, f.followed)) (omega arith))
 
-pub returns-then-block : goal.returns-then-block
-returns-then-block c =
+pub returns-then-even : goal.returns-then-even
+returns-then-even c =
     let a = c.args in
     let f = fit a.from a.stop (length a.s.now) (length a.text.now) a.len c.requires.1 c.requires.0 c.if-stop-from.true in
-    block_writes f c.block_at-block.ensures c.if-block.true c.push_block.ensures
+    block_writes f c.block_at-even.ensures c.if-even.true c.push_block.ensures

@@ -2,16 +2,12 @@ use Prim.Native.Nat.{ℕ}
 use mathlib.Core.Path.{ap, sym}
 use mathlib.Core.List.{List}
 use lib.ListN.{take}
-use lib.Seq.{length-take-le}
 use Rattle.spec.specs.Out.{push}
 use Rattle.spec.specs.Md.TextUtils.{push_normalized_text}
 use Rattle.normalized.proofs.Normal.{normal_as}
 use Rattle.text.proofs.Sourcing.{part_is}
 use Rattle.text.proofs.Writing.{alike}
 use Rattle.normalized.proofs.normalize.push_text_part.Goals as goal
-
-pub slice_bounds-is_verbatim-end-2 : goal.slice_bounds-is_verbatim-end-2
-slice_bounds-is_verbatim-end-2 c = sym (length-take-le c.args.len c.args.text.now c.requires.0)
 
 pub returns-then-is_verbatim : goal.returns-then-is_verbatim
 unfolding push_normalized_text

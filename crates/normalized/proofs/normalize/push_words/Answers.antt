@@ -1,38 +1,13 @@
-use mathlib.Core.Path.{refl, sym}
 use mathlib.Core.Bool.{cond, not}
 use mathlib.Core.List.{[], ◌++◌}
 use lib.ListN.{length}
-use lib.Seq.{slice, length-take-le}
+use lib.Seq.{slice}
 use Rattle.spec.specs.Bytes.{ascii}
 use Rattle.spec.specs.Out.{push}
 use Rattle.text.specs.Flow.{flow}
 use Rattle.text.proofs.Writing.{owes_all, owes_last, push_on, push_stop, stops}
 use Rattle.normalized.specs.Layout.{front}
 use Rattle.normalized.proofs.normalize.push_words.Goals as goal
-
-pub slice_bounds-lay_out-end-2 : goal.slice_bounds-lay_out-end-2
-slice_bounds-lay_out-end-2 c = sym (length-take-le c.args.len c.args.text.now c.requires)
-
-pub push_front-requires : goal.push_front-requires
-push_front-requires c = (c.requires, c.lay_out-l.ensures.ordered, c.lay_out-l.ensures.within)
-
-pub push_flow-requires : goal.push_flow-requires
-push_flow-requires c =
-    let a = c.args in
-    let l = c.lay_out-l.result in
-    let x = front (not a.opts.skip_escape) a.s.now l in
-    ((push_on x [] (owes_all a.text.now a.len (push (x ++ [])) c.requires refl) c.in_ok-n.was c.push_front.ensures).reach, c.lay_out-l.ensures.within)
-
-pub push_byte_if-requires : goal.push_byte_if-requires
-push_byte_if-requires c =
-    let a = c.args in
-    let s = a.s.now in
-    let l = c.lay_out-l.result in
-    let escape = not a.opts.skip_escape in
-    let x = front escape s l in
-    let y = flow escape (slice l.mark (length s) s) in
-    let o = push_on x (y ++ []) (owes_all a.text.now a.len (push (x ++ (y ++ []))) c.requires refl) c.in_ok-n.was c.push_front.ensures in
-    (push_on y [] o c.in_ok-m.was c.push_flow.ensures).reach
 
 pub returns : goal.returns
 returns c =

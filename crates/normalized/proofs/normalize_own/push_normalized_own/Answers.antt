@@ -1,42 +1,13 @@
 use mathlib.Core.Bool.{cond, not}
 use mathlib.Core.List.{[], ◌++◌}
-use lib.ListN.{length, drop, length-drop}
+use lib.ListN.{length, drop}
 use lib.Seq.{slice}
 use Rattle.spec.specs.Bytes.{ascii}
 use Rattle.text.specs.Flow.{flow}
-use Rattle.text.proofs.Sourcing.{pair_go, pair_stop, owed_last, owed_reach, alike_in, stops_in}
+use Rattle.text.proofs.Sourcing.{pair_go, pair_stop, owed_last, alike_in, stops_in}
 use Rattle.normalized.specs.Layout.{front}
 use Rattle.normalized.proofs.Streaming.{own_flow, next_go, next_stop}
-use native.Mathlib.Omega.{arith}
 use Rattle.normalized.proofs.normalize_own.push_normalized_own.Goals as goal
-
-pub overflow_add-from : goal.overflow_add-from
-overflow_add-from c = omega (arith, c.requires.1, c.lay_out_own-l.ensures.within, length-drop c.args.base c.args.text.now)
-
-pub push_own_front-requires : goal.push_own_front-requires
-push_own_front-requires c =
-    (c.requires.0, c.lay_out_own-l.ensures.ordered, omega (arith, c.requires.1, c.lay_out_own-l.ensures.within, length-drop c.args.base c.args.text.now))
-
-pub push_own_flow-requires : goal.push_own_flow-requires
-push_own_flow-requires c =
-    let a = c.args in
-    let d = a.text.now in
-    let x = front (not a.opts.skip_escape) (drop a.base d) c.lay_out_own-l.result in
-    let o = pair_go c.requires.0 c.requires.1 x [] c.push_own_front.ensures c.in_ok-n.was in
-    (owed_reach o, omega arith, omega (arith, c.requires.1, c.lay_out_own-l.ensures.within, length-drop a.base d, o.still.long))
-
-pub put_if-requires : goal.put_if-requires
-put_if-requires c =
-    let a = c.args in
-    let d = a.text.now in
-    let s = drop a.base d in
-    let l = c.lay_out_own-l.result in
-    let escape = not a.opts.skip_escape in
-    let x = front escape s l in
-    let y = flow escape (slice l.mark (length s) s) in
-    let o = pair_go c.requires.0 c.requires.1 x (y ++ []) c.push_own_front.ensures c.in_ok-n.was in
-    let p = next_go [] (own_flow escape c.requires.1 o.still l.mark) o c.push_own_flow.ensures c.in_ok-m.was in
-    (owed_reach p, omega (arith, c.requires.1, p.still.long))
 
 pub returns : goal.returns
 returns c =

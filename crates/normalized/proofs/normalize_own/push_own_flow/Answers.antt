@@ -1,14 +1,8 @@
 use Prim.Native.Nat.{◌+◌}
 use native.Mathlib.Omega.{arith}
-use Rattle.text.proofs.Sourcing.{owed_as, owed_last, owed_reach, stops_in}
+use Rattle.text.proofs.Sourcing.{owed_as, owed_last, stops_in}
 use Rattle.normalized.proofs.Streaming.{own_rest, plain_fits, plain_go, plain_stop}
 use Rattle.normalized.proofs.normalize_own.push_own_flow.Goals as goal
-
-pub push_own_bytes-requires : goal.push_own_bytes-requires
-push_own_bytes-requires c =
-    let f = c.plain_blocks-k.ensures in
-    let o = plain_go c.args.text.now c.args.escape c.requires.0 c.requires.1 c.requires.2 f c.put_own.ensures c.in_ok-n.was in
-    (owed_reach o, omega (arith, c.requires.1), plain_fits c.args.text.now c.args.escape c.requires.0 c.requires.1 c.requires.2 f, omega (arith, o.still.long))
 
 pub returns : goal.returns
 returns c =

@@ -8,44 +8,11 @@ use Rattle.spec.specs.Bytes.{ascii}
 use Rattle.spec.specs.Out.{push}
 use Rattle.text.specs.Flow.{flow_before}
 use Rattle.text.specs.Marks.{lead_of}
-use Rattle.text.proofs.Sourcing.{pair_go, pair_stop, owed_last, owed_reach, alike_in, stops_in}
+use Rattle.text.proofs.Sourcing.{pair_go, pair_stop, owed_last, alike_in, stops_in}
 use Rattle.normalized.proofs.Normal.{lead_is}
 use Rattle.normalized.proofs.Streaming.{own_bytes, next_go, next_stop}
 use native.Mathlib.Omega.{arith}
 use Rattle.normalized.proofs.normalize_own.push_own_front.Goals as goal
-
-pub overflow_add-from : goal.overflow_add-from
-overflow_add-from c = omega (arith, c.requires.1, c.requires.2)
-
-pub overflow_add-stop : goal.overflow_add-stop
-overflow_add-stop c = omega (arith, c.requires.2)
-
-pub put_if-requires : goal.put_if-requires
-put_if-requires c = (c.requires.0, omega (arith, c.requires.2))
-
-pub push_own_bytes-requires : goal.push_own_bytes-requires
-push_own_bytes-requires c =
-    let a = c.args in
-    let d = a.text.now in
-    let x = lead_of a.l.lead in
-    let w = alike_in (ap (λ (z : List ℕ). push z (take a.len d)) (lead_is a.l.lead)) c.put_if.ensures in
-    let o = pair_go c.requires.0 (omega (arith, c.requires.2)) x [] w c.in_ok-n.was in
-    (owed_reach o, omega arith, omega (arith, c.requires.1), omega (arith, c.requires.2, o.still.long))
-
-pub put_if-requires-2 : goal.put_if-requires-2
-put_if-requires-2 c =
-    let a = c.args in
-    let d = a.text.now in
-    let s = drop a.base d in
-    let t = take a.len d in
-    let x = lead_of a.l.lead in
-    let y = flow_before a.escape (slice a.l.at a.l.mark s) (slice a.l.mark (length s) s) in
-    let k : a.base ≤ length d = omega (arith, c.requires.2) in
-    let w = alike_in (ap (λ (z : List ℕ). push z t) (lead_is a.l.lead)) c.put_if.ensures in
-    let o = pair_go c.requires.0 k x (y ++ []) w c.in_ok-n.was in
-    let e = own_bytes a.escape k o.still a.l.at a.l.mark in
-    let p = next_go [] e o c.push_own_bytes.ensures c.in_ok-m.was in
-    (owed_reach p, omega (arith, c.requires.2, p.still.long))
 
 pub returns : goal.returns
 returns c =

@@ -1,14 +1,8 @@
 use mathlib.Core.Bool.{cond}
 use mathlib.Core.List.{[], ◌∷◌}
 use Rattle.spec.specs.Bytes.{ascii}
-use Rattle.text.proofs.Sourcing.{pair_go, pair_stop, owed_last, owed_reach, stops_in}
-use native.Mathlib.Omega.{arith}
+use Rattle.text.proofs.Sourcing.{pair_go, pair_stop, owed_last, stops_in}
 use Rattle.normalized.proofs.normalize_own.put_escaped.Goals as goal
-
-pub put_if-requires-2 : goal.put_if-requires-2
-put_if-requires-2 c =
-    let a = c.args in
-    (owed_reach (pair_go c.requires.0 c.requires.1 (cond a.escaped (ascii "\\") []) (a.b ∷ []) c.put_if.ensures c.in_ok-n.was), omega (arith, c.requires.1, c.put_if.ensures.long))
 
 pub returns : goal.returns
 returns c =

@@ -1,15 +1,10 @@
 use mathlib.Core.Path.{sym, ◌∙◌}
-use lib.Seq.{length-take-le}
 use Rattle.normalized.proofs.Markers.{indent_none, indent_some}
 use Rattle.normalized.proofs.text_utils.at_indent.Goals as goal
 
 pub returns-then-n-eq0 : goal.returns-then-n-eq0
 returns-then-n-eq0 c =
     sym (indent_none c.args.text.now _ c.trim_end_matches-n.ensures c.if-n-eq0.true)
-
-pub slice_bounds-ends_with_byte-end : goal.slice_bounds-ends_with_byte-end
-slice_bounds-ends_with_byte-end c =
-    sym (length-take-le c.trim_end_matches-n.result c.args.text.now c.trim_end_matches-n.ensures.within)
 
 pub returns : goal.returns
 returns c =

@@ -1,7 +1,5 @@
 use mathlib.Core.Path.{sym, ◌∙◌}
-use Prim.Native.Nat.{◌-◌}
-use lib.ListN.{length}
-use lib.Seq.{length-take-le, take-length}
+use lib.Seq.{take-length}
 use Rattle.text.proofs.Reading.{ends_some}
 use Rattle.normalized.proofs.Markers.{no_blank, marker_before, marker_none}
 use native.Mathlib.Omega.{arith}
@@ -15,22 +13,6 @@ returns-then-not-ends_with_byte c =
 pub overflow_sub-n : goal.overflow_sub-n
 overflow_sub-n c =
     omega (arith, ends_some c.args.stem.now 32 (sym c.ends_with_byte.ensures ∙ c.if-not-ends_with_byte.false))
-
-pub slice_bounds-trim_end_matches-end : goal.slice_bounds-trim_end_matches-end
-slice_bounds-trim_end_matches-end c =
-    let s = c.args.stem.now in sym (length-take-le (length s - 1) s (omega arith))
-
-pub slice_bounds-is_marker-count : goal.slice_bounds-is_marker-count
-slice_bounds-is_marker-count c =
-    let s = c.args.stem.now in omega (arith, c.trim_end_matches-b.ensures.within, length-take-le (length s - 1) s (omega arith))
-
-pub slice_bounds-is_marker-start : goal.slice_bounds-is_marker-start
-slice_bounds-is_marker-start c =
-    let s = c.args.stem.now in omega (arith, c.trim_end_matches-b.ensures.within, length-take-le (length s - 1) s (omega arith))
-
-pub slice_bounds-is_marker-end : goal.slice_bounds-is_marker-end
-slice_bounds-is_marker-end c =
-    omega arith
 
 pub returns-then-is_marker : goal.returns-then-is_marker
 returns-then-is_marker c =

@@ -1,15 +1,11 @@
 use mathlib.Core.Path.{sym, ◌∙◌}
-use lib.ListN.{take, length-set}
+use lib.ListN.{take}
 use lib.Seq.{length-take-le}
 use Rattle.text.proofs.Reading.{ends_some}
 use Rattle.text.proofs.Writing.{alike, keeps}
 use Rattle.text.proofs.Spaces.{bang_none, bang_some, bang_full, bang_done}
 use native.Mathlib.Omega.{arith}
 use Rattle.normalized.proofs.text_utils.escape_trailing_bang.Goals as goal
-
-pub slice_bounds-ends_with_byte-end-2 : goal.slice_bounds-ends_with_byte-end-2
-slice_bounds-ends_with_byte-end-2 c =
-    sym (length-take-le c.args.len c.args.text.now c.requires)
 
 pub returns-then-not-ends_with_byte : goal.returns-then-not-ends_with_byte
 returns-then-not-ends_with_byte c =
@@ -26,20 +22,6 @@ pub overflow_sub-text : goal.overflow_sub-text
 overflow_sub-text c =
     let a = c.args in
     omega (arith, ends_some (take a.len a.text.now) 33 (sym c.ends_with_byte.ensures ∙ c.if-not-ends_with_byte.false), length-take-le a.len a.text.now c.requires)
-
-pub bounds-text-len : goal.bounds-text-len
-bounds-text-len c =
-    let a = c.args in
-    omega (arith, ends_some (take a.len a.text.now) 33 (sym c.ends_with_byte.ensures ∙ c.if-not-ends_with_byte.false), length-take-le a.len a.text.now c.requires)
-
-pub bounds-text-len-2 : goal.bounds-text-len-2
-bounds-text-len-2 c =
-    let a = c.args in
-    simp length-set (omega (arith, c.if-len-text.false, c.requires))
-
-pub overflow_add-result : goal.overflow_add-result
-overflow_add-result c =
-    omega (arith, c.if-len-text.false, c.requires)
 
 pub returns : goal.returns
 returns c =

@@ -1,7 +1,4 @@
 use mathlib.Core.Path.{sym, ◌∙◌}
-use Prim.Native.Nat.{◌-◌}
-use lib.ListN.{length}
-use lib.Seq.{length-take-le}
 use Rattle.normalized.proofs.Markers.{marker_short, marker_other, marker_digits}
 use native.Mathlib.Omega.{arith}
 use Rattle.normalized.proofs.text_utils.is_ordered_list_marker.Goals as goal
@@ -13,10 +10,6 @@ returns-then-chunk-lt2 c =
 pub returns-then-not-ends_with_either : goal.returns-then-not-ends_with_either
 returns-then-not-ends_with_either c =
     sym (marker_other c.args.chunk.now (sym c.ends_with_either.ensures ∙ c.if-not-ends_with_either.true))
-
-pub slice_bounds-all_in-end : goal.slice_bounds-all_in-end
-slice_bounds-all_in-end c =
-    let s = c.args.chunk.now in sym (length-take-le (length s - 1) s (omega arith))
 
 pub returns : goal.returns
 returns c =

@@ -10,10 +10,6 @@ returns-then-len-eq0 c =
     let a = c.args in
     alike (space_none (take a.len a.text.now) (length-take-le a.len a.text.now c.requires ∙ c.if-len-eq0.true)) (record { says = keeps a.text.now a.len c.requires })
 
-pub slice_bounds-ends_with_white-end-2 : goal.slice_bounds-ends_with_white-end-2
-slice_bounds-ends_with_white-end-2 c =
-    sym (length-take-le c.args.len c.args.text.now c.requires)
-
 pub returns-then-ends_with_white : goal.returns-then-ends_with_white
 returns-then-ends_with_white c =
     let a = c.args in

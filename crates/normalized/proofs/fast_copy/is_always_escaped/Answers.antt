@@ -1,8 +1,0 @@
-use mathlib.Core.Bool.{or-false}
-use Rattle.spec.specs.Bytes.{isin}
-use Rattle.normalized.proofs.fast_copy.is_always_escaped.Goals as goal
-
-pub returns : goal.returns
-unfolding isin
-returns c =
-    simp or-false
