@@ -16,13 +16,13 @@ pub node_place-place-requires : goal.node_place-place-requires
 node_place-place-requires c =
     (carried_node c.loop-i.invariant c.requires c.loop-i-test.true).inside
 
-pub text_at-part-requires : goal.text_at-part-requires
-text_at-part-requires c =
+pub text_at-requires : goal.text_at-requires
+text_at-requires c =
     omega (arith, (carried_node c.loop-i.invariant c.requires c.loop-i-test.true).placed, c.node_place-place.ensures)
 
 pub loop-i-preserved : goal.loop-i-preserved
 loop-i-preserved c =
-    carried_on c.loop-i.invariant white_folds c.loop-i-test.true c.node_place-place.ensures c.text_at-part.ensures.bytes_are c.white_state-state.ensures
+    carried_on c.loop-i.invariant white_folds c.loop-i-test.true c.node_place-place.ensures c.text_at.ensures.bytes_are c.white_state-state.ensures
 
 pub returns : goal.returns
 returns c =

@@ -21,8 +21,8 @@ pub node_place-place-requires : goal.node_place-place-requires
 node_place-place-requires c =
     (appends_node c.loop-i.invariant c.requires.0 c.loop-i-test.true).inside
 
-pub text_at-part-requires : goal.text_at-part-requires
-text_at-part-requires c =
+pub text_at-requires : goal.text_at-requires
+text_at-requires c =
     omega (arith, (appends_node c.loop-i.invariant c.requires.0 c.loop-i-test.true).placed, c.node_place-place.ensures)
 
 pub push_all-requires : goal.push_all-requires
@@ -31,11 +31,11 @@ push_all-requires c =
 
 pub returns-in_err-n : goal.returns-in_err-n
 returns-in_err-n c =
-    λ parent f k. stops c.from_residual.ensures.0 (appends_stop c.loop-i.invariant spells c.loop-i-test.true c.node_place-place.ensures c.text_at-part.ensures.bytes_are c.in_err-n.was c.push_all.ensures parent f k)
+    λ parent f k. stops c.from_residual.ensures.0 (appends_stop c.loop-i.invariant spells c.loop-i-test.true c.node_place-place.ensures c.text_at.ensures.bytes_are c.in_err-n.was c.push_all.ensures parent f k)
 
 pub loop-i-preserved : goal.loop-i-preserved
 loop-i-preserved c =
-    appends_on c.loop-i.invariant spells c.loop-i-test.true c.node_place-place.ensures c.text_at-part.ensures.bytes_are refl c.in_ok-n.was c.push_all.ensures
+    appends_on c.loop-i.invariant spells c.loop-i-test.true c.node_place-place.ensures c.text_at.ensures.bytes_are refl c.in_ok-n.was c.push_all.ensures
 
 pub returns : goal.returns
 returns c =

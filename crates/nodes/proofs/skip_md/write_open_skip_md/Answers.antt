@@ -1,5 +1,5 @@
 use Prim.Native.Nat.{ℕ}
-use mathlib.Core.Path.{ap, sym, ◌∙◌}
+use mathlib.Core.Path.{ap, sym}
 use lib.ListN.{take}
 use Rattle.spec.specs.Call.{tags_to_skip}
 use Rattle.spec.specs.Out.{and_then}
