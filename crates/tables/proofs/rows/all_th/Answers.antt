@@ -17,10 +17,10 @@ pub node_name-requires : goal.node_name-requires
 node_name-requires c =
     cells_node (c.loop-c.invariant c.requires.0 c.requires.1).1 (omega (arith, c.node_end-to.ensures))
 
-pub returns-then-node_name-eq19 : goal.returns-then-node_name-eq19
-returns-then-node_name-eq19 c = λ row x.
+pub returns-then-node_name-eq-TD : goal.returns-then-node_name-eq-TD
+returns-then-node_name-eq-TD c = λ row x.
     let q = c.loop-c.invariant row x in
-    sym (q.2 ∙ th_not q.1 (omega (arith, c.node_end-to.ensures)) (sym c.node_name.ensures ∙ c.if-node_name-eq19.true))
+    sym (q.2 ∙ th_not q.1 (omega (arith, c.node_end-to.ensures)) (sym c.node_name.ensures ∙ c.if-node_name-eq-TD.true))
 
 pub node_end-c-requires : goal.node_end-c-requires
 node_end-c-requires c =
@@ -33,7 +33,7 @@ loop-c-smaller c =
 pub loop-c-preserved : goal.loop-c-preserved
 loop-c-preserved c = λ row x.
     let q = c.loop-c.invariant row x in
-    let m = th_on q.1 (omega (arith, c.node_end-to.ensures)) c.node_end-c.ensures (λ n. c.if-node_name-eq19.false (c.node_name.ensures ∙ n)) in
+    let m = th_on q.1 (omega (arith, c.node_end-to.ensures)) c.node_end-c.ensures (λ n. c.if-node_name-eq-TD.false (c.node_name.ensures ∙ n)) in
     (m.0, m.1, q.2 ∙ m.2)
 
 pub returns : goal.returns

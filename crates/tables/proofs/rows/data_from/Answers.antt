@@ -8,5 +8,5 @@ overflow_add-result c = omega (arith, c.requires.1.is_element.inside)
 pub returns-then-all_th : goal.returns-then-all_th
 returns-then-all_th c = λ to rows x l. data_behind c.all_th.ensures rows x l c.if-all_th.true
 
-pub returns : goal.returns
-returns c = λ to rows x l. data_here c.all_th.ensures rows x l c.if-all_th.false
+pub returns-else-all_th : goal.returns-else-all_th
+returns-else-all_th c = λ to rows x l. data_here c.all_th.ensures rows x l c.if-all_th.false

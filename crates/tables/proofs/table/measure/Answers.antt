@@ -54,23 +54,23 @@ overflow_add-empty c =
     let e = from_turn c.loop-c.invariant.0 c.loop-c-test.true refl (end_at c.args.nodes.now c.loop-c.c) (c.read-n.ensures.0 ∙ long_is _ _) refl in
     omega (arith, zeros_first e, c.loop-c.invariant.3, c.at_least_one.ensures, zeros_few (cell_lengths c.args.sheet.now c.args.nodes.now c.args.row (c.args.row + 1) c.args.to), few_cells c.args.sheet.now c.args.nodes.now c.args.row (c.args.row + 1) c.args.to)
 
-pub node_end-after-requires : goal.node_end-after-requires
-node_end-after-requires c =
+pub node_end-requires : goal.node_end-requires
+node_end-requires c =
     (from_first c.loop-c.invariant.0 c.loop-c-test.true).inside
 
 pub next_cell-c-requires-in-loop-c : goal.next_cell-c-requires-in-loop-c
 next_cell-c-requires-in-loop-c c =
-    (c.args.row, rest_of c.loop-c.invariant.0.rest, from_rest c.loop-c.invariant.0 c.loop-c-test.true c.node_end-after.ensures)
+    (c.args.row, rest_of c.loop-c.invariant.0.rest, from_rest c.loop-c.invariant.0 c.loop-c-test.true c.node_end.ensures)
 
 pub loop-c-smaller : goal.loop-c-smaller
 loop-c-smaller c =
-    omega (arith, (from_first c.loop-c.invariant.0 c.loop-c-test.true).later, c.node_end-after.ensures, c.next_cell-c-in-loop-c.ensures.later, c.loop-c-test.true)
+    omega (arith, (from_first c.loop-c.invariant.0 c.loop-c-test.true).later, c.node_end.ensures, c.next_cell-c-in-loop-c.ensures.later, c.loop-c-test.true)
 
 pub loop-c-preserved : goal.loop-c-preserved
 loop-c-preserved c =
     let x = c.loop-c.invariant.0 in
-    let n = c.next_cell-c-in-loop-c.ensures.cells c.args.row (rest_of x.rest) (from_later x c.loop-c-test.true c.node_end-after.ensures) (from_rest x c.loop-c-test.true c.node_end-after.ensures) in
-    let e = from_turn x c.loop-c-test.true c.node_end-after.ensures c.next_cell-c-in-loop-c.result (c.read-n.ensures.0 ∙ long_is _ _) n.1 in
+    let n = c.next_cell-c-in-loop-c.ensures.cells c.args.row (rest_of x.rest) (from_later x c.loop-c-test.true c.node_end.ensures) (from_rest x c.loop-c-test.true c.node_end.ensures) in
+    let e = from_turn x c.loop-c-test.true c.node_end.ensures c.next_cell-c-in-loop-c.result (c.read-n.ensures.0 ∙ long_is _ _) n.1 in
     (n.0, omega (arith, length_first e, c.loop-c.invariant.1), omega (arith, sum_first e, c.loop-c.invariant.2), omega (arith, zeros_first e, c.loop-c.invariant.3, c.at_least_one.ensures))
 
 pub returns : goal.returns
