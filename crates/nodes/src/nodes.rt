@@ -15,6 +15,7 @@ ghost use Rattle.nodes.specs.Stands.{Siblings, NodeAt};
 ghost use Rattle.nodes.specs.TextStep.{text_step};
 
 use crate::white_space::{Begun, has_ended, white_state};
+use input::tag::TEXT;
 use normalized::normalize::push_text_part;
 use spec::ctx::FormatOpts;
 use text::buffer::{Wrote, push_all};
@@ -88,7 +89,7 @@ pub fn write_text_node(
     ensures { Writes (length text.old) text.new result (text_step opts sheet.now (place_at nodes.now i) (take len text.old)) }
 {
     let place = node_place(nodes, i);
-    if tag_at(sheet, place) != 4 {
+    if tag_at(sheet, place) != TEXT {
         return Ok(len);
     }
     let part = text_at(sheet, place);
