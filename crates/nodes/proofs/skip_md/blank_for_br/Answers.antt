@@ -1,13 +1,8 @@
 use mathlib.Core.Path.{sym, ◌∙◌}
 use lib.ListN.{take}
-use lib.Seq.{length-take-le}
 use Rattle.text.proofs.Writing.{alike, keeps}
 use Rattle.nodes.proofs.Spots.{br_other, br_ended, br_blank}
 use Rattle.nodes.proofs.skip_md.blank_for_br.Goals as goal
-
-pub slice_bounds-ends_with_byte-end-2 : goal.slice_bounds-ends_with_byte-end-2
-slice_bounds-ends_with_byte-end-2 c =
-    sym (length-take-le c.args.len c.args.text.now c.requires)
 
 pub returns-then-name-ne-BR : goal.returns-then-name-ne-BR
 returns-then-name-ne-BR c =
