@@ -1,8 +1,5 @@
-use Prim.Native.Nat.{ℕ}
 use mathlib.Core.List.{[], ◌∷◌}
-use mathlib.Core.Path.{◌≡◌, subst}
-use lib.ListN.{replicate}
-use Rattle.tables.specs.Puts.{Puts, bars}
+use Rattle.tables.specs.Puts.{bars}
 use Rattle.tables.proofs.Putting.{puts_none, puts_then, puts_as, bars_more, length_bars_bytes}
 use native.Mathlib.Omega.{arith}
 use Rattle.tables.proofs.bars.put_byte_cells.Goals as goal
@@ -21,14 +18,3 @@ pub loop-preserved : goal.loop-preserved
 loop-preserved c =
     let a = c.args in
     puts_as (bars_more (a.b ∷ []) c.loop.counter) (puts_then c.loop.invariant c.put_byte_cell-end.ensures)
-
-pub shape_of-text : goal.shape_of-text
-shape_of-text c =
-    c.loop.invariant.long
-
-pub returns : goal.returns
-returns c =
-    let a = c.args in
-    let l = c.loop in
-    let e : l.counter ≡ a.count = omega arith in
-    subst (λ (k : ℕ). Puts a.text.now l.text a.len l.end (bars (replicate k (a.b ∷ [])))) e l.invariant

@@ -4,12 +4,6 @@ use Rattle.spec.specs.Md.Elements.Table.{all_th}
 use Rattle.tables.proofs.TableCells.{cells_all, cells_node, cells_first, cells_none, th_on, th_not}
 use Rattle.tables.proofs.rows.all_th.Goals as goal
 
-pub node_end-to-requires : goal.node_end-to-requires
-node_end-to-requires c = c.requires.1.is_element.inside
-
-pub overflow_add-c : goal.overflow_add-c
-overflow_add-c c = omega (arith, c.requires.1.is_element.inside)
-
 pub loop-c-init : goal.loop-c-init
 loop-c-init c = λ row x. (row, cells_all x, refl)
 

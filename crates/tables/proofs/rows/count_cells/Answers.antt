@@ -7,21 +7,12 @@ use Rattle.spec.specs.Md.Elements.Table.{is_table_cell}
 use Rattle.tables.proofs.TableCells.{cells_all, cells_node, cells_first, cells_none, count_on, count_one}
 use Rattle.tables.proofs.rows.count_cells.Goals as goal
 
-pub node_end-to-requires : goal.node_end-to-requires
-node_end-to-requires c = c.requires.1.is_element.inside
-
-pub overflow_add-c : goal.overflow_add-c
-overflow_add-c c = omega (arith, c.requires.1.is_element.inside)
-
 pub loop-c-init : goal.loop-c-init
 loop-c-init c = (omega arith, λ row x. (row, cells_all x, omega arith))
 
 pub node_name-requires : goal.node_name-requires
 node_name-requires c =
     cells_node (c.loop-c.invariant.1 c.requires.0 c.requires.1).1 (omega (arith, c.node_end-to.ensures))
-
-pub overflow_add-n : goal.overflow_add-n
-overflow_add-n c = omega (arith, c.loop-c.invariant.0, count_one (is_table_cell c.node_name.result) c.cells_of-n.ensures)
 
 pub node_end-c-requires : goal.node_end-c-requires
 node_end-c-requires c =

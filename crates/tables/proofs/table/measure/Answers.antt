@@ -5,7 +5,7 @@ use Rattle.tree.specs.Memory.{end_at}
 use Rattle.tree.specs.Represents.{rest_of}
 use Rattle.tree.proofs.Firsts.{rep_le}
 use Rattle.tree.proofs.Numbers.{long_is}
-use Rattle.tables.specs.Spans.{cell_lengths, sum, zeros}
+use Rattle.tables.specs.Spans.{cell_lengths}
 use Rattle.tables.proofs.Gathering.{few_cells, from_none, from_first, from_rest, from_later, from_turn, sum_first, zeros_first, length_first, sum_none, zeros_none, zeros_few}
 use native.Mathlib.Omega.{arith}
 use Rattle.tables.proofs.table.measure.Goals as goal
@@ -13,15 +13,6 @@ use Rattle.tables.proofs.table.measure.Goals as goal
 pub overflow_add-row : goal.overflow_add-row
 overflow_add-row c =
     omega (arith, rep_le c.args.sheet.now c.args.nodes.now c.args.row (c.args.row + 1) c.args.to c.requires.0.0 c.requires.0.1)
-
-pub next_cell-c-requires : goal.next_cell-c-requires
-next_cell-c-requires c =
-    (c.args.row, c.requires.0.0, c.requires.0.1)
-
-pub loop-c-init : goal.loop-c-init
-loop-c-init c =
-    let n = c.next_cell-c.ensures.cells c.args.row c.requires.0.0 (omega arith) c.requires.0.1 in
-    (n.0, omega (arith, ap length n.1), omega (arith, ap sum n.1), omega (arith, ap zeros n.1))
 
 pub overflow_mul-c : goal.overflow_mul-c
 overflow_mul-c c =
@@ -44,10 +35,6 @@ pub overflow_add-bytes : goal.overflow_add-bytes
 overflow_add-bytes c =
     let e = from_turn c.loop-c.invariant.0 c.loop-c-test.true refl (end_at c.args.nodes.now c.loop-c.c) (c.read-n.ensures.0 ∙ long_is _ _) refl in
     omega (arith, sum_first e, c.loop-c.invariant.2, c.requires.1)
-
-pub overflow_sub-empty : goal.overflow_sub-empty
-overflow_sub-empty c =
-    omega (arith, c.at_least_one.ensures)
 
 pub overflow_add-empty : goal.overflow_add-empty
 overflow_add-empty c =

@@ -1,15 +1,11 @@
-use Prim.Native.Nat.{ℕ, ◌+◌}
-use mathlib.Core.List.{List}
-use mathlib.Core.Path.{refl, ap, subst, ◌∙◌}
+use Prim.Native.Nat.{◌+◌}
+use mathlib.Core.Path.{refl, ◌∙◌}
 use lib.ListN.{drop}
 use Rattle.tree.specs.Memory.{end_at}
 use Rattle.tree.specs.Represents.{rest_of}
 use Rattle.tree.proofs.Firsts.{rep_le}
 use Rattle.tree.proofs.Numbers.{long_is}
-use Rattle.tables.specs.Puts.{bars}
-use Rattle.tables.specs.Spans.{cell_lengths, sum}
-use Rattle.tables.specs.Columns.{columns}
-use Rattle.tables.proofs.Putting.{Due, due_all, due_done}
+use Rattle.tables.proofs.Putting.{due_done}
 use Rattle.tables.proofs.Columns.{columns_none, column_room, column_on}
 use Rattle.tables.proofs.Gathering.{from_none, from_first, from_rest, from_later, from_turn, sum_first}
 use native.Mathlib.Omega.{arith}
@@ -18,21 +14,6 @@ use Rattle.tables.proofs.table.put_columns.Goals as goal
 pub overflow_add-row : goal.overflow_add-row
 overflow_add-row c =
     omega (arith, rep_le c.args.sheet.now c.args.nodes.now c.args.row (c.args.row + 1) c.args.to c.requires.0.0 c.requires.0.1)
-
-pub next_cell-c-requires : goal.next_cell-c-requires
-next_cell-c-requires c =
-    (c.args.row, c.requires.0.0, c.requires.0.1)
-
-pub loop-c-init : goal.loop-c-init
-loop-c-init c =
-    let a = c.args in
-    let n = c.next_cell-c.ensures.cells a.row c.requires.0.0 (omega arith) c.requires.0.1 in (
-      n.0,
-      subst (λ (l : List ℕ). Due a.text.now a.text.now a.len a.len (bars (columns a.under l (drop a.src a.text.now))) (bars (columns a.under (cell_lengths a.sheet.now a.nodes.now a.row (a.row + 1) a.to) (drop a.src a.text.now)))) n.1
-          (due_all a.text.now a.len (bars (columns a.under (cell_lengths a.sheet.now a.nodes.now a.row (a.row + 1) a.to) (drop a.src a.text.now)))),
-      omega arith,
-      omega (arith, ap sum n.1),
-    )
 
 pub overflow_mul-c : goal.overflow_mul-c
 overflow_mul-c c =
@@ -89,10 +70,6 @@ loop-c-preserved c =
       omega arith,
       omega (arith, sum_first e, l.invariant.3),
     )
-
-pub shape_of-text : goal.shape_of-text
-shape_of-text c =
-    c.loop-c.invariant.1.puts.long
 
 pub returns : goal.returns
 returns c =
