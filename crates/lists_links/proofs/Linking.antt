@@ -236,21 +236,3 @@ piece_turn wrap second nb s t i h e =
 pub pieces_end : (wrap second : Bool) (s t : List ℕ) (i : ℕ) → length s ≤ i → push (each_byte (url_byte wrap) (html_from second (drop i s))) t ≡ push [] t
 unfolding html_from each_byte
 pieces_end wrap second s t i h = ap (λ (x : List ℕ). push (each_byte (url_byte wrap) (html_from second x)) t) (drop_of_length-le s h)
-
--- what stands for a byte
-pub byte_backslash : (wrap : Bool) (b : ℕ) → b ≡ 92 → url_byte wrap b ≡ 92 ∷ 92 ∷ []
-unfolding wrapped_byte backslash_twice isin
-byte_backslash true b e = ap wrapped_byte e
-byte_backslash false b e = ap backslash_twice e
-
-pub byte_plain : (wrap : Bool) (b : ℕ) → wrap ≡ false → (b ≡ 92 → ⊥) → url_byte wrap b ≡ b ∷ []
-unfolding backslash_twice
-byte_plain wrap b e h = ap (λ (w : Bool). url_byte w b) e ∙ rw (ne_eqb b 92 h)
-
--- k is replaced by x
-pub byte_wrapped : (wrap : Bool) (b k : ℕ) → wrap ≡ true → b ≡ k → url_byte wrap b ≡ wrapped_byte k
-byte_wrapped wrap b k e f = ap (λ (w : Bool). url_byte w b) e ∙ ap wrapped_byte f
-
-pub byte_other : (wrap : Bool) (b : ℕ) → wrap ≡ true → (b ≡ 92 → ⊥) → (b ≡ 60 → ⊥) → (b ≡ 62 → ⊥) → (b ≡ 10 → ⊥) → (b ≡ 13 → ⊥) → url_byte wrap b ≡ b ∷ []
-unfolding wrapped_byte isin
-byte_other wrap b e a c d f g = ap (λ (w : Bool). url_byte w b) e ∙ rw (ne_eqb b 92 a, ne_eqb b 60 c, ne_eqb b 62 d, ne_eqb b 10 f, ne_eqb b 13 g)

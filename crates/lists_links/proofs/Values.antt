@@ -6,9 +6,9 @@ use mathlib.Core.List.{List}
 use mathlib.Core.Option.{Option, none, some}
 use native.Mathlib.Omega.{arith}
 use lib.Dec.{eqb}
-use lib.ListN.{length, take, drop, length-take, length-drop}
-use lib.Seq.{length-take-le, take-take, drop-drop}
-use Rattle.spec.specs.Bytes.{Bytes, white, one, words, first_word, or_else, trim_end, trim_end_matches, trim_start_matches}
+use lib.ListN.{length, take, drop, length-take}
+use lib.Seq.{length-take-le, take-take}
+use Rattle.spec.specs.Bytes.{Bytes, white, one, words, first_word, trim_end, trim_end_matches, trim_start_matches}
 use Rattle.spec.specs.Out.{Step, keep}
 use Rattle.spec.specs.Md.Elements.Image.{filled_value, first_source, if_some}
 use Rattle.std.specs.Prelude.{Option as Answer, Some, None}

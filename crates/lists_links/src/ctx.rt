@@ -13,7 +13,7 @@ fn push_decimal(text: &mut [u8], len: usize, n: u32) -> Wrote
     requires { len ≤ length text.old }
     ensures { Writes (length text.old) text.new result (push (decimal n) (take len text.old)) }
 {
-    let last = 48 + (n % 10) as u8;
+    let last = b'0' + (n % 10) as u8;
     if n < 10 {
         return push_byte(text, len, last);
     }
@@ -47,8 +47,7 @@ pub fn push_prefix(text: &mut [u8], len: usize, ctx: ListContext) -> Wrote
     requires { len ≤ length text.old }
     ensures { Writes (length text.old) text.new result (push (def.prefix ctx) (take len text.old)) }
 {
-    let kind = ctx.kind;
-    match kind {
+    match ctx.kind {
         ListKind::Ul => push_ul_prefix(text, len, ctx),
         ListKind::Ol(n) => push_ol_prefix(text, len, n),
     }
@@ -58,8 +57,7 @@ pub fn push_prefix(text: &mut [u8], len: usize, ctx: ListContext) -> Wrote
 pub fn prefix_len(ctx: ListContext) -> usize
     ensures { (result ≡ length (def.prefix ctx)) × (result ≤ 12) }
 {
-    let kind = ctx.kind;
-    match kind {
+    match ctx.kind {
         ListKind::Ul => 2,
         ListKind::Ol(n) => digits(n) + 2,
     }

@@ -46,7 +46,7 @@ pub fn begin_item(text: &mut [u8], len: usize, blocks: bool, ctx: ListContext) -
 {
     let n = trim_before_item(text, len, blocks);
     let indent = ctx.list_indent;
-    let m = push_repeated(text, n, 32, indent)?;
+    let m = push_repeated(text, n, b' ', indent)?;
     push_prefix(text, m, ctx)
 }
 
@@ -58,8 +58,8 @@ pub fn item_from(ctx: ListContext, next: ListContext, start: usize) -> Item
     let indent = ctx.list_indent + prefix_len(ctx);
     Item {
         ctx: next,
-        indent: indent,
-        start: start,
+        indent,
+        start,
     }
 }
 
@@ -70,7 +70,7 @@ pub fn push_line_start(text: &mut [u8], len: usize, item: Item) -> Wrote
 {
     let indent = item.indent;
     let n = push_linebreak(text, len, item.ctx.opts.table_cell)?;
-    push_repeated(text, n, 32, indent)
+    push_repeated(text, n, b' ', indent)
 }
 
 // Appends a rule on a line of its own.
@@ -101,11 +101,11 @@ fn push_flow_lead(text: &mut [u8], len: usize, item: Item) -> Wrote
     requires { len ≤ length text.old }
     ensures { Writes (length text.old) text.new result (push (cond (ends_with (ascii "\n") (take len text.old)) [] (break_of item.ctx) ++ replicate item.indent 32) (take len text.old)) }
 {
-    if !ends_with_byte(&text[..len], 10) {
+    if !ends_with_byte(&text[..len], b'\n') {
         return push_line_start(text, len, item);
     }
     let indent = item.indent;
-    push_repeated(text, len, 32, indent)
+    push_repeated(text, len, b' ', indent)
 }
 
 // Appends what stands before a block: `indented` says that it is a code block.
@@ -124,7 +124,7 @@ pub fn push_block_lead(
         return Ok(len);
     }
     if indented {
-        return push_repeated(text, len, 32, indent);
+        return push_repeated(text, len, b' ', indent);
     }
     push_flow_lead(text, len, item)
 }
@@ -138,10 +138,10 @@ pub fn push_inline_lead(text: &mut [u8], len: usize, item: Item, is_blank_text: 
     if is_blank_text | (len <= item.start) {
         return Ok(len);
     }
-    if !ends_with_byte(&text[..len], 10) {
+    if !ends_with_byte(&text[..len], b'\n') {
         return Ok(len);
     }
-    push_repeated(text, len, 32, indent)
+    push_repeated(text, len, b' ', indent)
 }
 
 // Ends the item's last line.
@@ -149,7 +149,7 @@ pub fn end_item(text: &mut [u8], len: usize, item: Item) -> Wrote
     requires { len ≤ length text.old }
     ensures { Writes (length text.old) text.new result (ended_item (item_of item) (take len text.old)) }
 {
-    if ends_with_byte(&text[..len], 10) {
+    if ends_with_byte(&text[..len], b'\n') {
         return Ok(len);
     }
     push_linebreak(text, len, item.ctx.opts.table_cell)

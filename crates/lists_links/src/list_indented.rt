@@ -18,14 +18,11 @@ use text::class::{Blank, Only};
 use text::white_space::trim_end;
 
 // Whether the byte at k goes on with a character; none stands behind the end.
+#[tactic(auto, using(crate::proofs::Boundary::none_behind), unfolding(spec::specs::Md::Elements::List::continuation))]
 fn continues(t: &[u8], k: usize) -> bool
     ensures { result ≡ def.continuation (get_or t.now k 0) }
 {
-    if k < t.len() {
-        (128 <= t[k]) & (t[k] <= 191)
-    } else {
-        false
-    }
+    k < t.len() && matches!(t[k], 128..=191)
 }
 
 // Where a character begins, at n or before it.
@@ -67,7 +64,7 @@ fn at_line_start(t: &[u8], item: Item) -> bool
     if !all_in::<Blank>(&t[n..]) {
         return false;
     }
-    ends_with_byte(&t[..n], 10)
+    ends_with_byte(&t[..n], b'\n')
 }
 
 // Cuts White_Space at the end of t, but nothing of what stands before the item's content.
@@ -98,7 +95,7 @@ fn push_line_byte(text: &mut [u8], len: usize, b: u8, empty: bool, item: Item) -
     requires { len ≤ length text.old }
     ensures { Writes (length text.old) text.new result (push (line_byte (item_of item) empty b) (take len text.old)) }
 {
-    if b != 10 {
+    if b != b'\n' {
         return push_byte(text, len, b);
     }
     if empty {
@@ -112,10 +109,7 @@ fn ends_line(t: &[u8], i: usize, to: usize) -> bool
     requires { to ≤ length t.now }
     ensures { result ≡ null (parts def.is_line_end (slice i to t.now)).0 }
 {
-    if to <= i {
-        return true;
-    }
-    t[i] == 10
+    to <= i || t[i] == b'\n'
 }
 
 // Appends the lines of what stands from `from` to `to` behind the room.
@@ -124,11 +118,9 @@ fn push_lines(text: &mut [u8], room: usize, from: usize, to: usize, len: usize, 
     ensures { WritesIn room text.old text.new result (push (def.block_lines (item_of item) (split def.is_line_end (slice from to text.old))) (take len text.old)) }
 {
     let mut m = len;
-    let mut i = from;
-    while i < to {
+    for i in from..to {
         let b = text[i];
-        i += 1;
-        let empty = ends_line(text, i, to);
+        let empty = ends_line(text, i + 1, to);
         m = push_line_byte(&mut text[..room], m, b, empty, item)?;
     }
     Ok(m)

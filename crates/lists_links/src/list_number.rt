@@ -9,6 +9,8 @@ ghost use Rattle.text.specs.Trimmed.{Skipped};
 use text::buffer::{starts_with_byte, trim_start_matches};
 use text::class::{Digit, Only, White};
 
+const MAX_LIST_NUMBER: u32 = 999999999;
+
 // The number that an attribute's value says, if it says one.
 pub fn parse_list_number(value: &[u8]) -> Option<u32>
     ensures { result ≡ parsed_of (def.parse_list_number value.now) }
@@ -26,7 +28,7 @@ fn parse_signed(value: &[u8]) -> Option<u32>
     if digits_len == 0 {
         return None;
     }
-    if starts_with_byte(value, 45) {
+    if starts_with_byte(value, b'-') {
         return Some(0);
     }
     let end = sign + digits_len;
@@ -37,10 +39,11 @@ fn parse_signed(value: &[u8]) -> Option<u32>
 fn sign_len(value: &[u8]) -> usize
     ensures { Skipped value.now result (unsigned value.now) }
 {
-    if starts_with_byte(value, 45) | starts_with_byte(value, 43) {
-        return 1;
+    if starts_with_byte(value, b'-') | starts_with_byte(value, b'+') {
+        1
+    } else {
+        0
     }
-    0
 }
 
 fn clamped(digits: &[u8]) -> u32
@@ -48,7 +51,7 @@ fn clamped(digits: &[u8]) -> u32
 {
     let zeros = trim_start_matches::<Only<b'0'>>(digits);
     if 9 < digits.len() - zeros {
-        return 999999999;
+        return MAX_LIST_NUMBER;
     }
     value_of(&digits[zeros..])
 }
@@ -57,7 +60,7 @@ fn clamped(digits: &[u8]) -> u32
 fn digit_value(b: u8) -> usize
     ensures { (result ≡ b - 48) × (result ≤ 207) }
 {
-    if b < 48 { 0 } else { (b - 48) as usize }
+    b.saturating_sub(b'0') as usize
 }
 
 // The number of at most nine bytes.
@@ -69,5 +72,5 @@ fn value_of(digits: &[u8]) -> u32
     for b in digits {
         n = n * 10 + digit_value(*b);
     }
-    if n < 999999999 { n as u32 } else { 999999999 }
+    n.min(MAX_LIST_NUMBER as usize) as u32
 }

@@ -19,13 +19,10 @@ fn push_quoted(text: &mut [u8], base: usize, n: usize, len: usize) -> Wrote
     requires { (len ≤ base) × (base + n ≤ length text.old) }
     ensures { WritesIn base text.old text.new result (push (def.each_byte def.quote_escaped (slice base (base + n) text.old)) (take len text.old)) }
 {
-    let end = base + n;
     let mut m = len;
-    let mut i = base;
-    while i < end {
+    for i in base..base + n {
         let b = text[i];
-        m = put_escaped(text, base, m, b == 34, b)?;
-        i += 1;
+        m = put_escaped(text, base, m, b == b'"', b)?;
     }
     Ok(m)
 }
@@ -45,7 +42,7 @@ fn push_title_text(text: &mut [u8], len: usize, title: &[u8]) -> Wrote
     requires { len ≤ length text.old }
     ensures { Writes (length text.old) text.new result (cond (isin 34 title.now) (def.quoted_title title.now) (def.push_normalized_text title.now new) (take len text.old)) }
 {
-    if contains_byte(title, 34) {
+    if contains_byte(title, b'"') {
         return push_quoted_title(text, len, title);
     }
     let opts = FormatOpts::new();
@@ -58,5 +55,5 @@ pub fn push_title(text: &mut [u8], len: usize, title: &[u8]) -> Wrote
 {
     let n = push_all(text, len, b" \"")?;
     let m = push_title_text(text, n, title)?;
-    push_byte(text, m, 34)
+    push_byte(text, m, b'"')
 }

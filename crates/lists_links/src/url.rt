@@ -11,10 +11,11 @@ ghost use Rattle.text.specs.Writes.{Writes};
 
 use text::buffer::{Wrote, push_all, push_byte, starts_with_byte};
 
+#[tactic(auto, unfolding(spec::specs::Md::TextUtils::wants_wrap, spec::specs::Bytes::isin))]
 fn wants_wrap(b: u8) -> bool
     ensures { result ≡ def.wants_wrap b }
 {
-    ((b == 32) | (b == 60)) | ((b <= 31) | (b == 127))
+    matches!(b, 0..=31 | b' ' | b'<' | 127)
 }
 
 // The balance of parentheses behind b: below zero where b closes one that is not open.
@@ -22,13 +23,11 @@ fn next_balance(balance: i32, b: u8) -> i32
     requires { SFits w32 (balance +ℤ pos 1) × SFits w32 (balance -ℤ pos 1) }
     ensures { result ≡ next_balance balance b }
 {
-    if b == 40 {
-        return balance + 1;
+    match b {
+        b'(' => balance + 1,
+        b')' => balance - 1,
+        _ => balance,
     }
-    if b == 41 {
-        return balance - 1;
-    }
-    balance
 }
 
 // Whether a destination stands between `<` and `>`. The replacements of html_escape change nothing in that. The balance is an
@@ -38,43 +37,31 @@ fn needs_wrap(dest: &[u8]) -> bool
     ensures { result ≡ def.needs_wrap 0 dest.now }
 {
     let mut balance: i32 = 0;
-    let mut i = 0;
-    while i < dest.len() {
-        if wants_wrap(dest[i]) {
+    for b in dest {
+        if wants_wrap(*b) {
             return true;
         }
-        balance = next_balance(balance, dest[i]);
+        balance = next_balance(balance, *b);
         if balance < 0 {
             return true;
         }
-        i += 1;
     }
     balance != 0
 }
 
+#[tactic(auto, unfolding(spec::specs::Md::TextUtils::wrapped_byte, spec::specs::Md::TextUtils::backslash_twice, spec::specs::Bytes::isin))]
 fn push_url_byte(text: &mut [u8], len: usize, b: u8, wrap: bool) -> Wrote
     requires { len ≤ length text.old }
     ensures { Writes (length text.old) text.new result (push (url_byte wrap b) (take len text.old)) }
 {
-    if b == 92 {
-        return push_all(text, len, b"\\\\");
+    match b {
+        b'\\' => push_all(text, len, b"\\\\"),
+        b'<' if wrap => push_all(text, len, b"\\<"),
+        b'>' if wrap => push_all(text, len, b"\\>"),
+        b'\n' if wrap => push_all(text, len, b"%0A"),
+        b'\r' if wrap => push_all(text, len, b"%0D"),
+        _ => push_byte(text, len, b),
     }
-    if !wrap {
-        return push_byte(text, len, b);
-    }
-    if b == 60 {
-        return push_all(text, len, b"\\<");
-    }
-    if b == 62 {
-        return push_all(text, len, b"\\>");
-    }
-    if b == 10 {
-        return push_all(text, len, b"%0A");
-    }
-    if b == 13 {
-        return push_all(text, len, b"%0D");
-    }
-    push_byte(text, len, b)
 }
 
 // Appends what stands for b: `second` says that it ends U+00A0, `nbsp` that it begins it.
@@ -85,46 +72,26 @@ fn push_piece(text: &mut [u8], len: usize, b: u8, wrap: bool, second: bool, nbsp
     if second {
         return Ok(len);
     }
-    if b == 38 {
-        return push_all(text, len, b"&amp;");
+    match b {
+        b'&' => push_all(text, len, b"&amp;"),
+        b'"' => push_all(text, len, b"&quot;"),
+        _ if nbsp => push_all(text, len, b"&nbsp;"),
+        _ => push_url_byte(text, len, b, wrap),
     }
-    if b == 34 {
-        return push_all(text, len, b"&quot;");
-    }
-    if nbsp {
-        return push_all(text, len, b"&nbsp;");
-    }
-    push_url_byte(text, len, b, wrap)
 }
 
 // Whether b stands as it is in a destination that is appended, between `<` and `>` or without them.
 fn is_kept(b: u8) -> bool
     ensures { result ≡ kept b }
 {
-    if 92 < b {
-        return b != 194;
-    }
-    if 62 < b {
-        return b != 92;
-    }
-    if 38 < b {
-        return (b != 60) & (b != 62);
-    }
-    ((b != 34) & (b != 38)) & ((b != 10) & (b != 13))
+    !matches!(b, b'"' | b'&' | b'<' | b'>' | b'\\' | b'\n' | b'\r' | 194)
 }
 
 // Whether all bytes do.
 fn is_kept_dest(dest: &[u8]) -> bool
     ensures { result ≡ every kept dest.now }
 {
-    let mut i = 0;
-    while i < dest.len() {
-        if !is_kept(dest[i]) {
-            return false;
-        }
-        i += 1;
-    }
-    true
+    dest.iter().all(|b| is_kept(*b))
 }
 
 fn push_dest(text: &mut [u8], len: usize, dest: &[u8], wrap: bool) -> Wrote
@@ -136,13 +103,10 @@ fn push_dest(text: &mut [u8], len: usize, dest: &[u8], wrap: bool) -> Wrote
     }
     let mut n = len;
     let mut second = false;
-    let mut i = 0;
-    while i < dest.len() {
-        let j = i + 1;
-        let nbsp = (dest[i] == 194) & starts_with_byte(&dest[j..], 160);
+    for i in 0..dest.len() {
+        let nbsp = (dest[i] == 194) & starts_with_byte(&dest[i + 1..], 160);
         n = push_piece(text, n, dest[i], wrap, second, nbsp)?;
         second = !second & nbsp;
-        i += 1;
     }
     Ok(n)
 }
@@ -151,17 +115,16 @@ fn push_wrapped(text: &mut [u8], len: usize, dest: &[u8]) -> Wrote
     requires { len ≤ length text.old }
     ensures { Writes (length text.old) text.new result (push (ascii "<" ++ (def.each_byte def.wrapped_byte (def.html_escape dest.now) ++ ascii ">")) (take len text.old)) }
 {
-    let n = push_byte(text, len, 60)?;
+    let n = push_byte(text, len, b'<')?;
     let m = push_dest(text, n, dest, true)?;
-    push_byte(text, m, 62)
+    push_byte(text, m, b'>')
 }
 
 // Whether b stands in a destination as it is, whatever is around it.
 fn is_itself(b: u8) -> bool
     ensures { result ≡ itself b }
 {
-    !(wants_wrap(b)
-        | ((b == 40) | ((b == 41) | ((b == 38) | ((b == 34) | ((b == 92) | (b == 194)))))))
+    !(wants_wrap(b) | matches!(b, b'(' | b')' | b'&' | b'"' | b'\\' | 194))
 }
 
 // Whether all bytes do: without an early exit, so that many bytes can be tested at once.
@@ -169,10 +132,8 @@ fn is_plain_dest(dest: &[u8]) -> bool
     ensures { result ≡ every itself dest.now }
 {
     let mut all = true;
-    let mut i = 0;
-    while i < dest.len() {
-        all = all & is_itself(dest[i]);
-        i += 1;
+    for b in dest {
+        all &= is_itself(*b);
     }
     all
 }

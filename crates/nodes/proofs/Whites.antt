@@ -164,21 +164,9 @@ pub white_folds : Folds white_state
 unfolding white_state
 white_folds = record { none = λ x. refl; joins = state_then }
 
--- ---- one byte more, in the arms of a `match`
+-- ---- one byte more behind bytes that are not White_Space
 
 module _ {x : Begun} (c : ℕ) where
-  pub next_nothing : x ≡ Nothing → cond (is_white_space (c ∷ [])) Nothing (One c) ≡ next_white x c
-  unfolding next_white held grown
-  next_nothing e = sym (ap (λ (y : Begun). next_white y c) e)
-
-  pub next_one : {a : ℕ} → x ≡ One a → cond (is_white_space (a ∷ c ∷ [])) Nothing (Two a c) ≡ next_white x c
-  unfolding next_white held grown
-  next_one e = sym (ap (λ (y : Begun). next_white y c) e)
-
-  pub next_two : {a b : ℕ} → x ≡ Two a b → cond (is_white_space (a ∷ b ∷ c ∷ [])) Nothing Other ≡ next_white x c
-  unfolding next_white held grown
-  next_two e = sym (ap (λ (y : Begun). next_white y c) e)
-
   pub next_other : x ≡ Other → Other ≡ next_white x c
   unfolding next_white held grown is_white_space white_space_of among same
   next_other e = sym (ap (λ (y : Begun). next_white y c) e)

@@ -15,6 +15,7 @@ ghost use Rattle.nodes.specs.Stands.{Siblings, NodeAt};
 ghost use Rattle.nodes.specs.TextStep.{text_step};
 
 use crate::white_space::{Begun, has_ended, white_state};
+use input::tag::TEXT;
 use normalized::normalize::push_text_part;
 use spec::ctx::FormatOpts;
 use text::buffer::{Wrote, push_all};
@@ -47,12 +48,10 @@ pub fn has_element(sheet: &[u8], nodes: &[u8], from: usize, to: usize, name: usi
     requires { Siblings sheet.now nodes.now from to × (0 < name) }
     ensures { (parent : ℕ) (f : Forest) → Rep sheet.now nodes.now parent from to f → result ≡ has_element name f }
 {
-    let mut i = from;
-    while i < to {
+    for i in from..to {
         if node_name(sheet, nodes, i) == name {
             return true;
         }
-        i += 1;
     }
     false
 }
@@ -70,14 +69,9 @@ pub fn push_text_of(
     ensures { (parent : ℕ) (f : Forest) → Rep sheet.now nodes.now parent from to f → Writes (length text.old) text.new result (push (text_of f) (take len text.old)) }
 {
     let mut n = len;
-    let mut i = from;
-    while i < to {
+    for i in from..to {
         let place = node_place(nodes, i);
-        let part = text_at(sheet, place);
-        let start = part.start;
-        let end = part.end;
-        n = push_all(text, n, &sheet[start..end])?;
-        i += 1;
+        n = push_all(text, n, &sheet[text_at(sheet, place)])?;
     }
     Ok(n)
 }
@@ -95,18 +89,16 @@ pub fn write_text_node(
     ensures { Writes (length text.old) text.new result (text_step opts sheet.now (place_at nodes.now i) (take len text.old)) }
 {
     let place = node_place(nodes, i);
-    if tag_at(sheet, place) != 4 {
+    if tag_at(sheet, place) != TEXT {
         return Ok(len);
     }
     let part = text_at(sheet, place);
-    let start = part.start;
-    let end = part.end;
     push_text_part(
         text,
         len,
         sheet,
-        start,
-        end,
+        part.start,
+        part.end,
         opts.inline,
         opts.skip_escape,
         opts.list_item,
@@ -127,10 +119,8 @@ pub fn write_text(
     ensures { (parent : ℕ) (f : Forest) → Rep sheet.now nodes.now parent from to f → Writes (length text.old) text.new result (link.write_text opts f (take len text.old)) }
 {
     let mut n = len;
-    let mut i = from;
-    while i < to {
+    for i in from..to {
         n = write_text_node(sheet, nodes, text, n, i, opts)?;
-        i += 1;
     }
     Ok(n)
 }
@@ -141,14 +131,9 @@ pub fn is_white_space(sheet: &[u8], nodes: &[u8], from: usize, to: usize) -> boo
     ensures { (parent : ℕ) (f : Forest) → Rep sheet.now nodes.now parent from to f → result ≡ null (trim_end (text_of f)) }
 {
     let mut state = Begun::Nothing;
-    let mut i = from;
-    while i < to {
+    for i in from..to {
         let place = node_place(nodes, i);
-        let part = text_at(sheet, place);
-        let start = part.start;
-        let end = part.end;
-        state = white_state(&sheet[start..end], state);
-        i += 1;
+        state = white_state(&sheet[text_at(sheet, place)], state);
     }
     has_ended(state)
 }

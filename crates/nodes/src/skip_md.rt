@@ -13,10 +13,14 @@ ghost use Rattle.nodes.specs.Spots.{below_spot, next_spot, spot_step};
 ghost use Rattle.nodes.specs.Stands.{NodeAt, ElementAt, SomeElement};
 
 use crate::nodes::{node_name, write_text_node};
+use input::tag::OPEN;
 use spec::ctx::FormatOpts;
 use text::buffer::{Wrote, ends_with, ends_with_byte, push_byte};
 use tree::names::is_skipped;
 use tree::nodes::{node_end, node_parent, node_place, tag_at};
+
+// The number of the name `br`.
+const BR: usize = 20;
 
 // A place among the nodes: the innermost element that is open there, and the number of the node that follows.
 #[derive(Clone, Copy)]
@@ -30,13 +34,13 @@ pub fn blank_for_br(text: &mut [u8], len: usize, name: usize) -> Wrote
     requires { len ≤ length text.old }
     ensures { Writes (length text.old) text.new result (def.blank_for_br name (take len text.old)) }
 {
-    if name != 20 {
+    if name != BR {
         return Ok(len);
     }
-    if ends_with_byte(&text[..len], 32) {
+    if ends_with_byte(&text[..len], b' ') {
         return Ok(len);
     }
-    push_byte(text, len, 32)
+    push_byte(text, len, b' ')
 }
 
 fn close_skip_md(text: &mut [u8], len: usize, name: usize) -> Wrote
@@ -77,20 +81,17 @@ fn below_spot(sheet: &[u8], own: bool, run: &[u8], nodes: &[u8], open: usize, at
     let place = node_place(nodes, at);
     if is_skipped(sheet, place, own, run) {
         return Spot {
-            open: open,
+            open,
             at: node_end(nodes, at),
         };
     }
-    if tag_at(sheet, place) == 1 {
+    if tag_at(sheet, place) == OPEN {
         return Spot {
             open: at,
             at: at + 1,
         };
     }
-    Spot {
-        open: open,
-        at: at + 1,
-    }
+    Spot { open, at: at + 1 }
 }
 
 // The next place. Behind the end of node `top` no element is open, which is node 0.
@@ -110,11 +111,11 @@ fn next_spot(
         return below_spot(sheet, own, run, nodes, open, at);
     }
     if open == top {
-        return Spot { open: 0, at: at };
+        return Spot { open: 0, at };
     }
     Spot {
         open: node_parent(nodes, open),
-        at: at,
+        at,
     }
 }
 

@@ -14,64 +14,39 @@ pub enum Begun {
     Other,
 }
 
-// A character that has ended, or one that goes on.
-fn ended_or(white: bool, more: Begun) -> Begun
-    ensures { result ≡ cond white begun.Nothing more }
-{
-    if white {
-        return Begun::Nothing;
-    }
-    more
-}
-
 // One byte more.
+#[tactic(auto, using(crate::proofs::Whites::next_other), unfolding(crate::specs::Begun::next_white, crate::specs::Begun::held, crate::specs::Begun::grown))]
 fn next_white(state: Begun, c: u8) -> Begun
     ensures { result ≡ next_white state c }
 {
     match state {
-        Begun::Nothing => ended_or(is_white_space_1(c), Begun::One(c)),
-        Begun::One(a) => ended_or(is_white_space_2(a, c), Begun::Two(a, c)),
-        Begun::Two(a, b) => ended_or(is_white_space_3(a, b, c), Begun::Other),
-        Begun::Other => Begun::Other,
+        Begun::Nothing if is_white_space_1(c) => Begun::Nothing,
+        Begun::Nothing => Begun::One(c),
+        Begun::One(a) if is_white_space_2(a, c) => Begun::Nothing,
+        Begun::One(a) => Begun::Two(a, c),
+        Begun::Two(a, b) if is_white_space_3(a, b, c) => Begun::Nothing,
+        Begun::Two(_, _) | Begun::Other => Begun::Other,
     }
 }
 
-// Whether bytes stand there that are not White_Space: no byte behind them changes that.
-fn is_other(state: Begun) -> bool
-    ensures { result ≡ true → state ≡ begun.Other }
-{
-    match state {
-        Begun::Nothing => false,
-        Begun::One(a) => false,
-        Begun::Two(a, b) => false,
-        Begun::Other => true,
-    }
-}
-
-// The state behind s, where it was `from` before it.
+// The state behind s, where it was `from` before it. No byte changes that others are not White_Space.
 pub fn white_state(s: &[u8], from: Begun) -> Begun
     ensures { result ≡ white_state from s.now }
 {
     let mut state = from;
-    let mut i = 0;
-    while i < s.len() {
-        if is_other(state) {
-            return state;
+    for b in s {
+        if matches!(state, Begun::Other) {
+            break;
         }
-        state = next_white(state, s[i]);
-        i += 1;
+        state = next_white(state, *b);
     }
     state
 }
 
 // Whether all bytes are White_Space, and none is begun.
+#[tactic(auto, unfolding(crate::specs::Begun::is_nothing))]
 pub fn has_ended(state: Begun) -> bool
     ensures { result ≡ is_nothing state }
 {
-    match state {
-        Begun::Nothing => true,
-        Begun::One(a) => false,
-        Begun::Two(a, b) => false,
-        Begun::Other => false,
-    }
+    matches!(state, Begun::Nothing)
 }

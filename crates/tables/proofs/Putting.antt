@@ -4,8 +4,10 @@ use mathlib.Core.Path.{◌≡◌, refl, sym, ap, subst, ◌∙◌}
 use mathlib.Core.List.{List, [], ◌∷◌, ◌++◌, append_assoc, append-nil}
 use native.Mathlib.Omega.{arith}
 use native.Mathlib.Numerals.{add-one}
-use lib.ListN.{length, take, drop, set, get_or, replicate, length-append, length-take, length-drop, length-set, length-replicate, get_or-replicate, replicate-append-replicate}
-use lib.Seq.{length-take-le, take-suc-set, drop-set-lt, take_all, paste, paste-suc, length-paste, take-paste, drop-paste, get_or-take, get_or-drop, drop-drop}
+use lib.ListN.{length, take, drop, set, replicate, length-append, length-take, length-drop, length-set, replicate-append-replicate}
+use borrow.Rule.Slice.PartMut.{put_mid, same_len_mid}
+use Rattle.std.proofs.lemmas.Slice.{take-put_mid, drop-put_mid}
+use lib.Seq.{length-take-le, take-suc-set, drop-set-lt, drop-drop}
 use Rattle.spec.specs.Bytes.{Bytes}
 use Rattle.tables.specs.Puts.{Puts, bar, bars}
 
@@ -56,14 +58,14 @@ puts_behind {a} {b} {len} {m} src p h = drop_later a b m src h p.behind
 pub puts_reach : {a b : List ℕ} {len m : ℕ} {x : List ℕ} → Puts a b len m x → len ≤ length a → m ≤ length b
 puts_reach {a} {b} {len} {m} {x} p h = omega (arith, p.count, ap length p.text_is, length-append (take len a) x, length-take-le len a h, length-take m b)
 
--- a copy of all of s
-pub puts_paste : {d after s : List ℕ} {len n : ℕ} → len + n ≤ length d → n ≡ length s → after ≡ paste d len s n → Puts d after len (len + n) s
-puts_paste {d} {after} {s} {len} {n} h e p =
+-- the bytes from `len` on are replaced by s, as a write to `text[len..len + k]` leaves them
+pub puts_mid : (d s : List ℕ) (len k : ℕ) → k ≡ length s → len + k ≤ length d → Puts d (put_mid len (len + k - len) d s) len (len + k) s
+puts_mid d s len k q h =
     record {
-      long = ap length p ∙ length-paste d len s n h (omega arith);
+      long = same_len_mid len (len + k - len) d s (omega (arith, length-take (len + k - len) (drop len d), length-drop len d));
       count = omega arith;
-      text_is = rw p (take-paste d len s n (omega arith) (omega arith) ∙ ap (λ (x : List ℕ). take len d ++ x) (take_all n s (omega arith)));
-      behind = rw p (drop-paste d len s n (omega arith) (omega arith));
+      text_is = take-put_mid len (len + k - len) d s (len + k) (omega arith) (omega arith);
+      behind = drop-put_mid len (len + k - len) d s (len + k) (omega arith) (omega arith) (omega arith);
     }
 
 -- ---- a loop that puts `whole`, of which `rest` is left
@@ -89,29 +91,6 @@ module _ {a b : List ℕ} {len end : ℕ} {rest whole : List ℕ} (p : Due a b l
 
   pub due_done : rest ≡ [] → Puts a b len end whole
   due_done e = puts_as (sym (p.whole_is ∙ ap (λ (z : List ℕ). p.done ++ z) e ∙ append-nil p.done)) p.puts
-
--- ---- a loop that copies forwards, from src to len, which is not behind it
-
-paste_behind : (d : List ℕ) (at : ℕ) (s : List ℕ) (n j : ℕ) → at ≤ length d → n ≤ length s → at + n ≤ j → get_or (paste d at s n) j 0 ≡ get_or d j 0
-paste_behind d at s n j hd hs l =
-    let e : at + n + (j - (at + n)) ≡ j = omega arith in
-    subst (λ (k : ℕ). get_or (paste d at s n) k 0 ≡ get_or d k 0) e
-    (sym (get_or-drop (at + n) (paste d at s n) (j - (at + n)) 0) ∙ ap (λ (l : List ℕ). get_or l (j - (at + n)) 0) (drop-paste d at s n hd hs) ∙ get_or-drop (at + n) d (j - (at + n)) 0)
-
-pub from_turn : (d text : List ℕ) (len src n i : ℕ) → len ≤ src → src + n ≤ length d → i < n → text ≡ paste d len (take n (drop src d)) i
-    → set text (len + i) (get_or text (src + i) 0) ≡ paste d len (take n (drop src d)) (i + 1)
-from_turn d text len src n i h r l e =
-    let m : length (take n (drop src d)) ≡ n = part_length d src n r in
-    let g : get_or (paste d len (take n (drop src d)) i) (src + i) 0 ≡ get_or (take n (drop src d)) i 0 =
-    paste_behind d len (take n (drop src d)) i (src + i) (omega arith) (omega arith) (omega arith) ∙ sym (get_or-drop src d i 0) ∙ sym (get_or-take n (drop src d) i 0 l) in
-    rw (e, g, add-one) (paste-suc d len (take n (drop src d)) i 0 (omega arith) (omega (arith, m)))
-
-pub repeated_turn : (d text : List ℕ) (len b n i : ℕ) → len + n ≤ length d → i < n → text ≡ paste d len (replicate n b) i
-    → set text (len + i) b ≡ paste d len (replicate n b) (i + 1)
-repeated_turn d text len b n i h l e =
-    rw (e, add-one)
-    (ap (set (paste d len (replicate n b) i) (len + i)) (sym (get_or-replicate n i b 0 l))
-    ∙ paste-suc d len (replicate n b) i 0 (omega arith) (omega (arith, length-replicate n b)))
 
 -- ---- cells
 

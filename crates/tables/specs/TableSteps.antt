@@ -7,7 +7,7 @@ use Rattle.spec.specs.Md.Elements.Table.{Cell, row_texts, texts, concat, width_o
 use Rattle.spec.specs.declared.ctx.FormatOpts.{FormatOpts}
 use Rattle.text.specs.Writes.{Writes}
 use Rattle.text.specs.Writes.{Wrote}
-use Rattle.std.specs.Prelude.{Ok, Err}
+use Rattle.std.specs.Prelude.{Ok}
 use Rattle.tables.specs.Rows.{RowsAt}
 use Rattle.tables.specs.Spans.{row_lengths, table_lengths, sum, width, table_bytes}
 

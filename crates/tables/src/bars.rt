@@ -8,11 +8,7 @@ fn put_from(text: &mut [u8], len: usize, src: usize, n: usize) -> usize
     requires { (len ≤ src) × (src + n ≤ length text.old) }
     ensures { Puts text.old text.new len result (take n (drop src text.old)) }
 {
-    let mut i = 0;
-    while i < n {
-        text[len + i] = text[src + i];
-        i += 1;
-    }
+    text.copy_within(src..src + n, len);
     len + n
 }
 
@@ -21,12 +17,9 @@ fn put_repeated(text: &mut [u8], len: usize, b: u8, n: usize) -> usize
     requires { len + n ≤ length text.old }
     ensures { Puts text.old text.new len result (replicate n b) }
 {
-    let mut i = 0;
-    while i < n {
-        text[len + i] = b;
-        i += 1;
-    }
-    len + n
+    let end = len + n;
+    text[len..end].fill(b);
+    end
 }
 
 // Puts what ends a cell.
@@ -34,8 +27,8 @@ fn put_bar(text: &mut [u8], len: usize) -> usize
     requires { len + 2 ≤ length text.old }
     ensures { Puts text.old text.new len result (32 ∷ 124 ∷ []) }
 {
-    text[len] = 32;
-    text[len + 1] = 124;
+    text[len] = b' ';
+    text[len + 1] = b'|';
     len + 2
 }
 
@@ -44,7 +37,7 @@ fn put_cell(text: &mut [u8], len: usize, src: usize, n: usize) -> usize
     requires { (len < src) × (len + n + 3 ≤ length text.old) × (src + n ≤ length text.old) }
     ensures { Puts text.old text.new len result (bar (take n (drop src text.old))) }
 {
-    text[len] = 32;
+    text[len] = b' ';
     let end = put_from(text, len + 1, src, n);
     put_bar(text, end)
 }
@@ -52,10 +45,7 @@ fn put_cell(text: &mut [u8], len: usize, src: usize, n: usize) -> usize
 pub fn at_least_one(n: usize) -> usize
     ensures { result ≡ max n 1 }
 {
-    if n == 0 {
-        return 1;
-    }
-    n
+    n.max(1)
 }
 
 // Puts hyphens under a heading of n bytes.
@@ -63,9 +53,9 @@ fn put_hyphens(text: &mut [u8], len: usize, n: usize) -> usize
     requires { len + max n 1 + 3 ≤ length text.old }
     ensures { Puts text.old text.new len result (bar (replicate (max n 1) 45)) }
 {
-    text[len] = 32;
+    text[len] = b' ';
     let k = at_least_one(n);
-    let end = put_repeated(text, len + 1, 45, k);
+    let end = put_repeated(text, len + 1, b'-', k);
     put_bar(text, end)
 }
 
@@ -85,7 +75,7 @@ fn put_byte_cell(text: &mut [u8], len: usize, b: u8) -> usize
     requires { len + 4 ≤ length text.old }
     ensures { Puts text.old text.new len result (bar (b ∷ [])) }
 {
-    text[len] = 32;
+    text[len] = b' ';
     text[len + 1] = b;
     put_bar(text, len + 2)
 }
@@ -96,10 +86,8 @@ pub fn put_byte_cells(text: &mut [u8], len: usize, b: u8, count: usize) -> usize
     ensures { Puts text.old text.new len result (bars (replicate count (b ∷ []))) }
 {
     let mut end = len;
-    let mut i = 0;
-    while i < count {
+    for _ in 0..count {
         end = put_byte_cell(text, end, b);
-        i += 1;
     }
     end
 }

@@ -9,20 +9,27 @@ ghost use Rattle.tables.specs.Rows.{RowAt, Rows, RowsAt, SomeRow, SomeRows};
 use nodes::nodes::{has_element, node_name};
 use tree::nodes::node_end;
 
+// The numbers of the names.
+const TABLE: usize = 14;
+
+const TR: usize = 17;
+
+const TH: usize = 18;
+
+const TD: usize = 19;
+
+#[tactic(auto, unfolding(spec::specs::Md::Elements::Table::is_table_cell))]
 pub fn is_table_cell(name: usize) -> bool
     ensures { result ≡ def.is_table_cell name }
 {
-    (name == 18) | (name == 19)
+    matches!(name, TH | TD)
 }
 
 // How many cells a node of this name is.
 fn cells_of(name: usize) -> usize
     ensures { result ≡ cond (def.is_table_cell name) 1 0 }
 {
-    if is_table_cell(name) {
-        return 1;
-    }
-    0
+    if is_table_cell(name) { 1 } else { 0 }
 }
 
 // How many cells row i has.
@@ -34,8 +41,7 @@ pub fn count_cells(sheet: &[u8], nodes: &[u8], i: usize) -> usize
     let mut n = 0;
     let mut c = i + 1;
     while c < to {
-        let name = node_name(sheet, nodes, c);
-        n += cells_of(name);
+        n += cells_of(node_name(sheet, nodes, c));
         c = node_end(nodes, c);
     }
     n
@@ -49,7 +55,7 @@ pub fn all_th(sheet: &[u8], nodes: &[u8], i: usize) -> bool
     let to = node_end(nodes, i);
     let mut c = i + 1;
     while c < to {
-        if node_name(sheet, nodes, c) == 19 {
+        if node_name(sheet, nodes, c) == TD {
             return false;
         }
         c = node_end(nodes, c);
@@ -63,12 +69,10 @@ pub fn next_row(sheet: &[u8], nodes: &[u8], i: usize, to: usize) -> usize
     ensures later { i ≤ result }
     ensures rows { (rows : List (List def.Cell)) → Rows sheet.now nodes.now i to rows → RowsAt sheet.now nodes.now result to rows }
 {
-    let mut r = i;
-    while r < to {
-        if node_name(sheet, nodes, r) == 17 {
+    for r in i..to {
+        if node_name(sheet, nodes, r) == TR {
             return r;
         }
-        r += 1;
     }
     to
 }
@@ -113,9 +117,10 @@ pub fn data_from(sheet: &[u8], nodes: &[u8], first: usize) -> usize
     ensures { (to : ℕ) (rows : List (List def.Cell)) → RowsAt sheet.now nodes.now first to rows → first < to → Rows sheet.now nodes.now result to (def.data_rows rows) }
 {
     if all_th(sheet, nodes, first) {
-        return first + 1;
+        first + 1
+    } else {
+        first
     }
-    first
 }
 
 // Whether the table from number `from` up to `to` is one of Markdown; `first` is its first row that has cells.
@@ -132,7 +137,7 @@ pub fn is_table_node_writable(
     if to <= first {
         return false;
     }
-    if has_element(sheet, nodes, from, to, 14) {
+    if has_element(sheet, nodes, from, to, TABLE) {
         return false;
     }
     let data = data_from(sheet, nodes, first);

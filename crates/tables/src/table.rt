@@ -44,8 +44,7 @@ pub fn next_cell(sheet: &[u8], nodes: &[u8], from: usize, to: usize) -> usize
 {
     let mut c = from;
     while c < to {
-        let name = node_name(sheet, nodes, c);
-        if is_table_cell(name) {
+        if is_table_cell(node_name(sheet, nodes, c)) {
             return c;
         }
         c = node_end(nodes, c);
@@ -67,13 +66,12 @@ fn measure(sheet: &[u8], nodes: &[u8], row: usize, to: usize) -> Size
         cells += 1;
         bytes += n;
         empty += at_least_one(n) - n;
-        let after = node_end(nodes, c);
-        c = next_cell(sheet, nodes, after, to);
+        c = next_cell(sheet, nodes, node_end(nodes, c), to);
     }
     Size {
-        cells: cells,
-        bytes: bytes,
-        empty: empty,
+        cells,
+        bytes,
+        empty,
     }
 }
 
@@ -82,8 +80,7 @@ fn row_bytes(sheet: &[u8], nodes: &[u8], row: usize, to: usize) -> usize
     requires { Kids sheet.now nodes.now row to × (sum (lengths_to sheet.now nodes.now row to) < 18446744073709551616) }
     ensures { result ≡ sum (lengths_to sheet.now nodes.now row to) }
 {
-    let size = measure(sheet, nodes, row, to);
-    size.bytes
+    measure(sheet, nodes, row, to).bytes
 }
 
 // Puts the cells of a row up to number `to`: hyphens where `under`, else their texts, which stand at `src`.
@@ -107,8 +104,7 @@ fn put_columns(
         let n = read::<8>(nodes, c * 24 + 16);
         end = put_column(text, end, at, n, under);
         at += n;
-        let after = node_end(nodes, c);
-        c = next_cell(sheet, nodes, after, to);
+        c = next_cell(sheet, nodes, node_end(nodes, c), to);
     }
     end
 }
@@ -215,22 +211,17 @@ fn first_width(sheet: &[u8], nodes: &[u8], from: usize, to: usize) -> usize
 {
     let r = next_filled_row(sheet, nodes, from, to);
     if r < to {
-        return count_cells(sheet, nodes, r);
+        count_cells(sheet, nodes, r)
+    } else {
+        0
     }
-    0
 }
 
 // Whether three numbers together are at most `room`.
 fn has_room(room: usize, a: usize, b: usize, c: usize) -> bool
     ensures { result ≡ leb (a + b + c) room }
 {
-    if room < a {
-        return false;
-    }
-    if room - a < b {
-        return false;
-    }
-    c <= room - a - b
+    a <= room && b <= room - a && c <= room - a - b
 }
 
 // Puts the table; the cells' texts stand at `src`, those of the headings first.
@@ -250,7 +241,7 @@ fn put_table(
     requires { Kids sheet.now nodes.now row end × SomeRows sheet.now nodes.now from to × (bytes ≡ sum (lengths_to sheet.now nodes.now row end)) × (blanks ≡ width (line_lengths sheet.now nodes.now from to) - length (lengths_to sheet.now nodes.now row end)) × (len + 5 + 2 * bytes + zeros (lengths_to sheet.now nodes.now row end) + 6 * length (lengths_to sheet.now nodes.now row end) + 8 * blanks + sum (concat (line_lengths sheet.now nodes.now from to)) + marks (line_lengths sheet.now nodes.now from to) ≤ src) × (src + bytes + sum (concat (line_lengths sheet.now nodes.now from to)) ≤ length text.old) }
     ensures { Puts text.old text.new len result (table_bytes (lengths_to sheet.now nodes.now row end) (line_lengths sheet.now nodes.now from to) (drop src text.old)) }
 {
-    text[len] = 10;
+    text[len] = b'\n';
     let a = put_row(sheet, nodes, text, len + 1, row, end, src, blanks);
     let b = put_rule(sheet, nodes, text, a, row, end, blanks);
     put_lines(sheet, nodes, text, b, from, to, src + bytes)
@@ -288,7 +279,7 @@ fn push_sized(
     let done = put_table(
         sheet, nodes, text, len, base, row, end, from, to, bytes, blanks,
     );
-    push_byte(text, done, 10)
+    push_byte(text, done, b'\n')
 }
 
 fn push_headed(
@@ -306,11 +297,8 @@ fn push_headed(
     ensures { Writes (length text.old) text.new result (table_sized (lengths_to sheet.now nodes.now row end) (line_lengths sheet.now nodes.now from to) (take n (drop len text.old)) (take len text.old)) }
 {
     let size = measure(sheet, nodes, row, end);
-    let cells = size.cells;
-    let bytes = size.bytes;
-    let empty = size.empty;
     push_sized(
-        sheet, nodes, text, len, n, row, end, from, to, cells, bytes, empty,
+        sheet, nodes, text, len, n, row, end, from, to, size.cells, size.bytes, size.empty,
     )
 }
 

@@ -1,4 +1,3 @@
-use Rattle.std.proofs.Common.{arith}
 use Rattle.lists_links.proofs.Values.{filled_missing, filled_none, filled_some}
 use Rattle.lists_links.proofs.image.filled_value.Goals.{in_default-via-in-Some+else-trim_end-ne0, in_default-via-in_default}
 use Rattle.lists_links.proofs.image.filled_value.Goals as goal

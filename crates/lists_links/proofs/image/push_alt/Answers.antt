@@ -1,14 +1,12 @@
 use Prim.Native.Nat.{ℕ}
 use mathlib.Core.Path.{sym, ap, ◌∙◌}
 use mathlib.Core.List.{List}
-use lib.ListN.{take, drop}
-use Prim.Native.Nat.{◌-◌}
+use lib.ListN.{take}
 use Rattle.spec.specs.Md.Ctx.{new}
 use Rattle.spec.specs.Md.TextUtils.{push_normalized_text}
 use Rattle.spec.specs.declared.ctx.FormatOpts.{FormatOpts}
 use Rattle.lists_links.proofs.Values.{some_step, no_step}
 use Rattle.text.proofs.Writing.{alike, keeps}
-use native.Mathlib.Omega.{arith}
 use Rattle.lists_links.proofs.image.push_alt.Goals as goal
 
 pub attribute-requires : goal.attribute-requires

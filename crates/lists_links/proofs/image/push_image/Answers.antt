@@ -1,7 +1,7 @@
-use Prim.Native.Nat.{ℕ, ◌-◌}
+use Prim.Native.Nat.{ℕ}
 use mathlib.Core.Path.{refl, sym}
 use mathlib.Core.List.{List}
-use lib.ListN.{take, drop}
+use lib.ListN.{take}
 use Rattle.spec.specs.Bytes.{ascii}
 use Rattle.spec.specs.Out.{push, and_then}
 use Rattle.spec.specs.Tree.{attr}

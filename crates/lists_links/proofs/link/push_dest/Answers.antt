@@ -1,12 +1,10 @@
-use Prim.Native.Nat.{ℕ, ◌-◌}
+use Prim.Native.Nat.{ℕ}
 use mathlib.Core.Path.{refl}
 use mathlib.Core.List.{List}
-use lib.ListN.{take, drop, length-take}
 use Rattle.spec.specs.Bytes.{ascii}
 use Rattle.spec.specs.Out.{push, and_then}
 use Rattle.spec.specs.Md.TextUtils.{push_md_url}
 use Rattle.text.proofs.Writing.{owes_all, owes_step, owes_stop, owes_last, stops}
-use native.Mathlib.Omega.{arith}
 use Rattle.lists_links.proofs.link.push_dest.Goals as goal
 
 pub push_all-requires : goal.push_all-requires

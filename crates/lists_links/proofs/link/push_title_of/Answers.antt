@@ -2,7 +2,6 @@ use lib.ListN.{take}
 use Rattle.spec.specs.Md.TextUtils.{push_title}
 use Rattle.lists_links.proofs.Values.{some_step, no_step}
 use Rattle.text.proofs.Writing.{alike, keeps}
-use native.Mathlib.Omega.{arith}
 use Rattle.lists_links.proofs.link.push_title_of.Goals as goal
 
 pub attribute-requires : goal.attribute-requires

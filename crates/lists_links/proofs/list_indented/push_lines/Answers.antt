@@ -41,10 +41,6 @@ pub push_line_byte-requires : goal.push_line_byte-requires
 push_line_byte-requires c =
     omega (arith, owed_reach c.loop-i.invariant.2, length-take-le c.args.room c.loop-i.text (omega (arith, c.loop-i.invariant.2.still.long, c.requires.1, c.requires.2, c.requires.3)))
 
-pub loop-i-smaller : goal.loop-i-smaller
-loop-i-smaller c =
-    omega (arith, c.loop-i-test.true)
-
 pub loop-i-preserved : goal.loop-i-preserved
 loop-i-preserved c =
     let pre = c.requires in (

@@ -5,6 +5,6 @@ pub returns-then-starts_with_byte : goal.returns-then-starts_with_byte
 returns-then-starts_with_byte c =
     sign_some c.args.value.now c.starts_with_byte.ensures c.starts_with_byte-2.ensures c.if-starts_with_byte.true
 
-pub returns : goal.returns
-returns c =
+pub returns-else-starts_with_byte : goal.returns-else-starts_with_byte
+returns-else-starts_with_byte c =
     sign_none c.args.value.now c.starts_with_byte.ensures c.starts_with_byte-2.ensures c.if-starts_with_byte.false

@@ -1,4 +1,4 @@
-use Prim.Native.Nat.{ℕ, ◌+◌, ◌*◌}
+use Prim.Native.Nat.{ℕ, min, ◌+◌, ◌*◌}
 use mathlib.Core.Path.{refl, sym, ap, ◌∙◌}
 use native.Mathlib.Numerals.{add-one}
 use lib.ListN.{drop}
@@ -28,10 +28,6 @@ loop-b-preserved c =
       omega (arith, ap ten (add-one l.b-index), l.invariant.2, v.1),
     )
 
-pub returns-then-n-lt999999999 : goal.returns-then-n-lt999999999
-returns-then-n-lt999999999 c =
-    omega (arith, c.loop-b.invariant.1 ∙ value_end c.args.digits.now c.loop-b.n c.loop-b.b-index c.loop-b-test.false)
-
-pub returns-else-n-lt999999999 : goal.returns-else-n-lt999999999
-returns-else-n-lt999999999 c =
-    omega (arith, c.loop-b.invariant.1 ∙ value_end c.args.digits.now c.loop-b.n c.loop-b.b-index c.loop-b-test.false)
+pub returns : goal.returns
+returns c =
+    rw c.min.ensures (ap (λ (k : ℕ). min k 999999999) (sym (c.loop-b.invariant.1 ∙ value_end c.args.digits.now c.loop-b.n c.loop-b.b-index c.loop-b-test.false)))

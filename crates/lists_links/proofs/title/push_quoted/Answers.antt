@@ -1,5 +1,5 @@
 use Prim.Native.Nat.{◌+◌}
-use mathlib.Core.Path.{refl, ◌∙◌}
+use mathlib.Core.Path.{refl}
 use mathlib.Core.Bool.{cond}
 use mathlib.Core.List.{[], ◌∷◌, ◌++◌}
 use lib.ListN.{take, get_or}
@@ -12,10 +12,6 @@ use Rattle.text.proofs.Sourcing.{owed_all, owed_step, owed_stop, owed_nothing, o
 use Rattle.text.proofs.Temporary.{quote_turn, quotes_end}
 use native.Mathlib.Omega.{arith}
 use Rattle.lists_links.proofs.title.push_quoted.Goals as goal
-
-pub overflow_add-end : goal.overflow_add-end
-overflow_add-end c =
-    omega (arith, c.requires.1)
 
 pub loop-i-init : goal.loop-i-init
 loop-i-init c =
@@ -37,14 +33,6 @@ returns-in_err-m c =
     let o = l.invariant.2 in
     owed_stop o (push (cond (eqb (get_or l.text l.i 0) 34) (ascii "\\") [] ++ (get_or l.text l.i 0 ∷ []))) (push (each_byte quote_escaped (slice (l.i + 1) (a.base + a.n) a.text.now)))
     (quote_turn a.text.now l.i (a.base + a.n) (get_or l.text l.i 0) (take l.m l.text) c.loop-i-test.true c.requires.1 (get_d_kept o.still l.i l.invariant.0)) c.in_err-m.was c.put_escaped.ensures)
-
-pub overflow_add-i : goal.overflow_add-i
-overflow_add-i c =
-    omega (arith, c.loop-i-test.true, c.requires.1)
-
-pub loop-i-smaller : goal.loop-i-smaller
-loop-i-smaller c =
-    omega (arith, c.loop-i-test.true)
 
 pub loop-i-preserved : goal.loop-i-preserved
 loop-i-preserved c =

@@ -1,4 +1,4 @@
-use Prim.Native.Nat.{◌+◌, ◌≤◌, ◌-◌}
+use Prim.Native.Nat.{◌+◌, ◌≤◌}
 use lib.ListN.{take}
 use lib.Seq.{slice}
 use Rattle.spec.specs.Out.{push}
@@ -8,6 +8,3 @@ use Rattle.lists_links.proofs.title.push_quoted.Given as goal
 
 abbrev pub invariant-loop-i : goal.invariant-loop-i
 invariant-loop-i l = (l.base ≤ l.i) × (l.i ≤ l.base + l.n) × OwesIn l.base l.initial.text l.text l.m (push (each_byte quote_escaped (slice l.i (l.base + l.n) l.initial.text))) (push (each_byte quote_escaped (slice l.base (l.base + l.n) l.initial.text)) (take l.len l.initial.text))
-
-abbrev pub decreases-loop-i : goal.decreases-loop-i
-decreases-loop-i l = l.base + l.n - l.i

@@ -1,4 +1,4 @@
-use mathlib.Core.Path.{refl, sym, ap, ◌∙◌}
+use mathlib.Core.Path.{refl, sym, ap}
 use mathlib.Core.List.{[]}
 use lib.ListN.{length}
 use Rattle.spec.specs.Out.{push, beside}
@@ -6,7 +6,7 @@ use Rattle.spec.specs.Md.Ctx.{new}
 use Rattle.spec.specs.Md.TextUtils.{each_byte, quote_escaped, quoted_title, push_normalized_text}
 use Rattle.spec.specs.declared.ctx.FormatOpts.{FormatOpts}
 use Rattle.text.proofs.Writing.{alike, done, full, stops}
-use Rattle.text.proofs.Temporary.{temp_full, temp_fits, back_length, temp_writes}
+use Rattle.text.proofs.Temporary.{temp_full, temp_fits, temp_writes}
 use native.Mathlib.Omega.{arith}
 use Rattle.lists_links.proofs.title.push_quoted_title.Goals as goal
 

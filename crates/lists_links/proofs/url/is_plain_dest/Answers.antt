@@ -4,15 +4,15 @@ use Rattle.lists_links.specs.Url.{itself}
 use native.Mathlib.Omega.{arith}
 use Rattle.lists_links.proofs.url.is_plain_dest.Goals as goal
 
-pub loop-i-init : goal.loop-i-init
-loop-i-init c = (omega arith, refl)
+pub loop-b-init : goal.loop-b-init
+loop-b-init c = refl
 
-pub loop-i-preserved : goal.loop-i-preserved
-loop-i-preserved c =
-    let l = c.loop-i in
-    (omega arith, rw c.is_itself-all.ensures (all_turn itself c.args.dest.now l.all l.i l.invariant.1 (omega arith)))
+pub loop-b-preserved : goal.loop-b-preserved
+loop-b-preserved c =
+    let l = c.loop-b in
+    rw c.is_itself-all.ensures (all_turn itself c.args.dest.now l.all l.b-index l.invariant (omega arith))
 
 pub returns : goal.returns
 returns c =
-    let l = c.loop-i in
-    all_end itself c.args.dest.now l.all l.i l.invariant.1 (omega arith)
+    let l = c.loop-b in
+    all_end itself c.args.dest.now l.all l.b-index l.invariant (omega arith)

@@ -1,13 +1,9 @@
-use Prim.Native.Nat.{◌≤◌, ◌-◌}
 use mathlib.Core.Path.{◌≡◌}
 use mathlib.Core.Bool.{◌&&◌}
-use lib.ListN.{length, drop}
+use lib.ListN.{drop}
 use Rattle.spec.specs.Bytes.{every}
 use Rattle.lists_links.specs.Url.{itself}
 use Rattle.lists_links.proofs.url.is_plain_dest.Given as goal
 
-abbrev pub invariant-loop-i : goal.invariant-loop-i
-invariant-loop-i l = (l.i ≤ length l.dest) × (every itself l.dest ≡ (l.all && every itself (drop l.i l.dest)))
-
-abbrev pub decreases-loop-i : goal.decreases-loop-i
-decreases-loop-i l = length l.dest - l.i
+abbrev pub invariant-loop-b : goal.invariant-loop-b
+invariant-loop-b l = every itself l.dest ≡ (l.all && every itself (drop l.b-index l.dest))

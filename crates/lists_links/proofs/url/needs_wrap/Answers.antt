@@ -13,46 +13,46 @@ use mir.Syntax.{w32}
 use native.Mathlib.Omega.{arith}
 use Rattle.lists_links.proofs.url.needs_wrap.Goals as goal
 
-pub loop-i-init : goal.loop-i-init
-loop-i-init c =
-    (0, (refl, zero-le, zero-le, refl))
+pub loop-b-init : goal.loop-b-init
+loop-b-init c =
+    (0, (refl, zero-le, refl))
 
 pub returns-then-wants_wrap : goal.returns-then-wants_wrap
 returns-then-wants_wrap c =
-    let l = c.loop-i in
+    let l = c.loop-b in
     let d = c.args.dest.now in
     let n = l.invariant.0 in
-    let closes = eqb (get_or d l.i 0) 41 && eqb n 0 in
-    sym (l.invariant.1.3 ∙ wraps d n l.i c.loop-i-test.true (ap (λ (t : Bool). t || closes) (sym c.wants_wrap.ensures ∙ c.if-wants_wrap.true)))
+    let closes = eqb (get_or d l.b-index 0) 41 && eqb n 0 in
+    sym (l.invariant.1.2 ∙ wraps d n l.b-index c.loop-b-test.true (ap (λ (t : Bool). t || closes) (sym c.wants_wrap.ensures ∙ c.if-wants_wrap.true)))
 
 pub next_balance-balance-requires : goal.next_balance-balance-requires
 next_balance-balance-requires c =
-    let l = c.loop-i in
+    let l = c.loop-b in
     let d = c.args.dest.now in
     let n = l.invariant.0 in
-    let h : n ≤ 1048576 = omega (arith, l.invariant.1.1, l.invariant.1.2, c.requires) in
-    rw l.invariant.1.0 (next_fits n (get_or d l.i 0) h)
+    let h : n ≤ 1048576 = omega (arith, l.invariant.1.1, c.loop-b-test.true, c.requires) in
+    rw l.invariant.1.0 (next_fits n (get_or d l.b-index 0) h)
 
 pub returns-then-balance-lt0 : goal.returns-then-balance-lt0
 returns-then-balance-lt0 c =
-    let l = c.loop-i in
+    let l = c.loop-b in
     let d = c.args.dest.now in
-    let b = get_or d l.i 0 in
+    let b = get_or d l.b-index 0 in
     let n = l.invariant.0 in
-    let h : n ≤ 1048576 = omega (arith, l.invariant.1.1, l.invariant.1.2, c.requires) in
+    let h : n ≤ 1048576 = omega (arith, l.invariant.1.1, c.loop-b-test.true, c.requires) in
     let closes = eqb b 41 && eqb n 0 in
     let e = ap (λ (t : Bool). t || closes) (sym c.wants_wrap.ensures ∙ c.if-wants_wrap.false) in
     let q = c.next_balance-balance.ensures ∙ ap (λ (z : ℤ). next_balance z b) l.invariant.1.0 in
     let s = sym (sign n b h q) in
-    sym (l.invariant.1.3 ∙ wraps d n l.i c.loop-i-test.true (e ∙ s ∙ c.if-balance-lt0.true))
+    sym (l.invariant.1.2 ∙ wraps d n l.b-index c.loop-b-test.true (e ∙ s ∙ c.if-balance-lt0.true))
 
-pub loop-i-preserved : goal.loop-i-preserved
-loop-i-preserved c =
-    let l = c.loop-i in
+pub loop-b-preserved : goal.loop-b-preserved
+loop-b-preserved c =
+    let l = c.loop-b in
     let d = c.args.dest.now in
-    let b = get_or d l.i 0 in
+    let b = get_or d l.b-index 0 in
     let n = l.invariant.0 in
-    let h : n ≤ 1048576 = omega (arith, l.invariant.1.1, l.invariant.1.2, c.requires) in
+    let h : n ≤ 1048576 = omega (arith, l.invariant.1.1, c.loop-b-test.true, c.requires) in
     let closes = eqb b 41 && eqb n 0 in
     let e = ap (λ (t : Bool). t || closes) (sym c.wants_wrap.ensures ∙ c.if-wants_wrap.false) in
     let q = c.next_balance-balance.ensures ∙ ap (λ (z : ℤ). next_balance z b) l.invariant.1.0 in
@@ -61,13 +61,12 @@ loop-i-preserved c =
       (
         bits n b h q (s ∙ c.if-balance-lt0.false),
         omega (arith, balanced_grown n b, l.invariant.1.1),
-        omega (arith, c.loop-i-test.true),
-        l.invariant.1.3 ∙ wraps_on d n l.i c.loop-i-test.true (e ∙ s ∙ c.if-balance-lt0.false),
+        l.invariant.1.2 ∙ wraps_on d n l.b-index c.loop-b-test.true (e ∙ s ∙ c.if-balance-lt0.false),
       ),
     )
 
 pub returns : goal.returns
 returns c =
-    let l = c.loop-i in
+    let l = c.loop-b in
     let e : l.balance-bits ≡ l.invariant.0 = sym (of_z-to_z l.auto.balance-fits) ∙ ap (of_z w32) l.invariant.1.0 in
-    rw e (sym (l.invariant.1.3 ∙ wraps_end c.args.dest.now l.invariant.0 l.i c.loop-i-test.false))
+    rw e (sym (l.invariant.1.2 ∙ wraps_end c.args.dest.now l.invariant.0 l.b-index c.loop-b-test.false))

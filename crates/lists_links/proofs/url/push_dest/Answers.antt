@@ -1,4 +1,4 @@
-use Prim.Native.Nat.{ℕ, ◌+◌, zero-le}
+use Prim.Native.Nat.{ℕ, ◌+◌}
 use mathlib.Core.Path.{sym, ap, ◌∙◌, refl}
 use mathlib.Core.Bool.{Bool, not, ◌&&◌}
 use mathlib.Core.List.{List, [], ◌∷◌}
@@ -11,7 +11,6 @@ use Rattle.lists_links.specs.Url.{url_byte, piece_of}
 use Rattle.text.proofs.Reading.{rest_part}
 use Rattle.text.proofs.Writing.{alike, owes_all, owes_step, owes_stop, owes_nothing, stops}
 use Rattle.lists_links.proofs.Linking.{piece_turn, pieces_end, kept_pieces}
-use native.Mathlib.Omega.{arith}
 use Rattle.lists_links.proofs.url.push_dest.Goals as goal
 
 pub returns-then-is_kept_dest : goal.returns-then-is_kept_dest
@@ -24,15 +23,11 @@ pub loop-i-init : goal.loop-i-init
 unfolding html_escape
 loop-i-init c =
     let a = c.args in
-    (zero-le, owes_all a.text.now a.len (push (each_byte (url_byte a.wrap) (html_escape a.dest.now))) c.requires refl)
-
-pub overflow_add-j : goal.overflow_add-j
-overflow_add-j c =
-    omega (arith, c.loop-i-test.true)
+    owes_all a.text.now a.len (push (each_byte (url_byte a.wrap) (html_escape a.dest.now))) c.requires refl
 
 pub push_piece-requires : goal.push_piece-requires
 push_piece-requires c =
-    c.loop-i.invariant.1.reach
+    c.loop-i.invariant.reach
 
 pub returns-in_err-n : goal.returns-in_err-n
 unfolding is_nbsp
@@ -41,12 +36,8 @@ returns-in_err-n c =
     let d = a.dest.now in
     let nb = eqb (get_or d l.i 0) 194 && c.starts_with_byte.result in
     let e = ap (λ (t : Bool). eqb (get_or d l.i 0) 194 && t) (c.starts_with_byte.ensures ∙ ap (starts_with (160 ∷ [])) (rest_part (l.i + 1) d)) in
-    owes_stop l.invariant.1 (push (piece_of a.wrap l.second nb (get_or d l.i 0))) (push (each_byte (url_byte a.wrap) (html_from (not l.second && nb) (drop (l.i + 1) d))))
+    owes_stop l.invariant (push (piece_of a.wrap l.second nb (get_or d l.i 0))) (push (each_byte (url_byte a.wrap) (html_from (not l.second && nb) (drop (l.i + 1) d))))
     (piece_turn a.wrap l.second nb d (take l.n l.text) l.i c.loop-i-test.true e) c.in_err-n.was c.push_piece.ensures)
-
-pub overflow_add-i : goal.overflow_add-i
-overflow_add-i c =
-    omega (arith, c.loop-i-test.true)
 
 pub loop-i-preserved : goal.loop-i-preserved
 unfolding is_nbsp
@@ -54,17 +45,15 @@ loop-i-preserved c =
     let a = c.args in let l = c.loop-i in
     let d = a.dest.now in
     let nb = eqb (get_or d l.i 0) 194 && c.starts_with_byte.result in
-    let e = ap (λ (t : Bool). eqb (get_or d l.i 0) 194 && t) (c.starts_with_byte.ensures ∙ ap (starts_with (160 ∷ [])) (rest_part (l.i + 1) d)) in (
-      omega (arith, c.loop-i-test.true),
-      owes_step l.invariant.1 (push (piece_of a.wrap l.second nb (get_or d l.i 0))) (push (each_byte (url_byte a.wrap) (html_from (not l.second && nb) (drop (l.i + 1) d))))
-          (piece_turn a.wrap l.second nb d (take l.n l.text) l.i c.loop-i-test.true e) c.in_ok-n.was c.push_piece.ensures,
-    )
+    let e = ap (λ (t : Bool). eqb (get_or d l.i 0) 194 && t) (c.starts_with_byte.ensures ∙ ap (starts_with (160 ∷ [])) (rest_part (l.i + 1) d)) in
+    owes_step l.invariant (push (piece_of a.wrap l.second nb (get_or d l.i 0))) (push (each_byte (url_byte a.wrap) (html_from (not l.second && nb) (drop (l.i + 1) d))))
+    (piece_turn a.wrap l.second nb d (take l.n l.text) l.i c.loop-i-test.true e) c.in_ok-n.was c.push_piece.ensures
 
 pub shape_of-text : goal.shape_of-text
 shape_of-text c =
-    c.loop-i.invariant.1.long
+    c.loop-i.invariant.long
 
 pub returns : goal.returns
 returns c =
     let a = c.args in let l = c.loop-i in
-    owes_nothing l.invariant.1 (pieces_end a.wrap l.second a.dest.now (take l.n l.text) l.i c.loop-i-test.false)
+    owes_nothing l.invariant (pieces_end a.wrap l.second a.dest.now (take l.n l.text) l.i c.loop-i-test.false)

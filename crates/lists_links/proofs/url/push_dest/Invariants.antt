@@ -1,4 +1,3 @@
-use Prim.Native.Nat.{◌-◌, ◌≤◌}
 use lib.ListN.{length, drop, take}
 use Rattle.spec.specs.Out.{push}
 use Rattle.spec.specs.Md.TextUtils.{each_byte, html_from, html_escape}
@@ -7,7 +6,4 @@ use Rattle.text.proofs.Writing.{Owes}
 use Rattle.lists_links.proofs.url.push_dest.Given as goal
 
 abbrev pub invariant-loop-i : goal.invariant-loop-i
-invariant-loop-i l = (l.i ≤ length l.dest) × Owes (length l.initial.text) l.text l.n (push (each_byte (url_byte l.wrap) (html_from l.second (drop l.i l.dest)))) (push (each_byte (url_byte l.wrap) (html_escape l.dest)) (take l.len l.initial.text))
-
-abbrev pub decreases-loop-i : goal.decreases-loop-i
-decreases-loop-i l = length l.dest - l.i
+invariant-loop-i l = Owes (length l.initial.text) l.text l.n (push (each_byte (url_byte l.wrap) (html_from l.second (drop l.i l.dest)))) (push (each_byte (url_byte l.wrap) (html_escape l.dest)) (take l.len l.initial.text))

@@ -1,11 +1,7 @@
-use mathlib.Core.Path.{refl, sym, ◌∙◌}
+use mathlib.Core.Path.{sym, ◌∙◌}
 use Rattle.nodes.proofs.Numbers.{node_in, has_numbers, named_here, named_on, named_none}
 use native.Mathlib.Omega.{arith}
 use Rattle.nodes.proofs.nodes.has_element.Goals as goal
-
-pub loop-i-init : goal.loop-i-init
-loop-i-init c =
-    (omega arith, refl)
 
 pub node_name-requires : goal.node_name-requires
 node_name-requires c =

@@ -1,28 +1,22 @@
 use mathlib.Core.Path.{sym, ap, ◌∙◌}
 use Rattle.spec.specs.Tree.{text_of}
-use Rattle.nodes.specs.Begun.{white_state, is_nothing}
-use Rattle.nodes.specs.declared.white_space.Begun.TheVariants.{Nothing}
-use Rattle.nodes.proofs.Numbers.{carried_all, carried_node, carried_on, carried_end}
+use Rattle.nodes.specs.Begun.{is_nothing}
+use Rattle.nodes.proofs.Numbers.{carried_node, carried_on, carried_end}
 use Rattle.nodes.proofs.Whites.{white_folds, white_space_is}
 use native.Mathlib.Omega.{arith}
 use Rattle.nodes.proofs.nodes.is_white_space.Goals as goal
-
-pub loop-i-init : goal.loop-i-init
-loop-i-init c =
-    let a = c.args in
-    carried_all white_state a.sheet.now a.nodes.now a.from a.to Nothing
 
 pub node_place-place-requires : goal.node_place-place-requires
 node_place-place-requires c =
     (carried_node c.loop-i.invariant c.requires c.loop-i-test.true).inside
 
-pub text_at-part-requires : goal.text_at-part-requires
-text_at-part-requires c =
+pub text_at-requires : goal.text_at-requires
+text_at-requires c =
     omega (arith, (carried_node c.loop-i.invariant c.requires c.loop-i-test.true).placed, c.node_place-place.ensures)
 
 pub loop-i-preserved : goal.loop-i-preserved
 loop-i-preserved c =
-    carried_on c.loop-i.invariant white_folds c.loop-i-test.true c.node_place-place.ensures c.text_at-part.ensures.bytes_are c.white_state-state.ensures
+    carried_on c.loop-i.invariant white_folds c.loop-i-test.true c.node_place-place.ensures c.text_at.ensures.bytes_are c.white_state-state.ensures
 
 pub returns : goal.returns
 returns c =

@@ -1,4 +1,3 @@
-use Prim.Native.Nat.{◌-◌}
 use Rattle.nodes.specs.Begun.{white_state}
 use Rattle.nodes.specs.declared.white_space.Begun.TheVariants.{Nothing}
 use Rattle.nodes.proofs.Numbers.{Carried}
@@ -6,6 +5,3 @@ use Rattle.nodes.proofs.nodes.is_white_space.Given as goal
 
 abbrev pub invariant-loop-i : goal.invariant-loop-i
 invariant-loop-i l = Carried white_state l.sheet l.nodes l.from l.to Nothing l.i l.state
-
-abbrev pub decreases-loop-i : goal.decreases-loop-i
-decreases-loop-i l = l.to - l.i

@@ -1,7 +1,7 @@
 use Rattle.text.proofs.Writing.{stops}
 use mathlib.Core.Path.{refl}
 use Rattle.spec.specs.Bytes.{Bytes}
-use Rattle.nodes.proofs.Appending.{Spells, appends_all, appends_node, appends_on, appends_stop, appends_end}
+use Rattle.nodes.proofs.Appending.{Spells, appends_node, appends_on, appends_stop, appends_end}
 use native.Mathlib.Omega.{arith}
 use Rattle.nodes.proofs.nodes.push_text_of.Goals as goal
 
@@ -12,30 +12,21 @@ itself x s = s
 spells : Spells itself (λ (x : Unit {0}) (s : Bytes). x)
 spells = record { none = λ x. refl; joins = λ x s t. refl }
 
-pub loop-i-init : goal.loop-i-init
-loop-i-init c =
-    let a = c.args in
-    appends_all itself a.sheet.now a.nodes.now a.from a.to tt a.text.now a.len c.requires.1
-
 pub node_place-place-requires : goal.node_place-place-requires
 node_place-place-requires c =
     (appends_node c.loop-i.invariant c.requires.0 c.loop-i-test.true).inside
 
-pub text_at-part-requires : goal.text_at-part-requires
-text_at-part-requires c =
+pub text_at-requires : goal.text_at-requires
+text_at-requires c =
     omega (arith, (appends_node c.loop-i.invariant c.requires.0 c.loop-i-test.true).placed, c.node_place-place.ensures)
-
-pub push_all-requires : goal.push_all-requires
-push_all-requires c =
-    c.loop-i.invariant.owes.reach
 
 pub returns-in_err-n : goal.returns-in_err-n
 returns-in_err-n c =
-    λ parent f k. stops c.from_residual.ensures.0 (appends_stop c.loop-i.invariant spells c.loop-i-test.true c.node_place-place.ensures c.text_at-part.ensures.bytes_are c.in_err-n.was c.push_all.ensures parent f k)
+    λ parent f k. stops c.from_residual.ensures.0 (appends_stop c.loop-i.invariant spells c.loop-i-test.true c.node_place-place.ensures c.text_at.ensures.bytes_are c.in_err-n.was c.push_all.ensures parent f k)
 
 pub loop-i-preserved : goal.loop-i-preserved
 loop-i-preserved c =
-    appends_on c.loop-i.invariant spells c.loop-i-test.true c.node_place-place.ensures c.text_at-part.ensures.bytes_are refl c.in_ok-n.was c.push_all.ensures
+    appends_on c.loop-i.invariant spells c.loop-i-test.true c.node_place-place.ensures c.text_at.ensures.bytes_are refl c.in_ok-n.was c.push_all.ensures
 
 pub returns : goal.returns
 returns c =

@@ -1,4 +1,3 @@
-use Prim.Native.Nat.{◌-◌}
 use lib.ListN.{length, take}
 use Rattle.spec.specs.Bytes.{Bytes}
 use Rattle.nodes.proofs.Appending.{Appends}
@@ -10,6 +9,3 @@ itself x s = s
 
 abbrev pub invariant-loop-i : goal.invariant-loop-i
 invariant-loop-i l = Appends itself l.sheet l.nodes l.from l.to tt (take l.len l.initial.text) (length l.initial.text) l.text l.n l.i tt
-
-abbrev pub decreases-loop-i : goal.decreases-loop-i
-decreases-loop-i l = l.to - l.i

@@ -1,17 +1,13 @@
 use Prim.Native.Nat.{◌+◌}
-use mathlib.Core.Path.{refl, ap}
+use mathlib.Core.Path.{ap}
 use lib.ListN.{take}
 use Rattle.spec.specs.Out.{Step}
 use Rattle.tree.specs.Memory.{place_at}
-use Rattle.text.proofs.Writing.{owes_all, owes_step, owes_stop, owes_none, alike, stops}
+use Rattle.text.proofs.Writing.{owes_step, owes_stop, owes_none, alike, stops}
 use Rattle.nodes.specs.TextStep.{text_step}
 use Rattle.nodes.proofs.Numbers.{node_in, steps, steps_on, steps_none, write_numbers}
 use native.Mathlib.Omega.{arith}
 use Rattle.nodes.proofs.nodes.write_text.Goals as goal
-
-pub loop-i-init : goal.loop-i-init
-loop-i-init c =
-    (omega arith, owes_all c.args.text.now c.args.len (steps c.args.opts c.args.sheet.now c.args.nodes.now c.args.to c.args.from) c.requires.1 refl)
 
 pub write_text_node-requires : goal.write_text_node-requires
 write_text_node-requires c =

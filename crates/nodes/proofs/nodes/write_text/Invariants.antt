@@ -1,4 +1,4 @@
-use Prim.Native.Nat.{◌-◌, ◌≤◌}
+use Prim.Native.Nat.{◌≤◌}
 use lib.ListN.{length, take}
 use Rattle.text.proofs.Writing.{Owes}
 use Rattle.nodes.proofs.Numbers.{steps}
@@ -6,6 +6,3 @@ use Rattle.nodes.proofs.nodes.write_text.Given as goal
 
 abbrev pub invariant-loop-i : goal.invariant-loop-i
 invariant-loop-i l = (l.from ≤ l.i) × Owes (length l.initial.text) l.text l.n (steps l.opts l.sheet l.nodes l.to l.i) (steps l.opts l.sheet l.nodes l.to l.from (take l.len l.initial.text))
-
-abbrev pub decreases-loop-i : goal.decreases-loop-i
-decreases-loop-i l = l.to - l.i

@@ -17,14 +17,14 @@ returns-then-is_skipped c =
     ap (at_end c.args.«open») c.node_end.ensures
     ∙ sym (below_skipped skips c.args.sheet.now c.args.nodes.now c.args.«open» c.args.at (sym (ap (skipped_at skips c.args.sheet.now) c.node_place-place.ensures) ∙ (sym c.is_skipped.ensures ∙ c.if-is_skipped.true)))
 
-pub returns-then-tag_at-eq1 : goal.returns-then-tag_at-eq1
-returns-then-tag_at-eq1 c =
+pub returns-then-tag_at-eq-OPEN : goal.returns-then-tag_at-eq-OPEN
+returns-then-tag_at-eq-OPEN c =
     let skips = tags_to_skip (skip_list c.args.own c.args.run.now) in
     sym (below_in skips c.args.sheet.now c.args.nodes.now c.args.«open» c.args.at (sym (ap (skipped_at skips c.args.sheet.now) c.node_place-place.ensures) ∙ (sym c.is_skipped.ensures ∙ c.if-is_skipped.false))
-    (sym (ap (λ (k : ℕ). get_or c.args.sheet.now k 0) c.node_place-place.ensures) ∙ (sym c.tag_at.ensures ∙ c.if-tag_at-eq1.true)))
+    (sym (ap (λ (k : ℕ). get_or c.args.sheet.now k 0) c.node_place-place.ensures) ∙ (sym c.tag_at.ensures ∙ c.if-tag_at-eq-OPEN.true)))
 
 pub returns : goal.returns
 returns c =
     let skips = tags_to_skip (skip_list c.args.own c.args.run.now) in
     sym (below_other skips c.args.sheet.now c.args.nodes.now c.args.«open» c.args.at (sym (ap (skipped_at skips c.args.sheet.now) c.node_place-place.ensures) ∙ (sym c.is_skipped.ensures ∙ c.if-is_skipped.false))
-    (λ q. c.if-tag_at-eq1.false (c.tag_at.ensures ∙ (ap (λ (k : ℕ). get_or c.args.sheet.now k 0) c.node_place-place.ensures ∙ q))))
+    (λ q. c.if-tag_at-eq-OPEN.false (c.tag_at.ensures ∙ (ap (λ (k : ℕ). get_or c.args.sheet.now k 0) c.node_place-place.ensures ∙ q))))

@@ -1,17 +1,12 @@
 use mathlib.Core.Path.{sym, ◌∙◌}
 use lib.ListN.{take}
-use lib.Seq.{length-take-le}
 use Rattle.text.proofs.Writing.{alike, keeps}
 use Rattle.nodes.proofs.Spots.{br_other, br_ended, br_blank}
 use Rattle.nodes.proofs.skip_md.blank_for_br.Goals as goal
 
-pub slice_bounds-ends_with_byte-end-2 : goal.slice_bounds-ends_with_byte-end-2
-slice_bounds-ends_with_byte-end-2 c =
-    sym (length-take-le c.args.len c.args.text.now c.requires)
-
-pub returns-then-name-ne20 : goal.returns-then-name-ne20
-returns-then-name-ne20 c =
-    alike (br_other c.args.name (take c.args.len c.args.text.now) c.if-name-ne20.true) (record { says = keeps c.args.text.now c.args.len c.requires })
+pub returns-then-name-ne-BR : goal.returns-then-name-ne-BR
+returns-then-name-ne-BR c =
+    alike (br_other c.args.name (take c.args.len c.args.text.now) c.if-name-ne-BR.true) (record { says = keeps c.args.text.now c.args.len c.requires })
 
 pub returns-then-ends_with_byte : goal.returns-then-ends_with_byte
 returns-then-ends_with_byte c =
@@ -19,4 +14,4 @@ returns-then-ends_with_byte c =
 
 pub returns : goal.returns
 returns c =
-    alike (br_blank c.args.name (take c.args.len c.args.text.now) c.if-name-ne20.false (sym c.ends_with_byte.ensures ∙ c.if-ends_with_byte.false)) c.push_byte.ensures
+    alike (br_blank c.args.name (take c.args.len c.args.text.now) c.if-name-ne-BR.false (sym c.ends_with_byte.ensures ∙ c.if-ends_with_byte.false)) c.push_byte.ensures

@@ -1,13 +1,8 @@
 use mathlib.Core.Path.{sym, ◌∙◌}
 use lib.ListN.{take}
-use lib.Seq.{length-take-le}
 use Rattle.text.proofs.Writing.{alike, keeps}
 use Rattle.nodes.proofs.Spots.{close_ended, close_on}
 use Rattle.nodes.proofs.skip_md.close_skip_md.Goals as goal
-
-pub slice_bounds-ends_with-end-2 : goal.slice_bounds-ends_with-end-2
-slice_bounds-ends_with-end-2 c =
-    sym (length-take-le c.args.len c.args.text.now c.requires)
 
 pub returns-then-ends_with : goal.returns-then-ends_with
 returns-then-ends_with c =

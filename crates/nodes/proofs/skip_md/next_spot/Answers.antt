@@ -10,10 +10,6 @@ use Rattle.nodes.proofs.skip_md.next_spot.Goals as goal
 abbrev up_to : ℕ → ℕ → Spot
 up_to at k = record { «open» = k; at = at }
 
-pub below_spot-requires : goal.below_spot-requires
-below_spot-requires c =
-    c.requires.1 (omega (arith, c.if-at-node_end.true, c.node_end.ensures))
-
 pub returns-then-at-node_end : goal.returns-then-at-node_end
 returns-then-at-node_end c =
     c.below_spot.ensures ∙ sym (next_below (tags_to_skip (skip_list c.args.own c.args.run.now)) c.args.sheet.now c.args.nodes.now c.args.«open» c.args.at c.args.top (omega (arith, c.if-at-node_end.true, c.node_end.ensures)))

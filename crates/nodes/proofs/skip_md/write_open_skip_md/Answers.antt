@@ -1,5 +1,5 @@
 use Prim.Native.Nat.{ℕ}
-use mathlib.Core.Path.{ap, sym, ◌∙◌}
+use mathlib.Core.Path.{ap, sym}
 use lib.ListN.{take}
 use Rattle.spec.specs.Call.{tags_to_skip}
 use Rattle.spec.specs.Out.{and_then}
@@ -8,12 +8,7 @@ use Rattle.input.specs.Scans.{skip_list}
 use Rattle.text.proofs.Writing.{alike, stops}
 use Rattle.nodes.proofs.Interrupts.{element_name}
 use Rattle.nodes.proofs.Spots.{inside_node, going_start, going_inside, going_on, going_stop, going_end, going_less}
-use native.Mathlib.Omega.{arith}
 use Rattle.nodes.proofs.skip_md.write_open_skip_md.Goals as goal
-
-pub overflow_add-at : goal.overflow_add-at
-overflow_add-at c =
-    omega (arith, c.requires.0.3.inside)
 
 pub loop-open-init : goal.loop-open-init
 loop-open-init c =
@@ -46,11 +41,6 @@ loop-open-smaller c =
 pub loop-open-preserved : goal.loop-open-preserved
 loop-open-preserved c =
     λ kids h. going_on (c.loop-open.invariant kids h) c.loop-open-test.true c.write_spot.ensures c.in_ok-n.was c.next_spot-next.ensures
-
-pub shape_of-text : goal.shape_of-text
-shape_of-text c =
-    let x = c.requires.0 in
-    (c.loop-open.invariant x.2 x.3.kids_are).owes.long
 
 pub returns : goal.returns
 returns c =

@@ -5,20 +5,7 @@ use Rattle.tree.specs.Nodes.{skipped_at}
 use Rattle.input.specs.Scans.{skip_list}
 use Rattle.text.proofs.Writing.{alike, keeps}
 use Rattle.nodes.proofs.Spots.{whole_skipped, whole_written}
-use native.Mathlib.Omega.{arith}
 use Rattle.nodes.proofs.skip_md.write_skip_md.Goals as goal
-
-pub node_place-place-requires : goal.node_place-place-requires
-node_place-place-requires c =
-    c.requires.0.3.inside
-
-pub is_skipped-requires : goal.is_skipped-requires
-is_skipped-requires c =
-    omega (arith, c.requires.0.3.field.head, c.node_place-place.ensures)
-
-pub write_open_skip_md-requires : goal.write_open_skip_md-requires
-write_open_skip_md-requires c =
-    c.requires
 
 pub returns-then-is_skipped : goal.returns-then-is_skipped
 returns-then-is_skipped c =

@@ -7,10 +7,6 @@ use Rattle.nodes.proofs.Spots.{spot_text, spot_close}
 use native.Mathlib.Omega.{arith}
 use Rattle.nodes.proofs.skip_md.write_spot.Goals as goal
 
-pub write_text_node-requires : goal.write_text_node-requires
-write_text_node-requires c =
-    (c.requires.1 (omega (arith, c.if-at-node_end.true, c.node_end.ensures)), c.requires.2)
-
 pub returns-then-at-node_end : goal.returns-then-at-node_end
 returns-then-at-node_end c =
     alike (spot_text c.args.opts c.args.sheet.now c.args.nodes.now c.args.«open» c.args.at (take c.args.len c.args.text.now) (omega (arith, c.if-at-node_end.true, c.node_end.ensures))) c.write_text_node.ensures

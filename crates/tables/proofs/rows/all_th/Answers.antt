@@ -4,12 +4,6 @@ use Rattle.spec.specs.Md.Elements.Table.{all_th}
 use Rattle.tables.proofs.TableCells.{cells_all, cells_node, cells_first, cells_none, th_on, th_not}
 use Rattle.tables.proofs.rows.all_th.Goals as goal
 
-pub node_end-to-requires : goal.node_end-to-requires
-node_end-to-requires c = c.requires.1.is_element.inside
-
-pub overflow_add-c : goal.overflow_add-c
-overflow_add-c c = omega (arith, c.requires.1.is_element.inside)
-
 pub loop-c-init : goal.loop-c-init
 loop-c-init c = λ row x. (row, cells_all x, refl)
 
@@ -17,10 +11,10 @@ pub node_name-requires : goal.node_name-requires
 node_name-requires c =
     cells_node (c.loop-c.invariant c.requires.0 c.requires.1).1 (omega (arith, c.node_end-to.ensures))
 
-pub returns-then-node_name-eq19 : goal.returns-then-node_name-eq19
-returns-then-node_name-eq19 c = λ row x.
+pub returns-then-node_name-eq-TD : goal.returns-then-node_name-eq-TD
+returns-then-node_name-eq-TD c = λ row x.
     let q = c.loop-c.invariant row x in
-    sym (q.2 ∙ th_not q.1 (omega (arith, c.node_end-to.ensures)) (sym c.node_name.ensures ∙ c.if-node_name-eq19.true))
+    sym (q.2 ∙ th_not q.1 (omega (arith, c.node_end-to.ensures)) (sym c.node_name.ensures ∙ c.if-node_name-eq-TD.true))
 
 pub node_end-c-requires : goal.node_end-c-requires
 node_end-c-requires c =
@@ -33,7 +27,7 @@ loop-c-smaller c =
 pub loop-c-preserved : goal.loop-c-preserved
 loop-c-preserved c = λ row x.
     let q = c.loop-c.invariant row x in
-    let m = th_on q.1 (omega (arith, c.node_end-to.ensures)) c.node_end-c.ensures (λ n. c.if-node_name-eq19.false (c.node_name.ensures ∙ n)) in
+    let m = th_on q.1 (omega (arith, c.node_end-to.ensures)) c.node_end-c.ensures (λ n. c.if-node_name-eq-TD.false (c.node_name.ensures ∙ n)) in
     (m.0, m.1, q.2 ∙ m.2)
 
 pub returns : goal.returns

@@ -1,14 +1,7 @@
-use native.Mathlib.Omega.{arith}
-use mathlib.Core.Path.{refl, ap, sym, ◌∙◌}
+use mathlib.Core.Path.{ap, sym, ◌∙◌}
 use Rattle.spec.specs.Md.Elements.Table.{equal_rows}
 use Rattle.tables.proofs.RowTests.{some_row, no_rows, equal_no, equal_on}
 use Rattle.tables.proofs.rows.equal_rows.Goals as goal
-
-pub next_row-r-requires : goal.next_row-r-requires
-next_row-r-requires c = c.requires
-
-pub loop-r-init : goal.loop-r-init
-loop-r-init c = λ rows x. (rows, c.next_row-r.ensures.rows rows x, refl)
 
 pub count_cells-n-requires : goal.count_cells-n-requires
 count_cells-n-requires c =
@@ -20,17 +13,11 @@ returns-then-common-n c = λ rows x.
     let q = c.loop-r.invariant rows x in
     sym (q.2 ∙ equal_no c.count_cells-n.result c.count_cells-n.ensures c.loop-r.common q.0 q.1 c.loop-r-test.true c.if-common-n.true)
 
-pub overflow_add-r : goal.overflow_add-r
-overflow_add-r c = omega (arith, c.loop-r-test.true)
-
 pub next_row-r-requires-in-loop-r : goal.next_row-r-requires-in-loop-r
 next_row-r-requires-in-loop-r c =
     let q = c.loop-r.invariant c.requires.0 c.requires.1 in
     let m = equal_on c.count_cells-n.result c.count_cells-n.ensures c.loop-r.common q.0 q.1 c.loop-r-test.true c.if-common-n.false in
     (m.0, m.1)
-
-pub loop-r-smaller : goal.loop-r-smaller
-loop-r-smaller c = omega (arith, c.next_row-r-in-loop-r.ensures.later, c.loop-r-test.true)
 
 pub loop-r-preserved : goal.loop-r-preserved
 loop-r-preserved c = λ rows x.

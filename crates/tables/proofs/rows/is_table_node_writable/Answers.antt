@@ -8,9 +8,6 @@ use Rattle.tables.proofs.rows.is_table_node_writable.Goals as goal
 pub returns-then-to-first : goal.returns-then-to-first
 returns-then-to-first c = λ parent kids rows h x. sym (writable_none c.args.sheet.now c.args.nodes.now c.args.first c.args.to kids rows x c.if-to-first.true)
 
-pub has_element-requires : goal.has_element-requires
-has_element-requires c = (c.requires.0, omega arith)
-
 pub returns-then-has_element : goal.returns-then-has_element
 returns-then-has_element c = λ parent kids rows h x.
     sym (writable_some c.args.sheet.now c.args.nodes.now c.args.first c.args.to kids rows x (omega (arith, c.if-to-first.false))
@@ -18,10 +15,6 @@ returns-then-has_element c = λ parent kids rows h x.
 
 pub data_from-data-requires : goal.data_from-data-requires
 data_from-data-requires c = some_row c.requires.1.0 c.requires.1.1 (omega (arith, c.if-to-first.false))
-
-pub equal_rows-requires : goal.equal_rows-requires
-equal_rows-requires c =
-    (data_rows c.requires.1.0, c.data_from-data.ensures c.args.to c.requires.1.0 c.requires.1.1 (omega (arith, c.if-to-first.false)))
 
 pub returns : goal.returns
 returns c = λ parent kids rows h x.

@@ -1,4 +1,4 @@
-use Prim.Native.Nat.{◌-◌, ◌≤◌}
+use Prim.Native.Nat.{◌≤◌}
 use mathlib.Core.List.{List}
 use Rattle.spec.specs.Md.Elements.Table.{Cell}
 use Rattle.tables.specs.Rows.{Rows}
@@ -6,6 +6,3 @@ use Rattle.tables.proofs.rows.next_row.Given as goal
 
 abbrev pub invariant-loop-r : goal.invariant-loop-r
 invariant-loop-r l = (l.i ≤ l.r) × ((rows : List (List Cell)) → Rows l.sheet l.nodes l.i l.to rows → Rows l.sheet l.nodes l.r l.to rows)
-
-abbrev pub decreases-loop-r : goal.decreases-loop-r
-decreases-loop-r l = l.to - l.r

@@ -18,8 +18,8 @@ returns-then-r-to c =
     let e = line_next a.sheet.now a.nodes.now a.from c.next_filled_row-r.result a.to c.requires.0 c.requires.1 c.next_filled_row-r.ensures.later q in
     c.count_cells.ensures x.row x.at ∙ sym (ap width e ∙ (width_first x.lengths_are ∙ row_length a.sheet.now a.nodes.now x.at))
 
-pub returns : goal.returns
-returns c =
+pub returns-else-r-to : goal.returns-else-r-to
+returns-else-r-to c =
     let a = c.args in
     let q = c.next_filled_row-r.ensures.rows c.requires.0 c.requires.1 in
     let e = line_next a.sheet.now a.nodes.now a.from c.next_filled_row-r.result a.to c.requires.0 c.requires.1 c.next_filled_row-r.ensures.later q in

@@ -6,10 +6,6 @@ use Rattle.tables.proofs.Lines.{line_next, line_row, line_none, line_turn, row_l
 use native.Mathlib.Omega.{arith}
 use Rattle.tables.proofs.table.lines_marks.Goals as goal
 
-pub next_filled_row-r-requires : goal.next_filled_row-r-requires
-next_filled_row-r-requires c =
-    c.requires.0
-
 pub loop-r-init : goal.loop-r-init
 loop-r-init c =
     let a = c.args in
@@ -51,10 +47,6 @@ pub next_filled_row-r-requires-in-loop-r : goal.next_filled_row-r-requires-in-lo
 next_filled_row-r-requires-in-loop-r c =
     let a = c.args in
     (line_row a.sheet.now a.nodes.now c.loop-r.r a.to c.loop-r.invariant.0 c.loop-r-test.true).behind
-
-pub loop-r-smaller : goal.loop-r-smaller
-loop-r-smaller c =
-    omega (arith, c.next_filled_row-r-in-loop-r.ensures.later, c.loop-r-test.true)
 
 pub loop-r-preserved : goal.loop-r-preserved
 loop-r-preserved c =

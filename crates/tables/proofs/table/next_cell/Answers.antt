@@ -10,15 +10,15 @@ loop-c-init c =
     let a = c.args in
     (omega arith, looking_all a.sheet.now a.nodes.now a.from a.to c.requires)
 
-pub node_name-name-requires : goal.node_name-name-requires
-node_name-name-requires c =
+pub node_name-requires : goal.node_name-requires
+node_name-requires c =
     looking_node c.loop-c.invariant.1 c.loop-c-test.true
 
 pub returns-then-is_table_cell : goal.returns-then-is_table_cell
 returns-then-is_table_cell c =
     record {
       later = c.loop-c.invariant.0;
-      cells = looking_done c.loop-c.invariant.1 (λ l. sym (c.is_table_cell.ensures ∙ ap is_table_cell c.node_name-name.ensures) ∙ c.if-is_table_cell.true);
+      cells = looking_done c.loop-c.invariant.1 (λ l. sym (c.is_table_cell.ensures ∙ ap is_table_cell c.node_name.ensures) ∙ c.if-is_table_cell.true);
     }
 
 pub node_end-c-requires : goal.node_end-c-requires
@@ -34,7 +34,7 @@ loop-c-preserved c =
     let a = c.args in (
       omega (arith, (looking_first c.loop-c.invariant.1 c.loop-c-test.true).later, c.node_end-c.ensures, c.loop-c.invariant.0),
       subst (λ (j : ℕ). Looking a.sheet.now a.nodes.now a.from a.to j) (sym c.node_end-c.ensures)
-          (looking_on c.loop-c.invariant.1 c.loop-c-test.true (sym (c.is_table_cell.ensures ∙ ap is_table_cell c.node_name-name.ensures) ∙ c.if-is_table_cell.false)),
+          (looking_on c.loop-c.invariant.1 c.loop-c-test.true (sym (c.is_table_cell.ensures ∙ ap is_table_cell c.node_name.ensures) ∙ c.if-is_table_cell.false)),
     )
 
 pub returns : goal.returns

@@ -6,34 +6,12 @@ use lib.Seq.{length-take-le}
 use borrow.Author.Tests.{leb-true, leb-false}
 use Rattle.spec.specs.Bytes.{Bytes}
 use Rattle.tables.specs.Spans.{cell_lengths, table_lengths, filled, width, marks}
-use Rattle.tables.proofs.Putting.{part_length, puts_reach}
+use Rattle.tables.proofs.Putting.{part_length}
 use Rattle.tables.proofs.Cutting.{marks_few, width_few}
 use Rattle.tables.proofs.Gathering.{zeros_few}
 use Rattle.tables.proofs.Tables.{sized_full, sized_done}
 use native.Mathlib.Omega.{arith}
 use Rattle.tables.proofs.table.push_sized.Goals as goal
-
-pub first_width-wide-requires : goal.first_width-wide-requires
-first_width-wide-requires c =
-    c.requires.1
-
-pub lines_marks-extra-requires : goal.lines_marks-extra-requires
-lines_marks-extra-requires c =
-    (c.requires.1, omega (arith, c.requires.7))
-
-pub overflow_mul-more : goal.overflow_mul-more
-overflow_mul-more c =
-    let a = c.args in
-    let rows = table_lengths a.sheet.now a.nodes.now a.from a.to in
-    omega
-    (arith, c.lines_marks-extra.ensures, c.saturating_sub-blanks.ensures, c.first_width-wide.ensures, marks_few rows, width_few rows, zeros_few (cell_lengths a.sheet.now a.nodes.now a.row (a.row + 1) a.end), c.requires.2, c.requires.4, c.requires.7)
-
-pub overflow_add-more : goal.overflow_add-more
-overflow_add-more c =
-    let a = c.args in
-    let rows = table_lengths a.sheet.now a.nodes.now a.from a.to in
-    omega
-    (arith, c.lines_marks-extra.ensures, c.saturating_sub-blanks.ensures, c.first_width-wide.ensures, marks_few rows, width_few rows, zeros_few (cell_lengths a.sheet.now a.nodes.now a.row (a.row + 1) a.end), c.requires.2, c.requires.4, c.requires.7)
 
 pub overflow_mul-more-2 : goal.overflow_mul-more-2
 overflow_mul-more-2 c =
@@ -63,14 +41,6 @@ overflow_add-more-4 c =
     omega
     (arith, c.lines_marks-extra.ensures, c.saturating_sub-blanks.ensures, c.first_width-wide.ensures, marks_few rows, width_few rows, zeros_few (cell_lengths a.sheet.now a.nodes.now a.row (a.row + 1) a.end), c.requires.2, c.requires.4, c.requires.7)
 
-pub overflow_sub-room : goal.overflow_sub-room
-overflow_sub-room c =
-    omega (arith, c.requires.5)
-
-pub overflow_sub-room-2 : goal.overflow_sub-room-2
-overflow_sub-room-2 c =
-    omega (arith, c.requires.5)
-
 pub returns-then-not-has_room : goal.returns-then-not-has_room
 returns-then-not-has_room c =
     let a = c.args in
@@ -85,29 +55,6 @@ returns-then-not-has_room c =
           (omega
           (arith, leb-false ((let a = c.args in a.n + a.bytes + (5 + 6 * a.cells + 9 * c.saturating_sub-blanks.result + a.empty + c.lines_marks-extra.result))) ((let a = c.args in length a.text.now - a.len - a.n)) (sym c.has_room.ensures ∙ c.if-not-has_room.true), c.saturating_sub-blanks.ensures, m, length-take-le a.len a.text.now (omega (arith, c.requires.5)), c.requires.2, c.requires.3, c.requires.4, c.requires.5, c.requires.6));
     }
-
-pub overflow_sub-base : goal.overflow_sub-base
-overflow_sub-base c =
-    omega (arith, c.requires.5)
-
-pub lift-requires : goal.lift-requires
-lift-requires c =
-    (omega (arith, c.requires.5, (let it : c.args.len + c.args.n + c.args.n + c.args.bytes + (5 + 6 * c.args.cells + 9 * c.saturating_sub-blanks.result + c.args.empty + c.lines_marks-extra.result) ≤ length c.args.text.now = omega (arith, leb-true ((let a = c.args in a.n + a.bytes + (5 + 6 * a.cells + 9 * c.saturating_sub-blanks.result + a.empty + c.lines_marks-extra.result))) ((let a = c.args in length a.text.now - a.len - a.n)) (sym c.has_room.ensures ∙ c.if-not-has_room.false), c.requires.5) in it)), omega (arith, c.requires.5))
-
-pub put_table-done-requires : goal.put_table-done-requires
-put_table-done-requires c =
-    let a = c.args in (
-      c.requires.0,
-      c.requires.1,
-      c.requires.3,
-      c.saturating_sub-blanks.ensures ∙ omega (arith, c.first_width-wide.ensures, c.requires.2),
-      omega (arith, (let it : c.args.len + c.args.n + c.args.n + c.args.bytes + (5 + 6 * c.args.cells + 9 * c.saturating_sub-blanks.result + c.args.empty + c.lines_marks-extra.result) ≤ length c.args.text.now = omega (arith, leb-true ((let a = c.args in a.n + a.bytes + (5 + 6 * a.cells + 9 * c.saturating_sub-blanks.result + a.empty + c.lines_marks-extra.result))) ((let a = c.args in length a.text.now - a.len - a.n)) (sym c.has_room.ensures ∙ c.if-not-has_room.false), c.requires.5) in it), c.requires.2, c.requires.3, c.requires.4, c.requires.6, c.lines_marks-extra.ensures),
-      omega (arith, c.lift.ensures.long, c.requires.5, c.requires.6),
-    )
-
-pub push_byte-requires : goal.push_byte-requires
-push_byte-requires c =
-    puts_reach c.put_table-done.ensures (omega (arith, c.lift.ensures.long, c.requires.5))
 
 pub returns : goal.returns
 returns c =

@@ -9,18 +9,6 @@ pub all_th-requires : goal.all_th-requires
 all_th-requires c =
     ((first_row c.requires.0).0, (first_row c.requires.0).1)
 
-pub node_end-end-requires : goal.node_end-end-requires
-node_end-end-requires c =
-    (first_row c.requires.0).1.is_element.inside
-
-pub overflow_add-first : goal.overflow_add-first
-overflow_add-first c =
-    omega (arith, c.requires.0.some_row)
-
-pub overflow_add-first-2 : goal.overflow_add-first-2
-overflow_add-first-2 c =
-    omega (arith, c.requires.0.some_row)
-
 pub push_headed-requires : goal.push_headed-requires
 push_headed-requires c =
     let x = c.requires.0 in (

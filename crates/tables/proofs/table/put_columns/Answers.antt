@@ -1,15 +1,11 @@
-use Prim.Native.Nat.{ℕ, ◌+◌}
-use mathlib.Core.List.{List}
-use mathlib.Core.Path.{refl, ap, subst, ◌∙◌}
+use Prim.Native.Nat.{◌+◌}
+use mathlib.Core.Path.{refl, ◌∙◌}
 use lib.ListN.{drop}
 use Rattle.tree.specs.Memory.{end_at}
 use Rattle.tree.specs.Represents.{rest_of}
 use Rattle.tree.proofs.Firsts.{rep_le}
 use Rattle.tree.proofs.Numbers.{long_is}
-use Rattle.tables.specs.Puts.{bars}
-use Rattle.tables.specs.Spans.{cell_lengths, sum}
-use Rattle.tables.specs.Columns.{columns}
-use Rattle.tables.proofs.Putting.{Due, due_all, due_done}
+use Rattle.tables.proofs.Putting.{due_done}
 use Rattle.tables.proofs.Columns.{columns_none, column_room, column_on}
 use Rattle.tables.proofs.Gathering.{from_none, from_first, from_rest, from_later, from_turn, sum_first}
 use native.Mathlib.Omega.{arith}
@@ -18,21 +14,6 @@ use Rattle.tables.proofs.table.put_columns.Goals as goal
 pub overflow_add-row : goal.overflow_add-row
 overflow_add-row c =
     omega (arith, rep_le c.args.sheet.now c.args.nodes.now c.args.row (c.args.row + 1) c.args.to c.requires.0.0 c.requires.0.1)
-
-pub next_cell-c-requires : goal.next_cell-c-requires
-next_cell-c-requires c =
-    (c.args.row, c.requires.0.0, c.requires.0.1)
-
-pub loop-c-init : goal.loop-c-init
-loop-c-init c =
-    let a = c.args in
-    let n = c.next_cell-c.ensures.cells a.row c.requires.0.0 (omega arith) c.requires.0.1 in (
-      n.0,
-      subst (λ (l : List ℕ). Due a.text.now a.text.now a.len a.len (bars (columns a.under l (drop a.src a.text.now))) (bars (columns a.under (cell_lengths a.sheet.now a.nodes.now a.row (a.row + 1) a.to) (drop a.src a.text.now)))) n.1
-          (due_all a.text.now a.len (bars (columns a.under (cell_lengths a.sheet.now a.nodes.now a.row (a.row + 1) a.to) (drop a.src a.text.now)))),
-      omega arith,
-      omega (arith, ap sum n.1),
-    )
 
 pub overflow_mul-c : goal.overflow_mul-c
 overflow_mul-c c =
@@ -65,34 +46,30 @@ overflow_add-at c =
     let e = from_turn l.invariant.0 c.loop-c-test.true refl (end_at a.nodes.now l.c) (c.read-n.ensures.0 ∙ long_is _ _) refl in
     omega (arith, sum_first e, l.invariant.3, c.requires.2)
 
-pub node_end-after-requires : goal.node_end-after-requires
-node_end-after-requires c =
+pub node_end-requires : goal.node_end-requires
+node_end-requires c =
     (from_first c.loop-c.invariant.0 c.loop-c-test.true).inside
 
 pub next_cell-c-requires-in-loop-c : goal.next_cell-c-requires-in-loop-c
 next_cell-c-requires-in-loop-c c =
-    (c.args.row, rest_of c.loop-c.invariant.0.rest, from_rest c.loop-c.invariant.0 c.loop-c-test.true c.node_end-after.ensures)
+    (c.args.row, rest_of c.loop-c.invariant.0.rest, from_rest c.loop-c.invariant.0 c.loop-c-test.true c.node_end.ensures)
 
 pub loop-c-smaller : goal.loop-c-smaller
 loop-c-smaller c =
-    omega (arith, (from_first c.loop-c.invariant.0 c.loop-c-test.true).later, c.node_end-after.ensures, c.next_cell-c-in-loop-c.ensures.later, c.loop-c-test.true)
+    omega (arith, (from_first c.loop-c.invariant.0 c.loop-c-test.true).later, c.node_end.ensures, c.next_cell-c-in-loop-c.ensures.later, c.loop-c-test.true)
 
 pub loop-c-preserved : goal.loop-c-preserved
 loop-c-preserved c =
     let a = c.args in
     let l = c.loop-c in
     let x = l.invariant.0 in
-    let n = c.next_cell-c-in-loop-c.ensures.cells a.row (rest_of x.rest) (from_later x c.loop-c-test.true c.node_end-after.ensures) (from_rest x c.loop-c-test.true c.node_end-after.ensures) in
-    let e = from_turn x c.loop-c-test.true c.node_end-after.ensures c.next_cell-c-in-loop-c.result (c.read-n.ensures.0 ∙ long_is _ _) n.1 in (
+    let n = c.next_cell-c-in-loop-c.ensures.cells a.row (rest_of x.rest) (from_later x c.loop-c-test.true c.node_end.ensures) (from_rest x c.loop-c-test.true c.node_end.ensures) in
+    let e = from_turn x c.loop-c-test.true c.node_end.ensures c.next_cell-c-in-loop-c.result (c.read-n.ensures.0 ∙ long_is _ _) n.1 in (
       n.0,
       column_on a.under e l.at l.invariant.1 (λ q. omega (arith, c.requires.3 q, l.invariant.2)) c.put_column-end.ensures,
       omega arith,
       omega (arith, sum_first e, l.invariant.3),
     )
-
-pub shape_of-text : goal.shape_of-text
-shape_of-text c =
-    c.loop-c.invariant.1.puts.long
 
 pub returns : goal.returns
 returns c =

@@ -12,47 +12,12 @@ use Rattle.tables.proofs.Columns.{columns_behind}
 use native.Mathlib.Omega.{arith}
 use Rattle.tables.proofs.table.put_line.Goals as goal
 
-pub bounds-text-len : goal.bounds-text-len
-bounds-text-len c =
-    omega (arith, c.requires.1)
-
-pub overflow_add-len : goal.overflow_add-len
-overflow_add-len c =
-    omega (arith, c.requires.1)
-
-pub put_columns-a-requires : goal.put_columns-a-requires
-put_columns-a-requires c =
-    let a = c.args in
-    let pre = c.requires in
-    let same = ap (λ (x : List Bytes). length (bars x)) (columns_behind a.under (cell_lengths a.sheet.now a.nodes.now a.row (a.row + 1) a.to) a.src a.len 124 a.text.now (λ q. omega (arith, pre.3 q))) in (
-      (pre.0.0, pre.0.1),
-      omega (arith, same, pre.1, length-set a.text.now a.len 124),
-      omega (arith, pre.2, length-set a.text.now a.len 124),
-      λ q. omega (arith, same, pre.3 q),
-    )
-
-pub put_byte_cells-b-requires : goal.put_byte_cells-b-requires
-put_byte_cells-b-requires c =
-    let a = c.args in
-    let pre = c.requires in
-    let same = ap (λ (x : List Bytes). length (bars x)) (columns_behind a.under (cell_lengths a.sheet.now a.nodes.now a.row (a.row + 1) a.to) a.src a.len 124 a.text.now (λ q. omega (arith, pre.3 q))) in
-    omega (arith, same, pre.1, c.put_columns-a.ensures.count, c.put_columns-a.ensures.long, length-set a.text.now a.len 124)
-
 pub bounds-text-b : goal.bounds-text-b
 bounds-text-b c =
     let a = c.args in
     let pre = c.requires in
     let same = columns_behind a.under (cell_lengths a.sheet.now a.nodes.now a.row (a.row + 1) a.to) a.src a.len 124 a.text.now (λ q. omega (arith, pre.3 q)) in
     omega (arith, ap (λ (x : List Bytes). length (bars x)) same, pre.1, c.put_columns-a.ensures.count, c.put_columns-a.ensures.long, c.put_byte_cells-b.ensures.count, c.put_byte_cells-b.ensures.long, length-set a.text.now a.len 124, length_bars_bytes a.fill a.blanks)
-
-pub overflow_add-result : goal.overflow_add-result
-overflow_add-result c =
-    let a = c.args in
-    omega (arith, bounds-text-b c, length-set a.text.now a.len 124, c.put_byte_cells-b.ensures.long, c.put_columns-a.ensures.long)
-
-pub shape_of-text : goal.shape_of-text
-shape_of-text c =
-    simp length-set (c.put_byte_cells-b.ensures.long ∙ (c.put_columns-a.ensures.long ∙ simp length-set))
 
 pub returns : goal.returns
 returns c =

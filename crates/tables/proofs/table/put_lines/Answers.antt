@@ -11,10 +11,6 @@ use Rattle.tables.proofs.Lines.{line_next, line_row, line_none, line_turn, line_
 use native.Mathlib.Omega.{arith}
 use Rattle.tables.proofs.table.put_lines.Goals as goal
 
-pub next_filled_row-r-requires : goal.next_filled_row-r-requires
-next_filled_row-r-requires c =
-    c.requires.0
-
 pub loop-r-init : goal.loop-r-init
 loop-r-init c =
     let a = c.args in
@@ -64,10 +60,6 @@ next_filled_row-r-requires-in-loop-r c =
     let a = c.args in
     (line_row a.sheet.now a.nodes.now c.loop-r.r a.to c.loop-r.invariant.0 c.loop-r-test.true).behind
 
-pub loop-r-smaller : goal.loop-r-smaller
-loop-r-smaller c =
-    omega (arith, c.next_filled_row-r-in-loop-r.ensures.later, c.loop-r-test.true)
-
 pub loop-r-preserved : goal.loop-r-preserved
 loop-r-preserved c =
     let a = c.args in
@@ -88,10 +80,6 @@ loop-r-preserved c =
       omega arith,
       omega (arith, total_first e, c.row_bytes-at.ensures, l.invariant.3),
     )
-
-pub shape_of-text : goal.shape_of-text
-shape_of-text c =
-    c.loop-r.invariant.1.puts.long
 
 pub returns : goal.returns
 returns c =

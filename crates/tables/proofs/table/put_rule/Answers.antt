@@ -10,6 +10,3 @@ put_line-requires c =
     let a = c.args in
     let pre = c.requires in
     (pre.0, omega (arith, unders_length (cell_lengths a.sheet.now a.nodes.now a.row (a.row + 1) a.to), pre.1), omega (arith, pre.1), λ q. absurd (true≢false q))
-
-pub returns : goal.returns
-returns c = c.put_line.ensures

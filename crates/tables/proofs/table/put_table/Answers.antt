@@ -1,5 +1,5 @@
 use Prim.Native.Nat.{◌+◌, ◌*◌}
-use mathlib.Core.Path.{◌≡◌, ◌∙◌}
+use mathlib.Core.Path.{◌≡◌}
 use lib.ListN.{length, set, drop, length-set, length-drop}
 use lib.Seq.{drop-set-lt}
 use Rattle.tables.specs.Spans.{cell_lengths, table_lengths, filled, sum}
@@ -8,27 +8,10 @@ use Rattle.tables.proofs.Cutting.{row_put, rule_put, table_is}
 use native.Mathlib.Omega.{arith}
 use Rattle.tables.proofs.table.put_table.Goals as goal
 
-pub bounds-text-len : goal.bounds-text-len
-bounds-text-len c =
-    omega (arith, c.requires.4, c.requires.5)
-
-pub overflow_add-len : goal.overflow_add-len
-overflow_add-len c =
-    omega (arith, c.requires.4)
-
-pub put_row-a-requires : goal.put_row-a-requires
-put_row-a-requires c =
-    let a = c.args in
-    (c.requires.0, omega (arith, c.requires.2, c.requires.4), omega (arith, c.requires.2, c.requires.5, length-set a.text.now a.len 10))
-
 pub put_rule-b-requires : goal.put_rule-b-requires
 put_rule-b-requires c =
     let a = c.args in
     (c.requires.0, omega (arith, (let it : c.put_row-a.result ≡ c.args.len + 1 + sum (cell_lengths c.args.sheet.now c.args.nodes.now c.args.row (c.args.row + 1) c.args.end) + 3 * length (cell_lengths c.args.sheet.now c.args.nodes.now c.args.row (c.args.row + 1) c.args.end) + 4 * c.args.blanks + 2 = let a = c.args in let t = set a.text.now a.len 10 in let lens = cell_lengths a.sheet.now a.nodes.now a.row (a.row + 1) a.end in omega (arith, c.put_row-a.ensures.count, row_put lens (drop a.src t) 32 a.blanks (omega (arith, length-drop a.src t, length-set a.text.now a.len 10, c.requires.2, c.requires.5))) in it), c.requires.2, c.requires.4, c.requires.5, c.put_row-a.ensures.long, length-set a.text.now a.len 10))
-
-pub overflow_add-src : goal.overflow_add-src
-overflow_add-src c =
-    omega (arith, c.requires.5)
 
 pub put_lines-requires : goal.put_lines-requires
 put_lines-requires c =
@@ -38,10 +21,6 @@ put_lines-requires c =
       omega (arith, (let it : c.put_row-a.result ≡ c.args.len + 1 + sum (cell_lengths c.args.sheet.now c.args.nodes.now c.args.row (c.args.row + 1) c.args.end) + 3 * length (cell_lengths c.args.sheet.now c.args.nodes.now c.args.row (c.args.row + 1) c.args.end) + 4 * c.args.blanks + 2 = let a = c.args in let t = set a.text.now a.len 10 in let lens = cell_lengths a.sheet.now a.nodes.now a.row (a.row + 1) a.end in omega (arith, c.put_row-a.ensures.count, row_put lens (drop a.src t) 32 a.blanks (omega (arith, length-drop a.src t, length-set a.text.now a.len 10, c.requires.2, c.requires.5))) in it), c.put_rule-b.ensures.count, rule_put lens 45 a.blanks, c.requires.2, c.requires.4),
       omega (arith, c.requires.5, c.put_rule-b.ensures.long, c.put_row-a.ensures.long, length-set a.text.now a.len 10),
     )
-
-pub shape_of-text : goal.shape_of-text
-shape_of-text c =
-    c.put_lines.ensures.long ∙ (c.put_rule-b.ensures.long ∙ (c.put_row-a.ensures.long ∙ simp length-set))
 
 pub returns : goal.returns
 returns c =
