@@ -1,23 +1,22 @@
 -- Questions 1 to 6 together, from field to field. Assumes nothing.
-use Prim.Native.Nat.{ℕ, suc, ◌+◌, ◌*◌, ◌-◌, ◌≤◌, ◌<◌}
+use Prim.Native.Nat.{ℕ, ◌+◌, ◌-◌, ◌≤◌, ◌<◌}
 use native.Mathlib.Omega.{arith}
-use mathlib.Core.Path.{◌≡◌, refl, ap, ◌∙◌, sym}
-use mathlib.Core.Bool.{Bool, true, false, cond, not, ◌&&◌, and-eq-true_iff}
-use mathlib.Core.List.{List, [], ◌∷◌}
-use lib.ListN.{length, get_or, take, drop, length-drop, length-take}
+use mathlib.Core.Path.{◌≡◌, refl, ◌∙◌, sym}
+use mathlib.Core.Bool.{Bool, true, not, ◌&&◌, and-eq-true_iff}
+use lib.ListN.{length, get_or, take, drop, length-drop}
+use lib.Seq.{take_all}
 use lib.Dec.{eqb, leb}
-use borrow.Author.Tests.{le-leb, leb-true, eq-eqb, eqb-true, eqb-false, ne_eqb, not-true}
+use borrow.Author.Tests.{le-leb, le-ltb, leb-true, eq-eqb, eqb-true, eqb-false, ne_eqb, not-true}
 use Rattle.std.specs.Prelude.{Option, None, Some, IfSome}
 use Rattle.spec.specs.Bytes.{Bytes, isin}
 use Rattle.spec.specs.Utf8.{is_utf8}
-use Rattle.spec.specs.Fields.{Field, fields, fields_short, whole, whole_short}
+use Rattle.spec.specs.Fields.{fields, whole}
 use Rattle.spec.specs.Questions.{
   SkipList,
   every_field,
   may_follow,
   open_after,
   no_stray,
-  right_length,
   keep_rules,
   still_open,
   utf8_body,
@@ -28,7 +27,6 @@ use Rattle.spec.specs.Questions.{
   no_blockquote,
   question1,
   question2,
-  question3,
   question4,
   question5,
   question6,
@@ -37,29 +35,34 @@ use Rattle.spec.specs.Questions.{
   first_no,
   refusal,
 }
-use Rattle.input.specs.Scans.{length_right, field_right, count_after, opens_blockquote}
+use Rattle.input.specs.Spans.{length_at, span_at}
+use Rattle.input.specs.Scans.{field_right, count_after, opens_blockquote}
 use Rattle.input.specs.Sound.{ruled_field, sound_field, Ended, Sound, refusal_of_sound}
-use Rattle.input.proofs.Rules.{null_length}
-use Rattle.input.proofs.Splitting.{split_whole, split_inside}
+use Rattle.input.specs.declared.fields.Span.{Span}
+use Rattle.input.proofs.Walking.{fits, whole_end}
+use Rattle.input.proofs.Rules.{part_length, rules_on, still_on, kept, answer_open}
 use Rattle.input.proofs.ByTag.{of_close}
+use Rattle.input.proofs.Every.{every_right, every_end, count_on, count_end, depth_on, depth_end}
 
--- the fields before the rest are sound, begin `count` nodes, and leave `depth` elements open behind the tag `before`
-pub record SoFar (s : Bytes) (before depth count : ℕ) (rest : Bytes) : Type 0 where
+-- the fields before p are sound, begin `count` nodes, and leave `depth` elements open behind the tag `before`
+pub record SoFar (s : Bytes) (before depth count p : ℕ) : Type 0 where
   pub short : length s ≤ 1048576
+  pub inside : p ≤ length s
   pub low : depth ≤ 100
-  pub counted : count + length rest ≤ length s
-  pub ends : whole 1 6 s ≡ whole 1 6 rest
-  pub rules : keep_rules 0 0 (fields s) ≡ keep_rules before depth (fields rest)
-  pub still : still_open 0 (fields s) ≡ still_open depth (fields rest)
-  pub utf8 : every_field utf8_body (fields s) ≡ every_field utf8_body (fields rest)
-  pub nodes : nodes_in (fields s) ≡ count + nodes_in (fields rest)
-  pub levels : shallow 0 (fields s) ≡ shallow depth (fields rest)
-  pub plain : every_field no_blockquote (fields s) ≡ every_field no_blockquote (fields rest)
+  pub counted : count ≤ p
+  pub ends : whole 1 6 s ≡ whole 1 6 (drop p s)
+  pub rules : keep_rules 0 0 (fields s) ≡ keep_rules before depth (fields (drop p s))
+  pub still : still_open 0 (fields s) ≡ still_open depth (fields (drop p s))
+  pub utf8 : every_field utf8_body (fields s) ≡ every_field utf8_body (fields (drop p s))
+  pub nodes : nodes_in (fields s) ≡ count + nodes_in (fields (drop p s))
+  pub levels : shallow 0 (fields s) ≡ shallow depth (fields (drop p s))
+  pub plain : every_field no_blockquote (fields s) ≡ every_field no_blockquote (fields (drop p s))
 
-pub begun : (s : Bytes) → length s ≤ 1048576 → SoFar s 0 0 0 s
+pub begun : (s : Bytes) → length s ≤ 1048576 → SoFar s 0 0 0 0
 begun s h =
     record {
       short = h;
+      inside = omega arith;
       low = omega arith;
       counted = omega arith;
       ends = refl;
@@ -96,49 +99,44 @@ parts before depth tag body e =
     let c = (and-eq-true_iff (field_right before depth tag (length body)) (not (opens_blockquote tag body))).0 a.1 in
     record { least = leb-true 1 tag b.0; most = leb-true tag 6 b.1; right = c.0; other = c.1; utf8 = u.1 }
 
-rules_on : (before depth : ℕ) (f : Field) (fs : List Field) → field_right before depth f.tag (length f.body) ≡ true
-    → keep_rules before depth (f ∷ fs) ≡ keep_rules f.tag (open_after depth f.tag) fs
-unfolding keep_rules right_length
-rules_on before depth f fs e =
-    let p = (and-eq-true_iff (may_follow before f.tag && length_right f.tag (length f.body)) (no_stray depth f.tag)).0 e in
-    let q = (and-eq-true_iff (may_follow before f.tag) (length_right f.tag (length f.body))).0 p.0 in
-    rw (null_length f.body, q.0, q.1, p.1) refl
+-- the field at p, whose n bytes end inside
+module _ (s : Bytes) (p n before depth count : ℕ) (h : p + 3 ≤ length s) (n-is : n ≡ length_at s p) (fit : n ≤ length s - (p + 3)) where
+  abbrev span : Span
+  span = record { tag = get_or s p 0; start = p + 3; end = p + 3 + n }
 
-nodes_on : (count : ℕ) (f : Field) (fs : List Field) → count + nodes_in (f ∷ fs) ≡ count_after count f.tag + nodes_in fs
-unfolding nodes_in
-nodes_on count f fs = go (isin f.tag (1 ∷ 4 ∷ 5 ∷ []))
-  where
-    go : (t : Bool) → count + cond t (suc (nodes_in fs)) (nodes_in fs) ≡ cond t (suc count) count + nodes_in fs
-    go true = omega arith
-    go false = refl
+  span_is : span ≡ span_at s p
+  span_is = rw (n-is, le-ltb (length s - (p + 3)) (length_at s p) (rw n-is at fit))
 
--- the bytes behind the head of the first field
-abbrev behind : Bytes → Bytes
-behind rest = take (length rest - 3) (drop 3 rest)
-
--- the field that the rest begins with, whose n bytes end inside
-module _ (s rest : Bytes) (n before depth count : ℕ) (h : 3 ≤ length rest) (n-is : n ≡ get_or rest 1 0 * 256 + get_or rest 2 0)
-    (fit : n ≤ length (behind rest)) where
-  pub on : SoFar s before depth count rest → sound_field before depth (get_or rest 0 0) (take n (behind rest)) ≡ true
-      → (d m : ℕ) → d ≡ open_after depth (get_or rest 0 0) → d ≤ 100 → m ≡ count_after count (get_or rest 0 0) → m ≤ count + 1
-      → SoFar s (get_or rest 0 0) d m (drop n (behind rest))
-  unfolding every_field still_open shallow utf8_body no_blockquote max_open
+  pub on : SoFar s before depth count p
+      → sound_field before depth (get_or s p 0) (take (p + 3 + n - (p + 3)) (drop (p + 3) s)) ≡ true
+      → (d m : ℕ) → d ≡ open_after depth (get_or s p 0) → d ≤ 100 → m ≡ count_after count (get_or s p 0) → m ≤ count + 1
+      → SoFar s (get_or s p 0) d m (p + 3 + n)
+  unfolding utf8_body no_blockquote max_open
   on f t d m d-is d-low m-is m-low =
-      let tag = get_or rest 0 0 in let body = take n (behind rest) in
-      let k = parts before depth tag body t in
-      let e : fields rest ≡ record { tag = tag; body = body } ∷ fields (drop n (behind rest)) = split_inside rest n h n-is fit in
+      let k = parts before depth (get_or s p 0) (take (p + 3 + n - (p + 3)) (drop (p + 3) s)) t in
+      let right : field_right before depth (get_or s p 0) (p + 3 + n - (p + 3)) ≡ true =
+      rw (part_length s (p + 3) (p + 3 + n) (omega arith) (omega arith)) at k.right in
       record {
         short = f.short;
+        inside = omega arith;
         low = d-low;
-        counted = omega (arith, f.counted, length-drop n (behind rest), length-take (length rest - 3) (drop 3 rest), length-drop 3 rest);
-        ends = f.ends ∙ (split_whole 1 6 rest n h n-is ∙ rw (le-leb 1 tag k.least, le-leb tag 6 k.most, le-leb n (length (behind rest)) fit) refl);
-        rules = rw d-is (f.rules ∙ (ap (keep_rules before depth) e ∙ rules_on before depth _ _ k.right));
-        still = rw d-is (f.still ∙ ap (still_open depth) e);
-        utf8 = f.utf8 ∙ (ap (every_field utf8_body) e ∙ rw k.utf8 refl);
-        nodes = rw m-is (f.nodes ∙ (ap (λ (fs : List Field). count + nodes_in fs) e ∙ nodes_on count _ _));
-        levels = rw d-is (f.levels ∙ (ap (shallow depth) e ∙ rw (le-leb depth 100 f.low) refl));
-        plain = f.plain ∙ (ap (every_field no_blockquote) e ∙ rw k.other refl);
+        counted = omega arith;
+        ends = fits 1 6 s p n (get_or s p 0) h n-is refl f.ends k.least k.most fit;
+        rules = rw d-is (rules_on s p before depth span h span_is f.rules f.still right);
+        still = rw d-is (still_on s p before depth span h span_is f.rules f.still);
+        utf8 = every_right utf8_body s p f.utf8 span h span_is k.utf8;
+        nodes = rw m-is (count_on s p count span h span_is f.nodes);
+        levels = rw d-is (depth_on s p depth f.levels h span span_is f.low);
+        plain = every_right no_blockquote s p f.plain span h span_is k.other;
       }
+
+-- the field's n bytes at p + 3, as the first n behind its head
+pub field_bytes : (before depth : ℕ) (s : Bytes) (p n : ℕ) (r : Bool) → p + 3 + n ≤ length s
+    → r ≡ sound_field before depth (get_or s p 0) (take n (take (length s - (p + 3)) (drop (p + 3) s)))
+    → sound_field before depth (get_or s p 0) (take (p + 3 + n - (p + 3)) (drop (p + 3) s)) ≡ r
+field_bytes before depth s p n r h e =
+    let long : p + 3 + n - (p + 3) ≡ n = omega arith in
+    rw long (sym (e ∙ rw (take_all (length s - (p + 3)) (drop (p + 3) s) (omega (arith, length-drop (p + 3) s))) refl))
 
 pub empty_close : (before depth n : ℕ) → field_right before depth 6 n ≡ true → (n ≡ 0) × (0 < depth)
 unfolding may_follow isin no_stray
@@ -147,38 +145,39 @@ empty_close before depth n e =
     let some = eqb-false depth 0 (not-true (eqb depth 0) a.1) in
     (eqb-true n 0 ((and-eq-true_iff (not (eqb before 2)) (eqb n 0)).0 a.0).1, omega (arith, some))
 
--- a close: the next field begins behind its head
-pub on_close : (s rest : Bytes) (n before depth count : ℕ) → 3 ≤ length rest → n ≡ get_or rest 1 0 * 256 + get_or rest 2 0 → get_or rest 0 0 ≡ 6
-    → field_right before depth 6 n ≡ true → SoFar s before depth count rest → SoFar s 6 (depth - 1) count (behind rest)
+-- the close at p: the next field begins behind its head
+pub on_close : (s : Bytes) (p n before depth count : ℕ) → p + 3 ≤ length s → n ≡ length_at s p → get_or s p 0 ≡ 6
+    → field_right before depth 6 n ≡ true → SoFar s before depth count p → SoFar s (get_or s p 0) (depth - 1) count (p + 3)
 unfolding open_after isin
-on_close s rest n before depth count h n-is tag_is right f =
-    let e = empty_close before depth n right in
-    rw tag_is at
-    (on s rest 0 before depth count h (sym e.0 ∙ n-is) (omega arith) f
-    (rw (tag_is, of_close before depth []) (rw e.0 at right))
+on_close s p n before depth count h n-is tag_is right f =
+    let e = empty_close before depth n right in let none : p + 3 + 0 ≡ p + 3 = omega arith in
+    let long : length (take (p + 3 + 0 - (p + 3)) (drop (p + 3) s)) ≡ n =
+    part_length s (p + 3) (p + 3 + 0) (omega arith) (omega arith) ∙ omega (arith, e.0) in
+    rw none at
+    (on s p 0 before depth count h (sym e.0 ∙ n-is) (omega arith) f
+    (rw (tag_is, of_close before depth (take (p + 3 + 0 - (p + 3)) (drop (p + 3) s)), long) right)
     (depth - 1) count (rw tag_is refl) (omega (arith, f.low)) (rw tag_is refl) (omega arith))
 
 -- at the end of the fields
-sound : (s rest : Bytes) (before depth count r : ℕ) → length rest < 3 → SoFar s before depth count rest
-    → Ended (length rest) before depth (count + 1) r → Sound s r
-unfolding question1 question2 question3 question4 question5 question6 every_field keep_rules still_open shallow nodes_in node_count max_open
-sound s rest before depth count r h f e =
-    let none : fields rest ≡ [] = fields_short rest h in
-    let n : count + 1 ≡ suc (nodes_in (fields s)) = rw (f.nodes, none) (omega arith) in
+sound : (s : Bytes) (p before depth count r : ℕ) → length s - p < 3 → SoFar s before depth count p
+    → Ended (length s - p) before depth (count + 1) r → Sound s r
+unfolding question1 question2 question4 question5 question6 max_open
+sound s p before depth count r h f e =
+    let n : count + 1 ≡ node_count s = count_end s p count h f.nodes in
     record {
       one = le-leb (length s) 1048576 f.short;
-      two = f.ends ∙ (whole_short 1 6 rest h ∙ (null_length rest ∙ eq-eqb (length rest) 0 e.all));
-      three = rw (f.rules, f.still, none, ne_eqb before 2 e.named, eq-eqb depth 0 e.shut) refl;
-      four = f.utf8 ∙ rw none refl;
-      five = rw (← n, le-leb (count + 1) 65535 e.few) (f.levels ∙ rw none (le-leb depth 100 f.low));
-      six = f.plain ∙ rw none refl;
+      two = sym (whole_end 1 6 s p f.inside h f.ends) ∙ eq-eqb p (length s) (omega arith);
+      three = sym (answer_open s depth (kept s p before depth h f.rules f.still e.named)) ∙ eq-eqb depth 0 e.shut;
+      four = sym (every_end utf8_body s p f.utf8 h);
+      five = rw (← n, le-leb (count + 1) 65535 e.few) (sym (depth_end s p depth f.levels h) ∙ le-leb depth 100 f.low);
+      six = sym (every_end no_blockquote s p f.plain h);
       nodes = e.same ∙ n;
     }
 
-pub sound_if : (s rest : Bytes) (before depth count : ℕ) (r : Option ℕ) → length rest < 3 → SoFar s before depth count rest
-    → IfSome r (λ n. Ended (length rest) before depth (count + 1) n) → IfSome r (λ n. Sound s n)
-sound_if s rest before depth count None h f e = e
-sound_if s rest before depth count (Some n) h f e = sound s rest before depth count n h f e
+pub sound_if : (s : Bytes) (p before depth count : ℕ) (r : Option ℕ) → length s - p < 3 → SoFar s before depth count p
+    → IfSome r (λ n. Ended (length s - p) before depth (count + 1) n) → IfSome r (λ n. Sound s n)
+sound_if s p before depth count None h f e = e
+sound_if s p before depth count (Some n) h f e = sound s p before depth count n h f e
 
 -- the first no of a sheet to which questions 1 to 6 say yes
 pub sound_refusal : (s : Bytes) (skips : SkipList) (start memory r : ℕ) → Sound s r → refusal_of_sound r skips start memory ≡ refusal s skips start memory

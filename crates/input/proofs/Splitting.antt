@@ -5,8 +5,8 @@ use mathlib.Core.Path.{◌≡◌, refl, ap, ◌∙◌, sym}
 use mathlib.Core.Bool.{Bool, true, false, cond, ◌&&◌, and-false}
 use mathlib.Core.List.{List, [], ◌∷◌}
 use lib.ListN.{length, get_or, take, drop, length-drop}
-use lib.Seq.{take_all}
-use lib.Dec.{eqb, leb}
+use lib.Seq.{take_all, drop-drop}
+use lib.Dec.{eqb}
 use Rattle.std.proofs.Common.{nat_eq}
 use lib.Pointwise.{pointwise}
 use Rattle.std.proofs.lemmas.List.{take_min, drop_min}
@@ -17,7 +17,7 @@ use Rattle.std.proofs.lemmas.Iterator.Consumers.{YieldsList-from_first}
 use Rattle.std.specs.Bool.{MatchBool}
 use Rattle.std.specs.Iterator.{YieldsFirstBy, ChecksAll}
 use Rattle.std.specs.List.{AllWithin, HoldsAt, filter}
-use Rattle.spec.specs.Fields.{Field, word, fields_from, fields, fields_cons, whole, whole_cons}
+use Rattle.spec.specs.Fields.{Field, word, fields_from, fields, fields_cons}
 use Rattle.spec.specs.Questions.{every_field, nodes_in}
 use Rattle.input.specs.Fields.{field, fields_left}
 use Rattle.input.specs.Scans.{begins_node}
@@ -36,27 +36,10 @@ split_fields (t ∷ a ∷ b ∷ r) n m body rest h n-is m-is body-is rest-is = g
     go : take (length (t ∷ a ∷ b ∷ r) - 3) r ≡ r → fields (t ∷ a ∷ b ∷ r) ≡ record { tag = t; body = body } ∷ fields rest
     go whole = fields_cons t a b r ∙ rw (body-is, rest-is, m-is, n-is, whole, take_min, drop_min) refl
 
-pub split_whole : (low high : ℕ) (s : Bytes) (n : ℕ) → 3 ≤ length s → n ≡ get_or s 1 0 * 256 + get_or s 2 0
-    → whole low high s
-    ≡ ((leb low (get_or s 0 0) && leb (get_or s 0 0) high)
-    && (leb n (length (take (length s - 3) (drop 3 s))) && whole low high (drop n (take (length s - 3) (drop 3 s)))))
-unfolding word
-split_whole low high [] n h n-is = absurd (omega arith)
-split_whole low high (t ∷ []) n h n-is = absurd (omega arith)
-split_whole low high (t ∷ a ∷ []) n h n-is = absurd (omega arith)
-split_whole low high (t ∷ a ∷ b ∷ r) n h n-is = go (take_all (length (t ∷ a ∷ b ∷ r) - 3) r (omega arith))
-  where
-    go : take (length (t ∷ a ∷ b ∷ r) - 3) r ≡ r
-        → whole low high (t ∷ a ∷ b ∷ r)
-        ≡ ((leb low t && leb t high)
-        && (leb n (length (take (length (t ∷ a ∷ b ∷ r) - 3) r)) && whole low high (drop n (take (length (t ∷ a ∷ b ∷ r) - 3) r))))
-    go all = whole_cons low high t a b r ∙ rw (n-is, all) refl
-
--- a field of n bytes that ends inside
-pub split_inside : (s : Bytes) (n : ℕ) → 3 ≤ length s → n ≡ get_or s 1 0 * 256 + get_or s 2 0 → n ≤ length (take (length s - 3) (drop 3 s))
-    → fields s ≡ record { tag = get_or s 0 0; body = take n (take (length s - 3) (drop 3 s)) } ∷ fields (drop n (take (length s - 3) (drop 3 s)))
-split_inside s n h n-is fit =
-    split_fields s n n (take n (take (length s - 3) (drop 3 s))) (drop n (take (length s - 3) (drop 3 s))) h n-is (omega arith) refl refl
+-- what is left behind a field of n bytes
+pub behind_field : (s : Bytes) (n : ℕ) → 3 ≤ length s → n ≤ length (take (length s - 3) (drop 3 s))
+    → take (length (take (length s - 3) (drop 3 s)) - n) (drop n (take (length s - 3) (drop 3 s))) ≡ drop (0 + 3 + n) s
+behind_field s n h l = rw (take_all (length s - 3) (drop 3 s) (omega (arith, length-drop 3 s))) (take_all _ (drop n (drop 3 s)) (omega (arith, length-drop n (drop 3 s))) ∙ drop-drop n 3 s)
 
 -- a field has three bytes and more
 few_from : (n : ℕ) (s : Bytes) → length (fields_from n s) * 3 ≤ length s

@@ -1,16 +1,16 @@
 -- From field to field. Assumes nothing.
-use Prim.Native.Nat.{ℕ, suc, ◌+◌, ◌-◌, ◌<◌, ◌≤◌}
+use Prim.Native.Nat.{ℕ, zero, suc, ◌+◌, ◌-◌, ◌<◌, ◌≤◌}
 use native.Mathlib.Omega.{arith}
 use native.Mathlib.Numerals.{add-one, add-two, add-three}
 use mathlib.Core.Path.{◌≡◌, refl, ap, ap₂, ◌∙◌, sym}
-use mathlib.Core.Bool.{Bool, true, false, cond}
+use mathlib.Core.Bool.{Bool, true, false, cond, ◌&&◌}
 use mathlib.Core.List.{List, [], ◌∷◌}
 use lib.ListN.{length, get_or, take, drop, length-drop, drop_of_length-le}
 use lib.Seq.{drop-cons, drop-drop, take_all}
-use lib.Dec.{eqb, ltb}
-use borrow.Author.Tests.{ltb-true, ltb-false, eqb-true, eqb-false, eq-eqb, ne_eqb}
-use Rattle.spec.specs.Bytes.{Bytes, same}
-use Rattle.spec.specs.Fields.{Field, fields, fields_cons}
+use lib.Dec.{eqb, leb, ltb, eqb-zero-suc, eqb-suc-suc}
+use borrow.Author.Tests.{ltb-true, ltb-false, le-leb, lt-leb, eqb-true, eqb-false, eq-eqb, ne_eqb}
+use Rattle.spec.specs.Bytes.{Bytes, null, same}
+use Rattle.spec.specs.Fields.{Field, whole, fields, fields_cons, whole_cons, whole_short}
 use Rattle.input.specs.Spans.{length_at, end_of, span_at, field_of}
 
 -- the head of the field at p
@@ -68,6 +68,47 @@ end_bounds s p h = go (ltb (length s - (p + 3)) (length_at s p)) refl
         → (p + 3 ≤ cond t (length s) (p + 3 + length_at s p)) × (cond t (length s) (p + 3 + length_at s p) ≤ length s)
     go true e = (h, omega arith)
     go false e = (omega arith, omega (arith, ltb-false (length s - (p + 3)) (length_at s p) e))
+
+-- whether the fields from p on are whole
+pub whole_at : (low high : ℕ) (s : Bytes) (p : ℕ) → p + 3 ≤ length s
+    → whole low high (drop p s)
+    ≡ ((leb low (get_or s p 0) && leb (get_or s p 0) high)
+    && (leb (length_at s p) (length s - (p + 3)) && whole low high (drop (p + 3 + length_at s p) s)))
+whole_at low high s p h =
+    ap (whole low high) (head_law s p h)
+    ∙ (whole_cons low high (get_or s p 0) (get_or s (p + 1) 0) (get_or s (p + 2) 0) (drop (p + 3) s)
+    ∙ rw (length-drop (p + 3) s, drop-drop (length_at s p) (p + 3) s))
+
+-- the field at p decides, where those before it are whole
+module _ (low high : ℕ) (s : Bytes) (p n tag : ℕ) (h : p + 3 ≤ length s) (n-is : n ≡ length_at s p) (tag_is : tag ≡ get_or s p 0)
+    (so_far : whole low high s ≡ whole low high (drop p s)) where
+  step : whole low high s
+      ≡ ((leb low tag && leb tag high) && (leb n (length s - (p + 3)) && whole low high (drop (p + 3 + n) s)))
+  step = so_far ∙ (whole_at low high s p h ∙ rw (← n-is, ← tag_is))
+
+  pub too_low : tag < low → false ≡ whole low high s
+  too_low k = sym (step ∙ rw (lt-leb low tag k))
+
+  pub too_high : low ≤ tag → high < tag → false ≡ whole low high s
+  too_high k l = sym (step ∙ rw (le-leb low tag k, lt-leb tag high l))
+
+  pub too_long : low ≤ tag → tag ≤ high → length s - (p + 3) < n → false ≡ whole low high s
+  too_long k l m = sym (step ∙ rw (le-leb low tag k, le-leb tag high l, lt-leb n (length s - (p + 3)) m))
+
+  pub fits : low ≤ tag → tag ≤ high → n ≤ length s - (p + 3) → whole low high s ≡ whole low high (drop (p + 3 + n) s)
+  fits k l m = step ∙ rw (le-leb low tag k, le-leb tag high l, le-leb n (length s - (p + 3)) m)
+
+null_drop : (s : Bytes) (p : ℕ) → p ≤ length s → eqb p (length s) ≡ null (drop p s)
+unfolding null
+null_drop [] zero h = refl
+null_drop [] (suc p) h = absurd (omega arith)
+null_drop (b ∷ s) zero h = eqb-zero-suc (length s)
+null_drop (b ∷ s) (suc p) h = eqb-suc-suc p (length s) ∙ null_drop s p (omega arith)
+
+pub whole_end : (low high : ℕ) (s : Bytes) (p : ℕ) → p ≤ length s → length s - p < 3 → whole low high s ≡ whole low high (drop p s)
+    → eqb p (length s) ≡ whole low high s
+whole_end low high s p h k so_far =
+    null_drop s p h ∙ sym (so_far ∙ whole_short low high (drop p s) (omega (arith, length-drop p s)))
 
 -- ---- equal slices
 

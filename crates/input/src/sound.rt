@@ -4,7 +4,7 @@ ghost use Rattle.spec.specs.Bytes.{Bytes};
 ghost use Rattle.input.specs.Scans.{field_right};
 ghost use Rattle.input.specs.Sound.{ruled_field, sound_field, Ended, Sound};
 
-use crate::fields::is_same;
+use crate::fields::{is_same, length_at};
 use crate::questions::{MAX_LENGTH, MAX_NODES, MAX_OPEN, count_after};
 use crate::tag::{CLOSE, COMMENT, NAME, NO_TAG, OPEN, TEXT, VALUE};
 use crate::utf8::is_utf8_part;
@@ -68,8 +68,8 @@ fn count_at_end(left: usize, before: u8, depth: usize, count: usize) -> Option<u
     Some(count)
 }
 
-// The same as `sound_count`, for a sheet of at most 1,048,576 bytes. The fields are not taken from `Fields`, since a field is
-// tested with the bytes behind it, and behind a close the next field begins at once: its place needs no length.
+// The same as `sound_count`, for a sheet of at most 1,048,576 bytes. Behind a close the next field begins at once: its
+// place needs no length. Places are counted by hand: a loop over slices of the rest takes 11 instructions more for each field.
 fn count_of_short(s: &[u8]) -> Option<usize>
     requires { length s.now ≤ 1048576 }
     ensures { IfSome result (λ n. Sound s.now n) }
@@ -77,32 +77,37 @@ fn count_of_short(s: &[u8]) -> Option<usize>
     let mut before = NO_TAG;
     let mut depth = 0;
     let mut count = 0;
-    let mut rest = s;
-    while let [tag, high, low, behind @ ..] = rest {
-        let n = u16::from_be_bytes([*high, *low]) as usize;
-        if *tag == CLOSE {
+    let mut p = 0;
+    while 3 <= s.len() - p {
+        let n = length_at(s, p);
+        let tag = s[p];
+        let start = p + 3;
+        if tag == CLOSE {
             if !is_sound_close(before, depth, n) {
                 return None;
             }
             depth -= 1;
-            before = CLOSE;
-            rest = behind;
+            before = tag;
+            p = start;
             continue;
         }
-        if behind.len() < n || !is_sound(before, *tag, behind, n) {
+        if s.len() - start < n {
             return None;
         }
-        if *tag == OPEN {
+        if !is_sound(before, tag, &s[start..], n) {
+            return None;
+        }
+        if tag == OPEN {
             if MAX_OPEN <= depth {
                 return None;
             }
             depth += 1;
         }
-        count = count_after(count, *tag);
-        before = *tag;
-        rest = &behind[n..];
+        count = count_after(count, tag);
+        before = tag;
+        p = start + n;
     }
-    count_at_end(rest.len(), before, depth, count + 1)
+    count_at_end(s.len() - p, before, depth, count + 1)
 }
 
 // The nodes of a sheet that questions 1 to 6 let pass; `None` where one of them may say no.

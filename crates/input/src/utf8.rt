@@ -55,16 +55,13 @@ fn next_byte(due: Lead, b: u8) -> Option<Lead>
     })
 }
 
-// Whether all bytes are ASCII: without an early exit, so that many bytes can be tested at once. With `for` the test of a
-// block in `is_utf8_part` is 19 instructions and not 3.
+// Whether all bytes are ASCII: without an early exit, so that many bytes can be tested at once.
 fn is_ascii(s: &[u8]) -> bool
     ensures { result ≡ every is_ascii s.now }
 {
     let mut all = true;
-    let mut i = 0;
-    while i < s.len() {
-        all = all & (s[i] < 0x80);
-        i += 1;
+    for b in s {
+        all = all & (*b < 0x80);
     }
     all
 }

@@ -1,18 +1,10 @@
-use mathlib.Core.Path.{refl}
+use Rattle.std.proofs.Common.{arith}
 use Rattle.input.specs.Lead.{is_ascii}
 use Rattle.input.proofs.Sequences.{all_turn, all_end}
-use native.Mathlib.Omega.{arith}
 use Rattle.input.proofs.utf8.is_ascii.Goals as goal
 
-pub loop-i-init : goal.loop-i-init
-loop-i-init c = (omega arith, refl)
-
-pub loop-i-preserved : goal.loop-i-preserved
-loop-i-preserved c =
-    let l = c.loop-i in
-    (omega arith, all_turn is_ascii c.args.s.now l.all l.i l.invariant.1 (omega arith))
+pub loop-b-preserved : goal.loop-b-preserved
+loop-b-preserved c = let l = c.loop-b in all_turn is_ascii c.args.s.now l.all l.b-index l.invariant (omega arith)
 
 pub returns : goal.returns
-returns c =
-    let l = c.loop-i in
-    all_end is_ascii c.args.s.now l.all l.i l.invariant.1 (omega arith)
+returns c = let l = c.loop-b in all_end is_ascii c.args.s.now l.all l.b-index l.invariant (omega arith)
