@@ -6,7 +6,7 @@ use mathlib.Core.List.{List, [], ◌∷◌, ◌++◌, append_assoc, append-nil}
 use native.Mathlib.Omega.{arith}
 use native.Mathlib.Numerals.{add-one}
 use lib.ListN.{length, take, drop, get_or, length-drop, length-append, drop_of_length-le}
-use lib.Seq.{length-take-le, take-take, take-suc, take-add, take-length, drop-cons}
+use lib.Seq.{length-take-le, take-take, take-add, take-length, drop-cons}
 use lib.Dec.{eqb}
 use borrow.Author.Tests.{eq-eqb, ne_eqb, eqb-true, eqb-false}
 use Rattle.spec.specs.Bytes.{ascii, isin, same, null, ends_with, one, white, trim_end_matches, trim_ascii_end}
@@ -81,11 +81,6 @@ cell_long s e = go (ends_with (ascii "<br>") s) refl e
     go true q f = ends_long s (ascii "<br>") q
     go false q f = absurd (false≢true f)
 
-pub breaks_off : (s : List ℕ) (n left : ℕ) → left ≤ 0 → without_breaks left (take n s) ≡ take n s
-unfolding without_breaks
-breaks_off s n zero h = refl
-breaks_off s n (suc k) h = absurd (omega arith)
-
 pub breaks_end : (s : List ℕ) (n left : ℕ) → ends_with_cell_break (take n s) ≡ false → without_breaks left (take n s) ≡ take n s
 unfolding without_breaks
 breaks_end s n zero e = refl
@@ -104,10 +99,6 @@ breaks_on s n m (suc left) h k e t =
 
 -- ---- runs of backticks
 
--- none is read
-pub runs_start : (r : Runs) → RunsBehind r [] r
-runs_start r = record { goes = λ rest. refl; small = omega arith }
-
 runs_join : {a b c : Runs} {s t : List ℕ} → RunsBehind a s b → RunsBehind b t c → RunsBehind a (s ++ t) c
 runs_join {a} {b} {c} {s} {t} p q =
     record {
@@ -115,18 +106,10 @@ runs_join {a} {b} {c} {s} {t} p q =
       small = omega (arith, p.small, q.small, length-append s t);
     }
 
--- one byte more
-pub runs_on : {a b c : Runs} (s : List ℕ) (i : ℕ) → i < length s → RunsBehind a (take i s) b → RunsBehind b (get_or s i 0 ∷ []) c → RunsBehind a (take (i + 1) s) c
-runs_on {a} {b} {c} s i h p q = subst (λ (l : List ℕ). RunsBehind a l c) (sym (ap (λ (j : ℕ). take j s) (add-one i) ∙ take-suc s i 0 h)) (runs_join p q)
-
 -- the bytes up to `to` more
 pub runs_to : {a b c : Runs} (s : List ℕ) (i to : ℕ) → i ≤ to → RunsBehind a (take i s) b → RunsBehind b (take (to - i) (drop i s)) c → RunsBehind a (take to s) c
 runs_to {a} {b} {c} s i to h p q =
     let e : to ≡ i + (to - i) = omega arith in subst (λ (l : List ℕ). RunsBehind a l c) (sym (ap (λ (j : ℕ). take j s) e ∙ take-add i (to - i) s)) (runs_join p q)
-
-pub run_fits : {a b : Runs} (s : List ℕ) (i to : ℕ) → i ≤ to → to ≤ length s → RunsBehind a (take i s) b → b.run + length (take (to - i) (drop i s)) ≤ a.run + to
-run_fits s i to h k p =
-    omega (arith, p.small, length-take-le i s (omega arith), length-take-le (to - i) (drop i s) (omega (arith, length-drop i s)))
 
 -- a backtick
 pub runs_tick : (r : Runs) (b : ℕ) → b ≡ 96 → RunsBehind r (b ∷ []) (record { best = r.best; run = r.run + 1 })

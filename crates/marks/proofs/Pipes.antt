@@ -4,8 +4,8 @@ use mathlib.Core.Path.{◌≡◌, refl, sym, ap, subst, ◌∙◌}
 use mathlib.Core.Bool.{Bool, true, false, cond, not, ◌&&◌}
 use mathlib.Core.List.{List, [], ◌∷◌, ◌++◌, append_assoc}
 use native.Mathlib.Omega.{arith}
-use lib.ListN.{length, take, drop, set, get_or, length-append, length-set}
-use lib.Seq.{length-take-le, take-take, take_at, get_or-take, take-set-le, drop-set-lt, drop-cons, get_or-set_same}
+use lib.ListN.{length, take, drop, get_or, length-append}
+use lib.Seq.{length-take-le, take-take, take_at, get_or-take}
 use lib.Dec.{eqb}
 use Rattle.spec.specs.Bytes.{ascii, same, ends_with}
 use Rattle.spec.specs.Out.{replace}
@@ -106,9 +106,6 @@ module _ (d : List ℕ) {len : ℕ} (h : len ≤ length d) where
   above_is : (i : ℕ) → i ≤ len → i ≤ length (pipes_escaped false (take i d))
   above_is i k = omega (arith, pipes_long false (take i d), length-take-le i d (omega arith))
 
-  pub escaping_none : {end : ℕ} → end ≡ length (pipes_escaped false (take len d)) → Escaping d d len end len end
-  escaping_none e = record { long = refl; within = omega arith; place = e; above = omega (arith, above_is len (omega arith)); under = omega arith; kept = refl; joined = refl }
-
   module _ {text : List ℕ} {end i at : ℕ} (p : Escaping d text len end i at) where
     front : take i text ≡ take i d
     front = sym (take-take i at text p.above) ∙ ap (take i) p.kept ∙ take-take i at d p.above
@@ -166,48 +163,3 @@ module _ (d : List ℕ) {len : ℕ} (h : len ≤ length d) where
   pub escaping_full : {extra : ℕ} → len + extra ≡ length (pipes_escaped false (take len d)) → length d - len < extra → Refused (length d) (replace (pipes_escaped false) (take len d))
   unfolding replace
   escaping_full e k = record { over = omega arith }
-
--- ---- bytes put before others
-
-module _ {at : ℕ} (b : ℕ) (t : Bool) (h : length (escaped_byte t b) ≤ at) where
-  pub fits_one : 1 ≤ at
-  fits_one = omega (arith, length-append (cond t (ascii "\\") []) (b ∷ []))
-
-  pub fits_two : t ≡ true → 2 ≤ at
-  fits_two e = let q : length (escaped_byte t b) ≡ 2 = wide t b ∙ ap (λ (x : Bool). cond x 2 1) e in omega arith
-
-before_byte : (d : List ℕ) (at b : ℕ) → 1 ≤ at → at ≤ length d → PutBefore d (set d (at - 1) b) at (at - 1) (b ∷ [])
-before_byte d at b h k =
-    let q : suc (at - 1) ≡ at = omega arith in
-    let l : at - 1 < length d = omega arith in
-    record {
-      long = length-set d (at - 1) b;
-      begins = omega arith;
-      kept = take-set-le (at - 1) d (at - 1) b (omega arith);
-      behind =
-          drop-cons (set d (at - 1) b) (at - 1) 0 (omega (arith, length-set d (at - 1) b))
-          ∙ ap (λ (x : ℕ). x ∷ drop (suc (at - 1)) (set d (at - 1) b)) (get_or-set_same d (at - 1) b 0 l)
-          ∙ ap (λ (t : List ℕ). b ∷ t) (drop-set-lt (suc (at - 1)) d (at - 1) b (omega arith) ∙ ap (λ (n : ℕ). drop n d) q);
-    }
-
-before_both : (d : List ℕ) (at b : ℕ) → 2 ≤ at → at ≤ length d → PutBefore d (set (set d (at - 1) b) (at - 2) 92) at (at - 2) (92 ∷ b ∷ [])
-before_both d at b h k =
-    let n : at - 1 - 1 ≡ at - 2 = omega arith in
-    let p = before_byte d at b (omega arith) k in
-    let q : PutBefore (set d (at - 1) b) (set (set d (at - 1) b) (at - 2) 92) (at - 1) (at - 2) (92 ∷ []) =
-    subst (λ (x : ℕ). PutBefore (set d (at - 1) b) (set (set d (at - 1) b) x 92) (at - 1) x (92 ∷ [])) n (before_byte (set d (at - 1) b) (at - 1) 92 (omega arith) (omega (arith, length-set d (at - 1) b))) in
-    record {
-      long = q.long ∙ p.long;
-      begins = omega arith;
-      kept = q.kept ∙ take-set-le (at - 2) d (at - 1) b (omega arith);
-      behind = q.behind ∙ ap (λ (t : List ℕ). 92 ∷ t) p.behind;
-    }
-
-module _ (d : List ℕ) (at b : ℕ) (t : Bool) (h : length (escaped_byte t b) ≤ at) (k : at ≤ length d) where
-  pub before_plain : t ≡ false → PutBefore d (set d (at - 1) b) at (at - 1) (escaped_byte t b)
-  before_plain e =
-      subst (λ (x : Bool). PutBefore d (set d (at - 1) b) at (at - 1) (escaped_byte x b)) (sym e) (before_byte d at b (fits_one b t h) k)
-
-  pub before_escaped : t ≡ true → PutBefore d (set (set d (at - 1) b) (at - 2) 92) at (at - 2) (escaped_byte t b)
-  before_escaped e =
-      subst (λ (x : Bool). PutBefore d (set (set d (at - 1) b) (at - 2) 92) at (at - 2) (escaped_byte x b)) (sym e) (before_both d at b (fits_two b t h e) k)
