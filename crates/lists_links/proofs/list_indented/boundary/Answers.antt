@@ -1,11 +1,7 @@
-use mathlib.Core.Path.{sym, ◌∙◌, refl}
+use mathlib.Core.Path.{sym, ◌∙◌}
 use Rattle.lists_links.proofs.Boundary.{boundary_here, boundary_on, boundary_none}
 use native.Mathlib.Omega.{arith}
 use Rattle.lists_links.proofs.list_indented.boundary.Goals as goal
-
-pub loop-k-init : goal.loop-k-init
-loop-k-init c =
-    (omega arith, refl)
 
 pub returns-then-not-continues : goal.returns-then-not-continues
 returns-then-not-continues c =
