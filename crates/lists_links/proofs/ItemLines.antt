@@ -108,9 +108,6 @@ module _ (s : List ℕ) (room k j : ℕ) (h : room ≤ length s) (p : Skipped (t
   block_from = omega (arith, p.within, length-take-le (length s - room) (drop room s) (omega (arith, length-drop room s)))
 
   module _ (q : Trimmed (take (length s - (room + k)) (drop (room + k) s)) j (trim_end_matches (one (λ b. eqb b 10)) (take (length s - (room + k)) (drop (room + k) s)))) where
-    pub block_to : room + k + j ≤ length s
-    block_to = omega (arith, q.within, length-take-le (length s - (room + k)) (drop (room + k) s) (omega (arith, length-drop (room + k) s)), block_from)
-
     pub block_is : slice (room + k) (room + k + j) s ≡ block_text (drop room s)
     unfolding def.is_line_end
     block_is =

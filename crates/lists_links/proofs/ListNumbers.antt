@@ -15,7 +15,7 @@ use Rattle.spec.specs.Md.Elements.List.{clamped}
 use Rattle.lists_links.specs.Parsed.{parsed_of, signed, unsigned}
 use Rattle.text.specs.Trimmed.{Skipped}
 use Rattle.std.specs.Prelude.{Some, None}
-use Rattle.text.proofs.Writing.{yes, no}
+use Rattle.text.proofs.Writing.{yes}
 use Rattle.text.proofs.Reading.{null_none, null_some, rest_part}
 
 -- what is skipped, and what is left
@@ -69,10 +69,6 @@ has_sign (x ∷ v) e = record { within = omega arith; is = sym (yes v (x ∷ v) 
 
 pub sign_some : (v : List ℕ) {a b : Bool} → a ≡ starts_with (45 ∷ []) v → b ≡ starts_with (43 ∷ []) v → a || b ≡ true → Skipped v 1 (unsigned v)
 sign_some v {a} {b} p q e = has_sign v (subst₂ (λ (x y : Bool). x || y ≡ true) p q e)
-
-pub sign_none : (v : List ℕ) {a b : Bool} → a ≡ starts_with (45 ∷ []) v → b ≡ starts_with (43 ∷ []) v → a || b ≡ false → Skipped v 0 (unsigned v)
-sign_none v {a} {b} p q e =
-    record { within = omega arith; is = sym (no (drop 1 v) v (subst₂ (λ (x y : Bool). x || y ≡ false) p q e)) }
 
 module _ (v : List ℕ) (sign n : ℕ) (p : Skipped v sign (unsigned v)) (q : Skipped (take (length v - sign) (drop sign v)) n (trim_start_matches digit (take (length v - sign) (drop sign v)))) where
   lent_is : take (length v - sign) (drop sign v) ≡ unsigned v

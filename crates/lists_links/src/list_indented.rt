@@ -30,10 +30,7 @@ pub fn boundary(t: &[u8], n: usize) -> usize
     ensures { (result ≡ def.boundary n t.now) × (result ≤ n) }
 {
     let mut k = n;
-    while 0 < k {
-        if !continues(t, k) {
-            return k;
-        }
+    while 0 < k && continues(t, k) {
         k -= 1;
     }
     k

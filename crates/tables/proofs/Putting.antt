@@ -55,9 +55,6 @@ part_length d src n h = length-take-le n (drop src d) (omega (arith, length-drop
 pub puts_behind : {a b : List ℕ} {len m : ℕ} {x : List ℕ} (src : ℕ) → Puts a b len m x → m ≤ src → drop src b ≡ drop src a
 puts_behind {a} {b} {len} {m} src p h = drop_later a b m src h p.behind
 
-pub puts_reach : {a b : List ℕ} {len m : ℕ} {x : List ℕ} → Puts a b len m x → len ≤ length a → m ≤ length b
-puts_reach {a} {b} {len} {m} {x} p h = omega (arith, p.count, ap length p.text_is, length-append (take len a) x, length-take-le len a h, length-take m b)
-
 -- the bytes from `len` on are replaced by s, as a write to `text[len..len + k]` leaves them
 pub puts_mid : (d s : List ℕ) (len k : ℕ) → k ≡ length s → len + k ≤ length d → Puts d (put_mid len (len + k - len) d s) len (len + k) s
 puts_mid d s len k q h =

@@ -1,37 +1,16 @@
-use Prim.Native.Nat.{ℕ, ◌+◌, ◌/◌, ◌%◌, ◌<◌}
-use mathlib.Core.Path.{subst, refl}
+use Prim.Native.Nat.{◌+◌, ◌/◌, ◌%◌}
+use mathlib.Core.Path.{refl}
 use mathlib.Core.List.{[], ◌∷◌}
 use lib.ListN.{take}
 use Rattle.spec.specs.Bytes.{decimal}
 use Rattle.spec.specs.Out.{push}
 use Rattle.text.proofs.Writing.{alike, owes_all, owes_step, owes_stop, stops, owes_last}
 use Rattle.lists_links.proofs.Prefixes.{last_only, last_behind}
-use native.Mathlib.Omega.{arith}
 use Rattle.lists_links.proofs.ctx.+push_decimal.Goals as goal
-
-pub overflow_cast-last : goal.overflow_cast-last
-overflow_cast-last t c =
-    omega arith
-
-pub overflow_add-last : goal.overflow_add-last
-overflow_add-last t c =
-    omega arith
-
-pub push_byte-requires : goal.push_byte-requires
-push_byte-requires t c =
-    c.requires
 
 pub returns-then-n-lt10 : goal.returns-then-n-lt10
 returns-then-n-lt10 t c =
     alike (last_only c.args.n (take c.args.len c.args.text.now) c.if-n-lt10.true) c.push_byte.ensures
-
-pub push_decimal-requires : goal.push_decimal-requires
-push_decimal-requires t c =
-    (subst (λ (j : ℕ). c.args.n / 10 < j) c.decreases (omega (arith, c.if-n-lt10.false)), c.requires)
-
-pub push_byte-requires-2 : goal.push_byte-requires-2
-push_byte-requires-2 t c =
-    (owes_step (owes_all c.args.text.now c.args.len (push (decimal c.args.n)) c.requires refl) (push (decimal (c.args.n / 10))) (push ((48 + c.args.n % 10) ∷ [])) (last_behind c.args.n (take c.args.len c.args.text.now) c.if-n-lt10.false) c.in_ok-m.was c.push_decimal.ensures).reach
 
 pub returns : goal.returns
 returns t c =

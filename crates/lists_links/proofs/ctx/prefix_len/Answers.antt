@@ -11,10 +11,6 @@ bullet-length : (b : Bool) → length (cond b (ascii "+ ") (ascii "- ")) ≡ 2
 bullet-length true = refl
 bullet-length false = refl
 
-pub overflow_add-result : goal.overflow_add-result
-overflow_add-result c =
-    omega (arith, c.digits.ensures.1)
-
 pub returns-in-Ul : goal.returns-in-Ul
 unfolding prefix prefix_of
 returns-in-Ul c =

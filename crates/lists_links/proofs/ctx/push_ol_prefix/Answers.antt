@@ -6,10 +6,6 @@ use Rattle.spec.specs.Out.{push}
 use Rattle.text.proofs.Writing.{owes_all, owes_step, owes_stop, owes_last, push_both, stops}
 use Rattle.lists_links.proofs.ctx.push_ol_prefix.Goals as goal
 
-pub push_all-requires : goal.push_all-requires
-push_all-requires c =
-    (owes_step (owes_all c.args.text.now c.args.len (push (decimal c.args.n ++ ascii ". ")) c.requires refl) (push (decimal c.args.n)) (push (ascii ". ")) (push_both (decimal c.args.n) (ascii ". ") (take c.args.len c.args.text.now)) c.in_ok-m.was c.push_decimal.ensures).reach
-
 pub returns : goal.returns
 returns c =
     owes_last (owes_step (owes_all c.args.text.now c.args.len (push (decimal c.args.n ++ ascii ". ")) c.requires refl) (push (decimal c.args.n)) (push (ascii ". ")) (push_both (decimal c.args.n) (ascii ". ") (take c.args.len c.args.text.now)) c.in_ok-m.was c.push_decimal.ensures) c.push_all.ensures

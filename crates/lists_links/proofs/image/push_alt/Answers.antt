@@ -9,14 +9,6 @@ use Rattle.lists_links.proofs.Values.{some_step, no_step}
 use Rattle.text.proofs.Writing.{alike, keeps}
 use Rattle.lists_links.proofs.image.push_alt.Goals as goal
 
-pub attribute-requires : goal.attribute-requires
-attribute-requires c =
-    c.requires.1
-
-pub push_normalized_text-requires : goal.push_normalized_text-requires
-push_normalized_text-requires c =
-    c.requires.0
-
 pub returns-in-Some : goal.returns-in-Some
 returns-in-Some c =
     alike (some_step (λ (alt : List ℕ). push_normalized_text alt new) (take c.args.len c.args.text.now) c.in-Some.ensures ∙ ap (λ (o : FormatOpts). push_normalized_text c.in-Some.alt.now o (take c.args.len c.args.text.now)) (sym c.new-opts.ensures)) c.push_normalized_text.ensures

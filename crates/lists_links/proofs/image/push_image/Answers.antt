@@ -13,20 +13,6 @@ use Rattle.tree.specs.Represents.{attrs_behind}
 use Rattle.text.proofs.Writing.{alike, owes_all, owes_step, owes_stop, owes_last, then_assoc, stops}
 use Rattle.lists_links.proofs.image.push_image.Goals as goal
 
-pub push_all-requires : goal.push_all-requires
-push_all-requires c =
-    c.requires.0
-
-pub push_alt-requires : goal.push_alt-requires
-unfolding image_of
-push_alt-requires c =
-    ((owes_step (owes_all c.args.text.now c.args.len (image_of (attrs_behind c.args.sheet.now c.args.place) c.args.source.now) c.requires.0 refl) (push (ascii "![")) (λ (t : List ℕ). and_then ((if_some (attr (ascii "alt") (attrs_behind c.args.sheet.now c.args.place)) (λ (alt : List ℕ). push_normalized_text alt new)) t) (λ (t : List ℕ). and_then (push (ascii "](") t) (λ (u : List ℕ). and_then (push_md_url c.args.source.now u) (λ (t : List ℕ). and_then (if_some (attr (ascii "title") (attrs_behind c.args.sheet.now c.args.place)) push_title t) (push (ascii ")")))))) refl c.in_ok-n.was c.push_all.ensures).reach, c.requires.1)
-
-pub push_link_end-requires : goal.push_link_end-requires
-unfolding image_of
-push_link_end-requires c =
-    ((owes_step (owes_step (owes_all c.args.text.now c.args.len (image_of (attrs_behind c.args.sheet.now c.args.place) c.args.source.now) c.requires.0 refl) (push (ascii "![")) (λ (t : List ℕ). and_then ((if_some (attr (ascii "alt") (attrs_behind c.args.sheet.now c.args.place)) (λ (alt : List ℕ). push_normalized_text alt new)) t) (λ (t : List ℕ). and_then (push (ascii "](") t) (λ (u : List ℕ). and_then (push_md_url c.args.source.now u) (λ (t : List ℕ). and_then (if_some (attr (ascii "title") (attrs_behind c.args.sheet.now c.args.place)) push_title t) (push (ascii ")")))))) refl c.in_ok-n.was c.push_all.ensures) (if_some (attr (ascii "alt") (attrs_behind c.args.sheet.now c.args.place)) (λ (alt : List ℕ). push_normalized_text alt new)) (λ (t : List ℕ). and_then (push (ascii "](") t) (λ (u : List ℕ). and_then (push_md_url c.args.source.now u) (λ (t : List ℕ). and_then (if_some (attr (ascii "title") (attrs_behind c.args.sheet.now c.args.place)) push_title t) (push (ascii ")"))))) refl c.in_ok-m.was c.push_alt.ensures).reach, c.requires.1, c.requires.2)
-
 pub returns : goal.returns
 unfolding image_of link_end
 returns c =

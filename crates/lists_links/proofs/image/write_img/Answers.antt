@@ -1,19 +1,9 @@
-use Rattle.tree.proofs.Values.{part_short}
-use Rattle.std.proofs.Common.{arith}
 use lib.ListN.{take}
 use Rattle.spec.specs.Md.Elements.Image.{write_img, image_of}
 use Rattle.tree.specs.Represents.{attrs_behind}
 use Rattle.lists_links.proofs.Values.{some_step, no_step}
 use Rattle.text.proofs.Writing.{alike, keeps}
 use Rattle.lists_links.proofs.image.write_img.Goals as goal
-
-pub source-requires : goal.source-requires
-source-requires c =
-    c.requires.1
-
-pub push_image-requires : goal.push_image-requires
-push_image-requires c =
-    (c.requires.0, c.requires.1, omega (arith, part_short c.args.sheet.now c.in-Some.source.now c.in-Some.ensures.inside, c.requires.2))
 
 pub returns-in-Some : goal.returns-in-Some
 unfolding write_img

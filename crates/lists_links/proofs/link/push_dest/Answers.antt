@@ -7,14 +7,6 @@ use Rattle.spec.specs.Md.TextUtils.{push_md_url}
 use Rattle.text.proofs.Writing.{owes_all, owes_step, owes_stop, owes_last, stops}
 use Rattle.lists_links.proofs.link.push_dest.Goals as goal
 
-pub push_all-requires : goal.push_all-requires
-push_all-requires c =
-    c.requires.0
-
-pub push_md_url-requires : goal.push_md_url-requires
-push_md_url-requires c =
-    ((owes_step (owes_all c.args.text.now c.args.len (λ (t : List ℕ). and_then (push (ascii "](") t) (push_md_url c.args.dest.now)) c.requires.0 refl) (push (ascii "](")) (push_md_url c.args.dest.now) refl c.in_ok-n.was c.push_all.ensures).reach, c.requires.1)
-
 pub returns : goal.returns
 returns c =
     owes_last (owes_step (owes_all c.args.text.now c.args.len (λ (t : List ℕ). and_then (push (ascii "](") t) (push_md_url c.args.dest.now)) c.requires.0 refl) (push (ascii "](")) (push_md_url c.args.dest.now) refl c.in_ok-n.was c.push_all.ensures) c.push_md_url.ensures

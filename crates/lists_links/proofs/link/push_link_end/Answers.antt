@@ -11,20 +11,6 @@ use Rattle.tree.specs.Represents.{attrs_behind}
 use Rattle.text.proofs.Writing.{owes_all, owes_step, owes_stop, owes_last, stops}
 use Rattle.lists_links.proofs.link.push_link_end.Goals as goal
 
-pub push_dest-requires : goal.push_dest-requires
-push_dest-requires c =
-    (c.requires.0, c.requires.2)
-
-pub push_title_of-requires : goal.push_title_of-requires
-unfolding link_end
-push_title_of-requires c =
-    ((owes_step (owes_all c.args.text.now c.args.len (link_end (attrs_behind c.args.sheet.now c.args.place) c.args.dest.now) c.requires.0 refl) (λ (t : List ℕ). and_then (push (ascii "](") t) (push_md_url c.args.dest.now)) (λ (t : List ℕ). and_then ((if_some (attr (ascii "title") (attrs_behind c.args.sheet.now c.args.place)) push_title) t) (push (ascii ")"))) refl c.in_ok-n.was c.push_dest.ensures).reach, c.requires.1)
-
-pub push_byte-requires : goal.push_byte-requires
-unfolding link_end
-push_byte-requires c =
-    (owes_step (owes_step (owes_all c.args.text.now c.args.len (link_end (attrs_behind c.args.sheet.now c.args.place) c.args.dest.now) c.requires.0 refl) (λ (t : List ℕ). and_then (push (ascii "](") t) (push_md_url c.args.dest.now)) (λ (t : List ℕ). and_then ((if_some (attr (ascii "title") (attrs_behind c.args.sheet.now c.args.place)) push_title) t) (push (ascii ")"))) refl c.in_ok-n.was c.push_dest.ensures) (if_some (attr (ascii "title") (attrs_behind c.args.sheet.now c.args.place)) push_title) (push (ascii ")")) refl c.in_ok-m.was c.push_title_of.ensures).reach
-
 pub returns : goal.returns
 unfolding link_end
 returns c =

@@ -4,14 +4,6 @@ use Rattle.lists_links.proofs.Values.{some_step, no_step}
 use Rattle.text.proofs.Writing.{alike, keeps}
 use Rattle.lists_links.proofs.link.push_title_of.Goals as goal
 
-pub attribute-requires : goal.attribute-requires
-attribute-requires c =
-    c.requires.1
-
-pub push_title-requires : goal.push_title-requires
-push_title-requires c =
-    c.requires.0
-
 pub returns-in-Some : goal.returns-in-Some
 returns-in-Some c =
     alike (some_step push_title (take c.args.len c.args.text.now) c.in-Some.ensures) c.push_title.ensures

@@ -8,16 +8,6 @@ use Rattle.lists_links.specs.Items.{trimmed_start}
 use Rattle.text.proofs.Writing.{owes_all, owes_on, owes_step, owes_stop, owes_last, push_both, stops}
 use Rattle.lists_links.proofs.list.begin_item.Goals as goal
 
-pub push_repeated-requires : goal.push_repeated-requires
-unfolding begin_item
-push_repeated-requires c =
-    (owes_on (owes_all c.args.text.now c.args.len (begin_item c.args.blocks c.args.ctx) c.requires refl) (cut (trimmed_start c.args.blocks)) (push (replicate c.args.ctx.list_indent 32 ++ prefix c.args.ctx)) refl c.trim_before_item-n.ensures).reach
-
-pub push_prefix-requires : goal.push_prefix-requires
-unfolding begin_item
-push_prefix-requires c =
-    (owes_step (owes_on (owes_all c.args.text.now c.args.len (begin_item c.args.blocks c.args.ctx) c.requires refl) (cut (trimmed_start c.args.blocks)) (push (replicate c.args.ctx.list_indent 32 ++ prefix c.args.ctx)) refl c.trim_before_item-n.ensures) (push (replicate c.args.ctx.list_indent 32)) (push (prefix c.args.ctx)) (push_both (replicate c.args.ctx.list_indent 32) (prefix c.args.ctx) _) c.in_ok-m.was c.push_repeated.ensures).reach
-
 pub returns : goal.returns
 unfolding begin_item
 returns c =

@@ -1,19 +1,10 @@
 use mathlib.Core.Path.{sym, ◌∙◌}
 use lib.ListN.{take}
-use lib.Seq.{length-take-le}
 use Rattle.spec.specs.Out.{keep, push}
 use Rattle.spec.specs.Md.Ctx.{break_of}
-use Rattle.text.proofs.Writing.{yes, no, alike, keeps}
+use Rattle.text.proofs.Writing.{yes, alike, keeps}
 use Rattle.lists_links.proofs.list.end_item.Goals as goal
-
-pub slice_bounds-ends_with_byte-end-2 : goal.slice_bounds-ends_with_byte-end-2
-slice_bounds-ends_with_byte-end-2 c =
-    sym (length-take-le c.args.len c.args.text.now c.requires)
 
 pub returns-then-ends_with_byte : goal.returns-then-ends_with_byte
 returns-then-ends_with_byte c =
     alike (yes (keep (take c.args.len c.args.text.now)) (push (break_of c.args.item.ctx) (take c.args.len c.args.text.now)) (sym c.ends_with_byte.ensures ∙ c.if-ends_with_byte.true)) (record { says = keeps c.args.text.now c.args.len c.requires })
-
-pub returns : goal.returns
-returns c =
-    alike (no (keep (take c.args.len c.args.text.now)) (push (break_of c.args.item.ctx) (take c.args.len c.args.text.now)) (sym c.ends_with_byte.ensures ∙ c.if-ends_with_byte.false)) c.push_linebreak.ensures

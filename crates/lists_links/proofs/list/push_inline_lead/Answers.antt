@@ -13,18 +13,6 @@ pub returns-then-is_blank_text-len : goal.returns-then-is_blank_text-len
 returns-then-is_blank_text-len c =
     alike (ap (λ (x : List ℕ). push x (take c.args.len c.args.text.now)) (inline_none c.args.item (take c.args.len c.args.text.now) (length-take-le c.args.len c.args.text.now c.requires) c.args.is_blank_text c.if-is_blank_text-len.true)) (record { says = keeps_nothing c.args.text.now c.args.len c.requires })
 
-pub slice_bounds-ends_with_byte-end : goal.slice_bounds-ends_with_byte-end
-slice_bounds-ends_with_byte-end c =
-    c.requires
-
-pub slice_bounds-ends_with_byte-end-2 : goal.slice_bounds-ends_with_byte-end-2
-slice_bounds-ends_with_byte-end-2 c =
-    sym (length-take-le c.args.len c.args.text.now c.requires)
-
 pub returns-then-not-ends_with_byte : goal.returns-then-not-ends_with_byte
 returns-then-not-ends_with_byte c =
     alike (ap (λ (x : List ℕ). push x (take c.args.len c.args.text.now)) (inline_more c.args.item (take c.args.len c.args.text.now) (length-take-le c.args.len c.args.text.now c.requires) c.args.is_blank_text c.if-is_blank_text-len.false ∙ ap (λ (b : Bool). cond b (replicate c.args.item.indent 32) []) (sym c.ends_with_byte.ensures ∙ c.if-not-ends_with_byte.true))) (record { says = keeps_nothing c.args.text.now c.args.len c.requires })
-
-pub returns : goal.returns
-returns c =
-    alike (ap (λ (x : List ℕ). push x (take c.args.len c.args.text.now)) (inline_more c.args.item (take c.args.len c.args.text.now) (length-take-le c.args.len c.args.text.now c.requires) c.args.is_blank_text c.if-is_blank_text-len.false ∙ ap (λ (b : Bool). cond b (replicate c.args.item.indent 32) []) (sym c.ends_with_byte.ensures ∙ c.if-not-ends_with_byte.false))) c.push_repeated.ensures

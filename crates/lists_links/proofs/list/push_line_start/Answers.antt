@@ -6,10 +6,6 @@ use Rattle.spec.specs.Md.Ctx.{break_of}
 use Rattle.text.proofs.Writing.{owes_all, owes_step, owes_stop, owes_last, push_both, stops}
 use Rattle.lists_links.proofs.list.push_line_start.Goals as goal
 
-pub push_repeated-requires : goal.push_repeated-requires
-push_repeated-requires c =
-    (owes_step (owes_all c.args.text.now c.args.len (push ((break_of c.args.item.ctx) ++ (replicate c.args.item.indent 32))) c.requires refl) (push (break_of c.args.item.ctx)) (push (replicate c.args.item.indent 32)) (push_both (break_of c.args.item.ctx) (replicate c.args.item.indent 32) (take c.args.len c.args.text.now)) c.in_ok-n.was c.push_linebreak.ensures).reach
-
 pub returns : goal.returns
 returns c =
     owes_last (owes_step (owes_all c.args.text.now c.args.len (push ((break_of c.args.item.ctx) ++ (replicate c.args.item.indent 32))) c.requires refl) (push (break_of c.args.item.ctx)) (push (replicate c.args.item.indent 32)) (push_both (break_of c.args.item.ctx) (replicate c.args.item.indent 32) (take c.args.len c.args.text.now)) c.in_ok-n.was c.push_linebreak.ensures) c.push_repeated.ensures

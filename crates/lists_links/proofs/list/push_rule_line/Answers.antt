@@ -7,14 +7,6 @@ use Rattle.spec.specs.Md.Ctx.{break_of}
 use Rattle.text.proofs.Writing.{owes_all, owes_step, owes_stop, owes_last, push_both, stops}
 use Rattle.lists_links.proofs.list.push_rule_line.Goals as goal
 
-pub push_all-requires : goal.push_all-requires
-push_all-requires c =
-    (owes_step (owes_all c.args.text.now c.args.len (push (((break_of c.args.item.ctx) ++ (replicate c.args.item.indent 32)) ++ (ascii "---" ++ (break_of c.args.item.ctx)))) c.requires refl) (push ((break_of c.args.item.ctx) ++ (replicate c.args.item.indent 32))) (push (ascii "---" ++ (break_of c.args.item.ctx))) (push_both ((break_of c.args.item.ctx) ++ (replicate c.args.item.indent 32)) (ascii "---" ++ (break_of c.args.item.ctx)) (take c.args.len c.args.text.now)) c.in_ok-n.was c.push_line_start.ensures).reach
-
-pub push_linebreak-requires : goal.push_linebreak-requires
-push_linebreak-requires c =
-    (owes_step (owes_step (owes_all c.args.text.now c.args.len (push (((break_of c.args.item.ctx) ++ (replicate c.args.item.indent 32)) ++ (ascii "---" ++ (break_of c.args.item.ctx)))) c.requires refl) (push ((break_of c.args.item.ctx) ++ (replicate c.args.item.indent 32))) (push (ascii "---" ++ (break_of c.args.item.ctx))) (push_both ((break_of c.args.item.ctx) ++ (replicate c.args.item.indent 32)) (ascii "---" ++ (break_of c.args.item.ctx)) (take c.args.len c.args.text.now)) c.in_ok-n.was c.push_line_start.ensures) (push (ascii "---")) (push (break_of c.args.item.ctx)) (push_both (ascii "---") (break_of c.args.item.ctx) _) c.in_ok-m.was c.push_all.ensures).reach
-
 pub returns : goal.returns
 returns c =
     owes_last (owes_step (owes_step (owes_all c.args.text.now c.args.len (push (((break_of c.args.item.ctx) ++ (replicate c.args.item.indent 32)) ++ (ascii "---" ++ (break_of c.args.item.ctx)))) c.requires refl) (push ((break_of c.args.item.ctx) ++ (replicate c.args.item.indent 32))) (push (ascii "---" ++ (break_of c.args.item.ctx))) (push_both ((break_of c.args.item.ctx) ++ (replicate c.args.item.indent 32)) (ascii "---" ++ (break_of c.args.item.ctx)) (take c.args.len c.args.text.now)) c.in_ok-n.was c.push_line_start.ensures) (push (ascii "---")) (push (break_of c.args.item.ctx)) (push_both (ascii "---") (break_of c.args.item.ctx) _) c.in_ok-m.was c.push_all.ensures) c.push_linebreak.ensures

@@ -2,43 +2,17 @@ use Prim.Native.Nat.{◌-◌}
 use mathlib.Core.Path.{sym, subst}
 use mathlib.Core.Bool.{Bool, true, false}
 use lib.ListN.{length, take}
-use lib.Seq.{length-take-le}
 use Rattle.spec.specs.Bytes.{white, trim_start_matches, trim_ascii_start}
 use Rattle.spec.specs.Out.{cut}
 use Rattle.lists_links.specs.Items.{trimmed_start}
 use Rattle.text.specs.Writes.{Written}
 use Rattle.text.proofs.Spaces.{cut_done, cut_both, skipped_in}
-use native.Mathlib.Omega.{arith}
 use Rattle.lists_links.proofs.list.trim_before_item.Goals as goal
-
-pub slice_bounds-trim_trailing_space-end-2 : goal.slice_bounds-trim_trailing_space-end-2
-slice_bounds-trim_trailing_space-end-2 c =
-    sym (length-take-le c.args.len c.args.text.now c.requires)
 
 pub returns-then-not-blocks : goal.returns-then-not-blocks
 returns-then-not-blocks c =
     subst (λ (b : Bool). Written (length c.args.text.now) c.args.text.now c.trim_trailing_space-n.result (cut (trimmed_start b) (take c.args.len c.args.text.now))) (sym (c.if-not-blocks.true))
     (cut_done (trimmed_start false) c.args.text.now c.args.len c.trim_trailing_space-n.result c.requires c.trim_trailing_space-n.ensures)
-
-pub slice_bounds-trim_start_matches-end : goal.slice_bounds-trim_start_matches-end
-slice_bounds-trim_start_matches-end c =
-    omega (arith, c.trim_trailing_space-n.ensures.within, (length-take-le c.args.len c.args.text.now c.requires), c.requires)
-
-pub slice_bounds-trim_start_matches-end-2 : goal.slice_bounds-trim_start_matches-end-2
-slice_bounds-trim_start_matches-end-2 c =
-    sym (length-take-le c.trim_trailing_space-n.result c.args.text.now (omega (arith, c.trim_trailing_space-n.ensures.within, (length-take-le c.args.len c.args.text.now c.requires), c.requires)))
-
-pub overflow_sub-n : goal.overflow_sub-n
-overflow_sub-n c =
-    omega (arith, c.trim_trailing_space-n.ensures.within, c.trim_start_matches-k.ensures.within, (length-take-le c.args.len c.args.text.now c.requires), (length-take-le c.trim_trailing_space-n.result c.args.text.now (omega (arith, c.trim_trailing_space-n.ensures.within, (length-take-le c.args.len c.args.text.now c.requires), c.requires))), c.requires)
-
-pub drop_front-requires : goal.drop_front-requires
-drop_front-requires c =
-    omega (arith, c.trim_trailing_space-n.ensures.within, c.trim_start_matches-k.ensures.within, (length-take-le c.args.len c.args.text.now c.requires), (length-take-le c.trim_trailing_space-n.result c.args.text.now (omega (arith, c.trim_trailing_space-n.ensures.within, (length-take-le c.args.len c.args.text.now c.requires), c.requires))), c.requires)
-
-pub overflow_sub-result : goal.overflow_sub-result
-overflow_sub-result c =
-    omega (arith, c.trim_trailing_space-n.ensures.within, c.trim_start_matches-k.ensures.within, (length-take-le c.args.len c.args.text.now c.requires), (length-take-le c.trim_trailing_space-n.result c.args.text.now (omega (arith, c.trim_trailing_space-n.ensures.within, (length-take-le c.args.len c.args.text.now c.requires), c.requires))), c.requires)
 
 pub returns : goal.returns
 unfolding trim_ascii_start

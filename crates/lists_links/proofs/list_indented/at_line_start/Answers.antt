@@ -2,12 +2,10 @@ use mathlib.Core.Path.{sym, ap, ◌∙◌}
 use mathlib.Core.Bool.{Bool, ◌&&◌}
 use Prim.Native.Nat.{◌-◌}
 use lib.ListN.{length, take}
-use lib.Seq.{length-take-le}
 use borrow.Author.Tests.{ne_eqb}
 use Rattle.spec.specs.Bytes.{ends_with}
 use mathlib.Core.List.{[], ◌∷◌}
 use Rattle.lists_links.proofs.ItemLines.{line_there, line_short, line_rest}
-use native.Mathlib.Omega.{arith}
 use Rattle.lists_links.proofs.list_indented.at_line_start.Goals as goal
 
 pub returns-then-t-item : goal.returns-then-t-item
@@ -18,29 +16,9 @@ pub returns-then-t-indent : goal.returns-then-t-indent
 returns-then-t-indent c =
     sym (line_short c.args.t.now c.args.item (ne_eqb (length c.args.t.now) c.args.item.start c.if-t-item.false) c.if-t-indent.true)
 
-pub overflow_sub-n : goal.overflow_sub-n
-overflow_sub-n c =
-    omega (arith, c.if-t-indent.false)
-
-pub slice_bounds-all_in-count : goal.slice_bounds-all_in-count
-slice_bounds-all_in-count c =
-    omega (arith, c.if-t-indent.false)
-
-pub slice_bounds-all_in-start : goal.slice_bounds-all_in-start
-slice_bounds-all_in-start c =
-    omega (arith, c.if-t-indent.false)
-
-pub slice_bounds-all_in-end : goal.slice_bounds-all_in-end
-slice_bounds-all_in-end c =
-    omega (arith, c.if-t-indent.false)
-
 pub returns-then-not-all_in : goal.returns-then-not-all_in
 returns-then-not-all_in c =
     sym (line_rest c.args.t.now c.args.item (ne_eqb (length c.args.t.now) c.args.item.start c.if-t-item.false) c.if-t-indent.false c.all_in.result c.all_in.ensures ∙ ap (λ (b : Bool). b && ends_with (10 ∷ []) (take (length c.args.t.now - c.args.item.indent) c.args.t.now)) (c.if-not-all_in.true))
-
-pub slice_bounds-ends_with_byte-end : goal.slice_bounds-ends_with_byte-end
-slice_bounds-ends_with_byte-end c =
-    sym (length-take-le (length c.args.t.now - c.args.item.indent) c.args.t.now (omega arith))
 
 pub returns : goal.returns
 returns c =

@@ -2,35 +2,18 @@ use Prim.Native.Nat.{max}
 use mathlib.Core.Path.{sym, ◌∙◌}
 use mathlib.Core.List.{◌++◌}
 use lib.ListN.{length, take, replicate}
-use lib.Seq.{length-take-le}
 use Rattle.spec.specs.Bytes.{trim_end}
 use Rattle.spec.specs.Out.{keep, cut, push, and_then}
 use Rattle.spec.specs.Md.Ctx.{break_of}
 use Rattle.spec.specs.Md.Elements.List as def
-use Rattle.text.proofs.Writing.{yes, no, alike, keeps, then, reaches}
+use Rattle.text.proofs.Writing.{yes, no, alike, keeps, then}
 use Rattle.text.proofs.Spaces.{cut_done}
 use Rattle.lists_links.proofs.list_indented.own_line.Goals as goal
-
-pub slice_bounds-at_line_start-end-2 : goal.slice_bounds-at_line_start-end-2
-slice_bounds-at_line_start-end-2 c =
-    sym (length-take-le c.args.len c.args.text.now c.requires)
 
 pub returns-then-at_line_start : goal.returns-then-at_line_start
 unfolding def.own_line
 returns-then-at_line_start c =
     alike (yes (keep (take c.args.len c.args.text.now)) (and_then (cut (λ u. def.truncate (max (length (trim_end u)) c.args.item.start) u) (take c.args.len c.args.text.now)) (push (break_of c.args.item.ctx ++ replicate c.args.item.indent 32))) (sym c.at_line_start.ensures ∙ c.if-at_line_start.true)) (record { says = keeps c.args.text.now c.args.len c.requires })
-
-pub slice_bounds-trim_item_end-end : goal.slice_bounds-trim_item_end-end
-slice_bounds-trim_item_end-end c =
-    c.requires
-
-pub slice_bounds-trim_item_end-end-2 : goal.slice_bounds-trim_item_end-end-2
-slice_bounds-trim_item_end-end-2 c =
-    sym (length-take-le c.args.len c.args.text.now c.requires)
-
-pub push_line_start-requires : goal.push_line_start-requires
-push_line_start-requires c =
-    reaches (cut_done (λ u. def.truncate (max (length (trim_end u)) c.args.item.start) u) c.args.text.now c.args.len c.trim_item_end-n.result c.requires c.trim_item_end-n.ensures)
 
 pub returns : goal.returns
 unfolding def.own_line

@@ -3,41 +3,15 @@ use mathlib.Core.Path.{refl, sym, ap}
 use mathlib.Core.List.{List, ◌++◌}
 use Prim.Native.Nat.{ℕ, ◌-◌}
 use lib.ListN.{length, take, drop}
-use lib.Seq.{length-take-le}
 use Rattle.spec.specs.Bytes.{split}
 use Rattle.spec.specs.Out.{push}
 use Rattle.spec.specs.Md.Elements.List as def
 use Rattle.lists_links.specs.Items.{item_of, block_text, own_block, indented_block}
 use Rattle.lists_links.proofs.ItemLines.{beside_behind}
 use Rattle.text.proofs.Lifting.{lifted_writes}
-use Rattle.text.proofs.Sourcing.{owed_all, owed_step, owed_stop, owed_last, owed_reach, alike_in, lent_front}
+use Rattle.text.proofs.Sourcing.{owed_all, owed_step, owed_stop, owed_last, alike_in, lent_front}
 use native.Mathlib.Omega.{arith}
 use Rattle.lists_links.proofs.list_indented.push_indented.Goals as goal
-
-pub overflow_sub-base : goal.overflow_sub-base
-overflow_sub-base c =
-    omega (arith, c.requires)
-
-pub lift-requires : goal.lift-requires
-lift-requires c =
-    (omega (arith, c.requires), omega (arith, c.requires))
-
-pub slice_bounds-own_line-end : goal.slice_bounds-own_line-end
-slice_bounds-own_line-end c =
-    (omega (arith, c.lift.ensures.long, c.requires))
-
-pub slice_bounds-own_line-end-2 : goal.slice_bounds-own_line-end-2
-slice_bounds-own_line-end-2 c =
-    sym (length-take-le (length c.args.text.now - c.args.n) c.lift.new.text (omega (arith, c.lift.ensures.long, c.requires)))
-
-pub own_line-requires : goal.own_line-requires
-own_line-requires c =
-    omega (arith, length-take-le (length c.args.text.now - c.args.n) c.lift.new.text (omega (arith, c.lift.ensures.long, c.requires)), c.requires)
-
-pub push_block-requires : goal.push_block-requires
-push_block-requires c =
-    let o = owed_step (owed_all (length c.args.text.now - c.args.n) c.lift.new.text c.args.len ((own_block (item_of c.args.item)) (drop (length c.args.text.now - c.args.n) c.lift.new.text)) (omega (arith, c.requires)) (omega (arith, c.lift.ensures.long, c.requires)) refl) (def.own_line (item_of c.args.item)) (push (def.block_lines (item_of c.args.item) (split def.is_line_end (block_text (drop (length c.args.text.now - c.args.n) c.lift.new.text))))) refl c.in_ok-m.was (lent_front (length c.args.text.now - c.args.n) c.args.len c.lift.new.text c.own_line.new.text (def.own_line (item_of c.args.item)) (omega (arith, c.requires)) (omega (arith, c.lift.ensures.long, c.requires)) c.own_line.auto.text c.own_line.ensures) in
-    (owed_reach o, omega (arith, o.still.long, c.lift.ensures.long))
 
 pub returns : goal.returns
 returns c =

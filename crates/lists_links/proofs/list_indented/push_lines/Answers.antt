@@ -1,45 +1,16 @@
 use Prim.Native.Nat.{ℕ, ◌+◌}
-use mathlib.Core.Path.{refl, sym, ap, ◌∙◌}
+use mathlib.Core.Path.{ap, ◌∙◌}
 use mathlib.Core.List.{List}
 use lib.ListN.{take, get_or}
-use lib.Seq.{slice, length-take-le}
+use lib.Seq.{slice}
 use Rattle.spec.specs.Bytes.{null, parts, split}
 use Rattle.spec.specs.Out.{push}
 use Rattle.spec.specs.Md.Elements.List.{block_lines, is_line_end}
 use Rattle.lists_links.specs.Items.{item_of, line_byte}
 use Rattle.lists_links.proofs.ItemLines.{lines_turn, lines_end}
-use Rattle.text.proofs.Sourcing.{owed_all, owed_step, owed_stop, owed_nothing, owed_reach, get_d_kept, slice_kept, lent_front, stops_in}
+use Rattle.text.proofs.Sourcing.{owed_step, owed_stop, owed_nothing, owed_reach, get_d_kept, slice_kept, lent_front, stops_in}
 use native.Mathlib.Omega.{arith}
 use Rattle.lists_links.proofs.list_indented.push_lines.Goals as goal
-
-pub loop-i-init : goal.loop-i-init
-loop-i-init c =
-    let pre = c.requires in
-    (omega arith, pre.2, owed_all c.args.room c.args.text.now c.args.len (push (block_lines (item_of c.args.item) (split is_line_end (slice c.args.from c.args.to c.args.text.now)))) pre.0 (omega (arith, pre.1, pre.2, pre.3)) refl)
-
-pub bounds-text-i : goal.bounds-text-i
-bounds-text-i c =
-    omega (arith, c.loop-i-test.true, c.loop-i.invariant.2.still.long, c.requires.3)
-
-pub overflow_add-i : goal.overflow_add-i
-overflow_add-i c =
-    omega (arith, c.loop-i-test.true, c.requires.3)
-
-pub ends_line-empty-requires : goal.ends_line-empty-requires
-ends_line-empty-requires c =
-    omega (arith, c.loop-i.invariant.2.still.long, c.requires.3)
-
-pub slice_bounds-push_line_byte-end : goal.slice_bounds-push_line_byte-end
-slice_bounds-push_line_byte-end c =
-    omega (arith, c.loop-i.invariant.2.still.long, c.requires.1, c.requires.2, c.requires.3)
-
-pub slice_bounds-push_line_byte-end-in-loop-i : goal.slice_bounds-push_line_byte-end-in-loop-i
-slice_bounds-push_line_byte-end-in-loop-i c =
-    sym (length-take-le c.args.room c.loop-i.text (omega (arith, c.loop-i.invariant.2.still.long, c.requires.1, c.requires.2, c.requires.3)))
-
-pub push_line_byte-requires : goal.push_line_byte-requires
-push_line_byte-requires c =
-    omega (arith, owed_reach c.loop-i.invariant.2, length-take-le c.args.room c.loop-i.text (omega (arith, c.loop-i.invariant.2.still.long, c.requires.1, c.requires.2, c.requires.3)))
 
 pub loop-i-preserved : goal.loop-i-preserved
 loop-i-preserved c =
@@ -55,10 +26,6 @@ returns-in_err-m c =
     stops_in c.from_residual.ensures.0 (let pre = c.requires in
     owed_stop c.loop-i.invariant.2 (push (line_byte (item_of c.args.item) c.ends_line-empty.result (get_or c.loop-i.text c.loop-i.i 0))) (push (block_lines (item_of c.args.item) (split is_line_end (slice (c.loop-i.i + 1) c.args.to c.args.text.now)))) (lines_turn (item_of c.args.item) c.args.text.now c.loop-i.i c.args.to (get_or c.loop-i.text c.loop-i.i 0) c.ends_line-empty.result (take c.loop-i.m c.loop-i.text) c.loop-i-test.true c.requires.3 (get_d_kept c.loop-i.invariant.2.still c.loop-i.i (omega (arith, pre.1, c.loop-i.invariant.0)))
     (c.ends_line-empty.ensures ∙ ap (λ (x : List ℕ). null (parts is_line_end x).0) (slice_kept c.loop-i.invariant.2.still (c.loop-i.i + 1) c.args.to (omega (arith, pre.1, c.loop-i.invariant.0))))) c.in_err-m.was (lent_front c.args.room c.loop-i.m c.loop-i.text _ (push (line_byte (item_of c.args.item) c.ends_line-empty.result (get_or c.loop-i.text c.loop-i.i 0))) (owed_reach c.loop-i.invariant.2) (omega (arith, c.loop-i.invariant.2.still.long, c.requires.1, c.requires.2, c.requires.3)) c.push_line_byte.auto.text c.push_line_byte.ensures))
-
-pub shape_of-text : goal.shape_of-text
-shape_of-text c =
-    c.loop-i.invariant.2.still.long
 
 pub returns : goal.returns
 returns c =

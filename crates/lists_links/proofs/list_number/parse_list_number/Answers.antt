@@ -4,20 +4,7 @@ use Prim.Native.Nat.{ℕ}
 use Rattle.spec.specs.Md.Elements.List.{parse_list_number}
 use Rattle.lists_links.specs.Parsed.{parsed_of, signed}
 use Rattle.text.proofs.Reading.{rest_part}
-use native.Mathlib.Omega.{arith}
 use Rattle.lists_links.proofs.list_number.parse_list_number.Goals as goal
-
-pub slice_bounds-parse_signed-count : goal.slice_bounds-parse_signed-count
-slice_bounds-parse_signed-count c =
-    omega (arith, c.trim_start_matches-start.ensures.within)
-
-pub slice_bounds-parse_signed-start : goal.slice_bounds-parse_signed-start
-slice_bounds-parse_signed-start c =
-    omega (arith, c.trim_start_matches-start.ensures.within)
-
-pub slice_bounds-parse_signed-end : goal.slice_bounds-parse_signed-end
-slice_bounds-parse_signed-end c =
-    omega (arith, c.trim_start_matches-start.ensures.within)
 
 pub returns : goal.returns
 unfolding parse_list_number

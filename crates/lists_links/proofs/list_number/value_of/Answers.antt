@@ -1,5 +1,5 @@
 use Prim.Native.Nat.{ℕ, min, ◌+◌, ◌*◌}
-use mathlib.Core.Path.{refl, sym, ap, ◌∙◌}
+use mathlib.Core.Path.{sym, ap, ◌∙◌}
 use native.Mathlib.Numerals.{add-one}
 use lib.ListN.{drop}
 use Rattle.spec.specs.Bytes.{value_from}
@@ -7,16 +7,8 @@ use Rattle.lists_links.proofs.ListNumbers.{value_on, value_end, ten, ten_most}
 use native.Mathlib.Omega.{arith}
 use Rattle.lists_links.proofs.list_number.value_of.Goals as goal
 
-pub loop-b-init : goal.loop-b-init
-loop-b-init c =
-    (omega arith, refl, omega arith)
-
 pub overflow_mul-n : goal.overflow_mul-n
 overflow_mul-n c =
-    omega (arith, ten_most c.loop-b.b-index 9 (omega (arith, c.requires)))
-
-pub overflow_add-n : goal.overflow_add-n
-overflow_add-n c =
     omega (arith, ten_most c.loop-b.b-index 9 (omega (arith, c.requires)))
 
 pub loop-b-preserved : goal.loop-b-preserved

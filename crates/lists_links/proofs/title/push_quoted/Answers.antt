@@ -1,5 +1,4 @@
 use Prim.Native.Nat.{◌+◌}
-use mathlib.Core.Path.{refl}
 use mathlib.Core.Bool.{cond}
 use mathlib.Core.List.{[], ◌∷◌, ◌++◌}
 use lib.ListN.{take, get_or}
@@ -8,23 +7,10 @@ use lib.Seq.{slice}
 use Rattle.spec.specs.Bytes.{ascii}
 use Rattle.spec.specs.Out.{push}
 use Rattle.spec.specs.Md.TextUtils.{each_byte, quote_escaped}
-use Rattle.text.proofs.Sourcing.{owed_all, owed_step, owed_stop, owed_nothing, owed_reach, get_d_kept, stops_in}
+use Rattle.text.proofs.Sourcing.{owed_step, owed_stop, owed_nothing, get_d_kept, stops_in}
 use Rattle.text.proofs.Temporary.{quote_turn, quotes_end}
 use native.Mathlib.Omega.{arith}
 use Rattle.lists_links.proofs.title.push_quoted.Goals as goal
-
-pub loop-i-init : goal.loop-i-init
-loop-i-init c =
-    let a = c.args in
-    (omega arith, omega arith, owed_all a.base a.text.now a.len (push (each_byte quote_escaped (slice a.base (a.base + a.n) a.text.now))) c.requires.0 (omega (arith, c.requires.1)) refl)
-
-pub bounds-text-i : goal.bounds-text-i
-bounds-text-i c =
-    omega (arith, c.loop-i-test.true, c.loop-i.invariant.2.still.long, c.requires.1)
-
-pub put_escaped-requires : goal.put_escaped-requires
-put_escaped-requires c =
-    (owed_reach c.loop-i.invariant.2, omega (arith, c.loop-i.invariant.2.still.long, c.requires.1))
 
 pub returns-in_err-m : goal.returns-in_err-m
 returns-in_err-m c =
@@ -44,10 +30,6 @@ loop-i-preserved c =
       owed_step o (push (cond (eqb (get_or l.text l.i 0) 34) (ascii "\\") [] ++ (get_or l.text l.i 0 ∷ []))) (push (each_byte quote_escaped (slice (l.i + 1) (a.base + a.n) a.text.now)))
           (quote_turn a.text.now l.i (a.base + a.n) (get_or l.text l.i 0) (take l.m l.text) c.loop-i-test.true c.requires.1 (get_d_kept o.still l.i l.invariant.0)) c.in_ok-m.was c.put_escaped.ensures,
     )
-
-pub shape_of-text : goal.shape_of-text
-shape_of-text c =
-    c.loop-i.invariant.2.still.long
 
 pub returns : goal.returns
 returns c =

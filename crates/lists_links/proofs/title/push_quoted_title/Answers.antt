@@ -6,33 +6,8 @@ use Rattle.spec.specs.Md.Ctx.{new}
 use Rattle.spec.specs.Md.TextUtils.{each_byte, quote_escaped, quoted_title, push_normalized_text}
 use Rattle.spec.specs.declared.ctx.FormatOpts.{FormatOpts}
 use Rattle.text.proofs.Writing.{alike, done, full, stops}
-use Rattle.text.proofs.Temporary.{temp_full, temp_fits, temp_writes}
-use native.Mathlib.Omega.{arith}
+use Rattle.text.proofs.Temporary.{temp_full, temp_writes}
 use Rattle.lists_links.proofs.title.push_quoted_title.Goals as goal
-
-pub overflow_sub-base : goal.overflow_sub-base
-overflow_sub-base c =
-    let a = c.args in
-    let v = alike (ap (λ (x : FormatOpts). push_normalized_text a.title.now x []) (sym c.new-opts.ensures)) c.push_normalized_text.ensures in
-    let o = push_normalized_text a.title.now new [] in
-    let w = done c.in_ok-n.was v in
-    omega (arith, temp_fits a.text.now a.len c.requires o w)
-
-pub lift-requires : goal.lift-requires
-lift-requires c =
-    let a = c.args in
-    let v = alike (ap (λ (x : FormatOpts). push_normalized_text a.title.now x []) (sym c.new-opts.ensures)) c.push_normalized_text.ensures in
-    let o = push_normalized_text a.title.now new [] in
-    let w = done c.in_ok-n.was v in
-    (omega (arith, temp_fits a.text.now a.len c.requires o w), omega (arith, temp_fits a.text.now a.len c.requires o w))
-
-pub push_quoted-requires : goal.push_quoted-requires
-push_quoted-requires c =
-    let a = c.args in
-    let v = alike (ap (λ (x : FormatOpts). push_normalized_text a.title.now x []) (sym c.new-opts.ensures)) c.push_normalized_text.ensures in
-    let o = push_normalized_text a.title.now new [] in
-    let w = done c.in_ok-n.was v in
-    (omega (arith, temp_fits a.text.now a.len c.requires o w), omega (arith, temp_fits a.text.now a.len c.requires o w, c.lift.ensures.long))
 
 pub returns : goal.returns
 unfolding quoted_title

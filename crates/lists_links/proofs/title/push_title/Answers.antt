@@ -10,27 +10,6 @@ use Rattle.spec.specs.Md.TextUtils.{quoted_title, push_normalized_text, push_tit
 use Rattle.text.proofs.Writing.{owes_all, owes_step, owes_stop, owes_last, then_assoc, stops}
 use Rattle.lists_links.proofs.title.push_title.Goals as goal
 
-pub push_title_text-requires : goal.push_title_text-requires
-unfolding push_title
-push_title_text-requires c =
-    let a = c.args in
-    let f = cond (isin 34 a.title.now) (quoted_title a.title.now) (push_normalized_text a.title.now new) in
-    let o₁ = owes_all a.text.now a.len (push_title a.title.now) c.requires refl in
-    let e₁ = then_assoc (push (ascii " \"") (take a.len a.text.now)) f (push (ascii "\"")) in
-    let o₂ = owes_step o₁ (push (ascii " \"")) (λ (t : List ℕ). and_then (cond (isin 34 a.title.now) (quoted_title a.title.now) (push_normalized_text a.title.now new) t) (push (ascii "\""))) e₁ c.in_ok-n.was c.push_all.ensures in
-    o₂.reach
-
-pub push_byte-requires : goal.push_byte-requires
-unfolding push_title
-push_byte-requires c =
-    let a = c.args in
-    let f = cond (isin 34 a.title.now) (quoted_title a.title.now) (push_normalized_text a.title.now new) in
-    let o₁ = owes_all a.text.now a.len (push_title a.title.now) c.requires refl in
-    let e₁ = then_assoc (push (ascii " \"") (take a.len a.text.now)) f (push (ascii "\"")) in
-    let o₂ = owes_step o₁ (push (ascii " \"")) (λ (t : List ℕ). and_then (cond (isin 34 a.title.now) (quoted_title a.title.now) (push_normalized_text a.title.now new) t) (push (ascii "\""))) e₁ c.in_ok-n.was c.push_all.ensures in
-    let o₃ = owes_step o₂ (cond (isin 34 a.title.now) (quoted_title a.title.now) (push_normalized_text a.title.now new)) (push (ascii "\"")) refl c.in_ok-m.was c.push_title_text.ensures in
-    o₃.reach
-
 pub returns : goal.returns
 unfolding push_title
 returns c =

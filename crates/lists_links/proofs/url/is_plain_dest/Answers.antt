@@ -1,11 +1,7 @@
-use mathlib.Core.Path.{refl}
 use Rattle.input.proofs.Sequences.{all_turn, all_end}
 use Rattle.lists_links.specs.Url.{itself}
 use native.Mathlib.Omega.{arith}
 use Rattle.lists_links.proofs.url.is_plain_dest.Goals as goal
-
-pub loop-b-init : goal.loop-b-init
-loop-b-init c = refl
 
 pub loop-b-preserved : goal.loop-b-preserved
 loop-b-preserved c =

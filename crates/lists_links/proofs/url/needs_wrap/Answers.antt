@@ -1,21 +1,17 @@
-use Prim.Native.Nat.{◌≤◌, zero-le}
+use Prim.Native.Nat.{◌≤◌}
 use lib.IntN.{ℤ}
-use mathlib.Core.Path.{◌≡◌, sym, ap, ◌∙◌, refl}
+use mathlib.Core.Path.{◌≡◌, sym, ap, ◌∙◌}
 use mathlib.Core.Bool.{Bool, ◌||◌, ◌&&◌}
 use lib.ListN.{get_or}
 use lib.Dec.{eqb}
 use Rattle.lists_links.specs.Url.{next_balance}
-use Rattle.lists_links.proofs.Balance.{next_fits, sign, bits, balanced_grown}
+use Rattle.lists_links.proofs.Balance.{sign, bits, balanced_grown}
 use Rattle.lists_links.proofs.Linking.{wraps, wraps_on, wraps_end, balanced}
 use mir.Val.{of_z}
 use mir.Facts.{of_z-to_z}
 use mir.Syntax.{w32}
 use native.Mathlib.Omega.{arith}
 use Rattle.lists_links.proofs.url.needs_wrap.Goals as goal
-
-pub loop-b-init : goal.loop-b-init
-loop-b-init c =
-    (0, (refl, zero-le, refl))
 
 pub returns-then-wants_wrap : goal.returns-then-wants_wrap
 returns-then-wants_wrap c =
@@ -24,14 +20,6 @@ returns-then-wants_wrap c =
     let n = l.invariant.0 in
     let closes = eqb (get_or d l.b-index 0) 41 && eqb n 0 in
     sym (l.invariant.1.2 ∙ wraps d n l.b-index c.loop-b-test.true (ap (λ (t : Bool). t || closes) (sym c.wants_wrap.ensures ∙ c.if-wants_wrap.true)))
-
-pub next_balance-balance-requires : goal.next_balance-balance-requires
-next_balance-balance-requires c =
-    let l = c.loop-b in
-    let d = c.args.dest.now in
-    let n = l.invariant.0 in
-    let h : n ≤ 1048576 = omega (arith, l.invariant.1.1, c.loop-b-test.true, c.requires) in
-    rw l.invariant.1.0 (next_fits n (get_or d l.b-index 0) h)
 
 pub returns-then-balance-lt0 : goal.returns-then-balance-lt0
 returns-then-balance-lt0 c =

@@ -25,10 +25,6 @@ loop-i-init c =
     let a = c.args in
     owes_all a.text.now a.len (push (each_byte (url_byte a.wrap) (html_escape a.dest.now))) c.requires refl
 
-pub push_piece-requires : goal.push_piece-requires
-push_piece-requires c =
-    c.loop-i.invariant.reach
-
 pub returns-in_err-n : goal.returns-in_err-n
 unfolding is_nbsp
 returns-in_err-n c =
@@ -48,10 +44,6 @@ loop-i-preserved c =
     let e = ap (λ (t : Bool). eqb (get_or d l.i 0) 194 && t) (c.starts_with_byte.ensures ∙ ap (starts_with (160 ∷ [])) (rest_part (l.i + 1) d)) in
     owes_step l.invariant (push (piece_of a.wrap l.second nb (get_or d l.i 0))) (push (each_byte (url_byte a.wrap) (html_from (not l.second && nb) (drop (l.i + 1) d))))
     (piece_turn a.wrap l.second nb d (take l.n l.text) l.i c.loop-i-test.true e) c.in_ok-n.was c.push_piece.ensures
-
-pub shape_of-text : goal.shape_of-text
-shape_of-text c =
-    c.loop-i.invariant.long
 
 pub returns : goal.returns
 returns c =

@@ -7,25 +7,6 @@ use Rattle.spec.specs.Md.TextUtils.{each_byte, wrapped_byte, html_escape}
 use Rattle.text.proofs.Writing.{owes_all, owes_step, owes_stop, owes_last, push_both, stops}
 use Rattle.lists_links.proofs.url.push_wrapped.Goals as goal
 
-pub push_dest-requires : goal.push_dest-requires
-push_dest-requires c =
-    let a = c.args in
-    let d = each_byte wrapped_byte (html_escape a.dest.now) in
-    let o₁ = owes_all a.text.now a.len (push (ascii "<" ++ (d ++ ascii ">"))) c.requires refl in
-    let e₁ = push_both (ascii "<") (d ++ ascii ">") (take a.len a.text.now) in
-    let o₂ = owes_step o₁ (push (ascii "<")) (push (d ++ ascii ">")) e₁ c.in_ok-n.was c.push_byte.ensures in
-    o₂.reach
-
-pub push_byte-requires-2 : goal.push_byte-requires-2
-push_byte-requires-2 c =
-    let a = c.args in
-    let d = each_byte wrapped_byte (html_escape a.dest.now) in
-    let o₁ = owes_all a.text.now a.len (push (ascii "<" ++ (d ++ ascii ">"))) c.requires refl in
-    let e₁ = push_both (ascii "<") (d ++ ascii ">") (take a.len a.text.now) in
-    let o₂ = owes_step o₁ (push (ascii "<")) (push (d ++ ascii ">")) e₁ c.in_ok-n.was c.push_byte.ensures in
-    let o₃ = owes_step o₂ (push d) (push (ascii ">")) (push_both d (ascii ">") _) c.in_ok-m.was c.push_dest.ensures in
-    o₃.reach
-
 pub returns : goal.returns
 returns c =
     let a = c.args in
