@@ -11,3 +11,4 @@ pub mod WhiteSpace
 pub mod Temporary
 pub mod Finding
 pub mod Lifting
+pub mod Texts

@@ -6,3 +6,4 @@ pub mod Lifted
 pub mod Source
 pub mod Marks
 pub mod Flow
+pub mod Texts

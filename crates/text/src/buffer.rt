@@ -100,57 +100,6 @@ pub fn contains_byte(s: &[u8], b: u8) -> bool
     found
 }
 
-// Appends a byte.
-pub fn push_byte(text: &mut [u8], len: usize, b: u8) -> Wrote
-    requires { len ≤ length text.old }
-    ensures { Writes (length text.old) text.new result (push (b ∷ []) (take len text.old)) }
-{
-    if len < text.len() {
-        text[len] = b;
-        Ok(len + 1)
-    } else {
-        Err(Full)
-    }
-}
-
-// Appends a byte, if it is wanted.
-pub fn push_byte_if(text: &mut [u8], len: usize, b: u8, wanted: bool) -> Wrote
-    requires { len ≤ length text.old }
-    ensures { Writes (length text.old) text.new result (push (cond wanted (b ∷ []) []) (take len text.old)) }
-{
-    if wanted {
-        push_byte(text, len, b)
-    } else {
-        Ok(len)
-    }
-}
-
-// Appends src.
-pub fn push_all(text: &mut [u8], len: usize, src: &[u8]) -> Wrote
-    requires { len ≤ length text.old }
-    ensures { Writes (length text.old) text.new result (push src.now (take len text.old)) }
-{
-    if text.len() - len < src.len() {
-        return Err(Full);
-    }
-    let end = len + src.len();
-    text[len..end].copy_from_slice(src);
-    Ok(end)
-}
-
-// Appends n times b.
-pub fn push_repeated(text: &mut [u8], len: usize, b: u8, n: usize) -> Wrote
-    requires { len ≤ length text.old }
-    ensures { Writes (length text.old) text.new result (push (replicate n b) (take len text.old)) }
-{
-    if text.len() - len < n {
-        return Err(Full);
-    }
-    let end = len + n;
-    text[len..end].fill(b);
-    Ok(end)
-}
-
 // Whether s ends with a or with b.
 #[tactic(auto, using(crate::proofs::Reading::ends_is, crate::proofs::Reading::ends_not, crate::proofs::Reading::ends_none))]
 pub fn ends_with_either(s: &[u8], a: u8, b: u8) -> bool
@@ -185,15 +134,3 @@ pub fn lift(text: &mut [u8], from: usize, n: usize, to: usize)
     text.copy_within(from..from + n, to);
 }
 
-// Puts b at `at`, before what stands there.
-pub fn insert_byte(text: &mut [u8], len: usize, at: usize, b: u8) -> Wrote
-    requires { (at ≤ len) × (len ≤ length text.old) }
-    ensures { Writes (length text.old) text.new result (replace (λ t. take at t ++ (b ∷ drop at t)) (take len text.old)) }
-{
-    if len == text.len() {
-        return Err(Full);
-    }
-    lift(text, at, len - at, at + 1);
-    text[at] = b;
-    Ok(len + 1)
-}

@@ -3,6 +3,7 @@
 #![tactic(auto)]
 
 pub mod buffer;
+pub mod by_len;
 pub mod class;
-pub mod lifted;
+pub mod text;
 pub mod white_space;
