@@ -19,9 +19,7 @@ use crate::pre::write_pre;
 use marks::code::push_code_text;
 use nodes::skip_md::write_skip_md;
 use spec::ctx::FormatOpts;
-use text::buffer::{
-    Wrote, contains_byte, ends_with_byte, reread, trim_end_matches, trim_start_matches,
-};
+use text::buffer::{Wrote, contains_byte, ends_with_byte, reread, trim_end_matches, trim_start_matches};
 use text::class::{Blank, TabOrBlank};
 use text::white_space::{is_white_space_1, is_white_space_2, is_white_space_3, trim_end};
 use tree::nodes::{node_end, node_place, text_at};

@@ -9,9 +9,9 @@ use lists_links::link::push_link_end;
 use normalized::normalize_own::push_normalized_own;
 use normalized::text_utils::escape_trailing_bang;
 use spec::ctx::FormatOpts;
-use text::buffer::{Wrote, all_in, lift, push_byte};
+use text::buffer::{Wrote, all_in, lift};
+use text::by_len::{push_byte, push_lifted};
 use text::class::White;
-use text::lifted::push_lifted;
 
 // The opening bracket.
 fn push_bracket(text: &mut [u8], len: usize) -> Wrote

@@ -16,7 +16,8 @@ use marks::code::{push_code_text, push_fenced_block};
 use nodes::nodes::push_text_of;
 use normalized::text_utils::push_block_space;
 use spec::ctx::FormatOpts;
-use text::buffer::{Full, Wrote, push_byte, push_byte_if};
+use text::buffer::{Full, Wrote};
+use text::by_len::{push_byte, push_byte_if};
 use text::class::{ByteClass, White};
 use tree::nodes::{node_end, node_place, text_at};
 

@@ -28,7 +28,8 @@ use normalized::text_utils::{
     add_linebreaks, ends_with_double_linebreak, push_block_space, trim_trailing_space,
 };
 use spec::ctx::{EmphasisScope, FormatOpts};
-use text::buffer::{Wrote, push_all, reread};
+use text::buffer::{Wrote, reread};
+use text::by_len::push_all;
 
 fn is_link_block(name: usize) -> bool
     ensures { result ≡ blocks.is_link_block name }

@@ -6,7 +6,8 @@ ghost use Rattle.spec.specs.Md.Ctx as def;
 ghost use Rattle.text.specs.Writes.{Writes};
 
 use spec::ctx::{ListContext, ListKind, digits};
-use text::buffer::{Wrote, push_all, push_byte};
+use text::buffer::Wrote;
+use text::by_len::{push_all, push_byte};
 
 // Appends n in decimal.
 fn push_decimal(text: &mut [u8], len: usize, n: u32) -> Wrote

@@ -11,7 +11,8 @@ ghost use Rattle.text.specs.Writes.{Writes};
 
 use crate::title::push_title;
 use crate::url::push_md_url;
-use text::buffer::{Wrote, push_all, push_byte};
+use text::buffer::Wrote;
+use text::by_len::{push_all, push_byte};
 use tree::attributes::attribute;
 
 // Appends the title, if there is one.

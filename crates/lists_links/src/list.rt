@@ -10,10 +10,8 @@ ghost use Rattle.text.specs.Writes.{Writes, Written};
 use crate::ctx::{prefix_len, push_prefix};
 use normalized::text_utils::{push_linebreak, trim_trailing_space};
 use spec::ctx::ListContext;
-use text::buffer::{
-    Wrote, drop_front, ends_with_byte, push_all, push_repeated, trim_end_matches,
-    trim_start_matches,
-};
+use text::buffer::{Wrote, drop_front, ends_with_byte, trim_end_matches, trim_start_matches};
+use text::by_len::{push_all, push_repeated};
 use text::class::White;
 
 // What the loop over an item's children knows: the context after its number is written, how many blanks stand before its

@@ -11,9 +11,8 @@ ghost use Rattle.text.specs.Writes.{Writes};
 
 use crate::list::{Item, push_line_start};
 use normalized::text_utils::push_linebreak;
-use text::buffer::{
-    Wrote, all_in, ends_with_byte, lift, push_byte, trim_end_matches, trim_start_matches,
-};
+use text::buffer::{Wrote, all_in, ends_with_byte, lift, trim_end_matches, trim_start_matches};
+use text::by_len::push_byte;
 use text::class::{Blank, Only};
 use text::white_space::trim_end;
 

@@ -12,7 +12,8 @@ ghost use Rattle.text.specs.Writes.{Writes};
 use normalized::normalize::push_normalized_text;
 use normalized::normalize_own::put_escaped;
 use spec::ctx::FormatOpts;
-use text::buffer::{Wrote, contains_byte, lift, push_all, push_byte};
+use text::buffer::{Wrote, contains_byte, lift};
+use text::by_len::{push_all, push_byte};
 
 // Appends the n bytes at base, with their quote marks escaped, before base.
 fn push_quoted(text: &mut [u8], base: usize, n: usize, len: usize) -> Wrote

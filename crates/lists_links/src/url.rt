@@ -9,7 +9,8 @@ ghost use Rattle.spec.specs.Md.TextUtils as def;
 ghost use Rattle.lists_links.specs.Url.{next_balance, url_byte, piece_of, kept, itself};
 ghost use Rattle.text.specs.Writes.{Writes};
 
-use text::buffer::{Wrote, push_all, push_byte, starts_with_byte};
+use text::buffer::{Wrote, starts_with_byte};
+use text::by_len::{push_all, push_byte};
 
 #[tactic(auto, unfolding(spec::specs::Md::TextUtils::wants_wrap, spec::specs::Bytes::isin))]
 fn wants_wrap(b: u8) -> bool

@@ -7,12 +7,9 @@ ghost use Rattle.marks.specs.Runs.{RunsBehind};
 ghost use Rattle.text.specs.Writes.{Writes};
 ghost use Rattle.spec.specs.Md.Elements.Code as def;
 
-use text::buffer::{
-    Wrote, all_in, contains_byte, ends_with, ends_with_byte, lift, push_byte, push_byte_if,
-    push_repeated, starts_with_byte, trim_start_matches,
-};
+use text::buffer::{Wrote, all_in, contains_byte, ends_with, ends_with_byte, lift, starts_with_byte, trim_start_matches};
+use text::by_len::{push_byte, push_byte_if, push_lifted, push_repeated};
 use text::class::{Black, Blank, White};
-use text::lifted::push_lifted;
 
 // The longest run of backticks that has ended, and the run before what follows.
 #[derive(Clone, Copy)]

@@ -8,12 +8,9 @@ ghost use Rattle.text.specs.Writes.{Writes};
 
 use input::fields::is_same;
 use normalized::text_utils::escape_trailing_bang;
-use text::buffer::{
-    Full, Wrote, ends_with, ends_with_byte, lift, push_all, push_byte, push_byte_if,
-    starts_with_byte, trim_end_matches,
-};
+use text::buffer::{Full, Wrote, ends_with, ends_with_byte, lift, starts_with_byte, trim_end_matches};
+use text::by_len::{push_all, push_byte, push_byte_if, push_lifted};
 use text::class::{Only, White};
-use text::lifted::push_lifted;
 use text::white_space::trim_end;
 
 // How many backslashes s ends with.

@@ -4,7 +4,8 @@ ghost use Rattle.spec.specs.Out.{push};
 ghost use Rattle.spec.specs.Md.Heading as def;
 ghost use Rattle.text.specs.Writes.{Writes};
 
-use text::buffer::{Wrote, ends_with_byte, insert_byte, push_all, trim_end_matches};
+use text::buffer::{Wrote, ends_with_byte, trim_end_matches};
+use text::by_len::{insert_byte, push_all};
 use text::class::Only;
 use text::white_space::trim_end;
 

@@ -7,7 +7,8 @@ ghost use Rattle.text.specs.Writes.{Writes};
 
 use crate::emphasis::backslashes;
 use normalized::text_utils::trim_trailing_space;
-use text::buffer::{Full, Wrote, ends_with, ends_with_byte, push_all};
+use text::buffer::{Full, Wrote, ends_with, ends_with_byte};
+use text::by_len::push_all;
 
 // `\<br>` is text, `\\<br>` an escaped backslash and a line break.
 pub fn ends_with_cell_break(s: &[u8]) -> bool

@@ -18,7 +18,8 @@ use crate::white_space::{Begun, has_ended, white_state};
 use input::tag::TEXT;
 use normalized::normalize::push_text_part;
 use spec::ctx::FormatOpts;
-use text::buffer::{Wrote, push_all};
+use text::buffer::Wrote;
+use text::by_len::push_all;
 use tree::names::is_skipped;
 use tree::nodes::{node_number, node_place, tag_at, text_at};
 

@@ -15,7 +15,8 @@ ghost use Rattle.nodes.specs.Stands.{NodeAt, ElementAt, SomeElement};
 use crate::nodes::{node_name, write_text_node};
 use input::tag::OPEN;
 use spec::ctx::FormatOpts;
-use text::buffer::{Wrote, ends_with, ends_with_byte, push_byte};
+use text::buffer::{Wrote, ends_with, ends_with_byte};
+use text::by_len::push_byte;
 use tree::names::is_skipped;
 use tree::nodes::{node_end, node_parent, node_place, tag_at};
 

@@ -13,7 +13,8 @@ ghost use Rattle.normalized.specs.Blocks.{signed, BlockAt, Appends};
 ghost use Rattle.normalized.specs.Verbatim.{Whole};
 
 use crate::line_start::begins_bare;
-use text::buffer::{Full, Wrote, push_all};
+use text::buffer::{Full, Wrote};
+use text::by_len::push_all;
 use text::class::{ByteClass, Digit};
 
 // Whether b stands in a text as it is, `next` behind it: a byte that is not white and, where signs are escaped, ordinary, or a

@@ -16,7 +16,8 @@ use crate::fast_copy::{
 };
 use crate::layout::{Layout, lay_out};
 use spec::ctx::FormatOpts;
-use text::buffer::{Wrote, push_all, push_byte, push_byte_if, reread};
+use text::buffer::{Wrote, reread};
+use text::by_len::{push_all, push_byte, push_byte_if};
 use text::class::{ByteClass, Ordinary, White};
 
 // The byte behind the one at i; a blank where there is none.

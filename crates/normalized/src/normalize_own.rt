@@ -13,7 +13,8 @@ use crate::fast_copy::plain_blocks;
 use crate::layout::{Layout, lay_out};
 use crate::normalize::{next_of, push_byte_of};
 use spec::ctx::FormatOpts;
-use text::buffer::{Full, Wrote, push_byte_if};
+use text::buffer::{Full, Wrote};
+use text::by_len::push_byte_if;
 
 // Appends a byte before `room`, if it is wanted.
 fn put_if(text: &mut [u8], room: usize, len: usize, b: u8, wanted: bool) -> Wrote

@@ -10,10 +10,8 @@ ghost use Rattle.text.specs.Trimmed.{Trimmed};
 ghost use Rattle.text.specs.Writes.{Writes, Written};
 
 use input::fields::is_same;
-use text::buffer::{
-    Full, Wrote, all_in, drop_front, ends_with, ends_with_byte, ends_with_either, ends_with_white,
-    push_all, push_byte, trim_end_matches, trim_start_matches,
-};
+use text::buffer::{Full, Wrote, all_in, drop_front, ends_with, ends_with_byte, ends_with_either, ends_with_white, trim_end_matches, trim_start_matches};
+use text::by_len::{push_all, push_byte};
 use text::class::{Blank, Digit, InWord, White};
 
 // An ordered-list marker like `3.` or `12)`.

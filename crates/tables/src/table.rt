@@ -15,7 +15,8 @@ ghost use Rattle.text.specs.Writes.{Writes};
 use crate::bars::{at_least_one, put_byte_cells, put_column};
 use crate::rows::{all_th, count_cells, is_table_cell, next_filled_row};
 use nodes::nodes::node_name;
-use text::buffer::{Full, Wrote, lift, push_byte};
+use text::buffer::{Full, Wrote, lift};
+use text::by_len::push_byte;
 use tree::memory::{read, store};
 use tree::nodes::node_end;
 

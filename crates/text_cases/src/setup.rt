@@ -4,7 +4,8 @@ ghost use Rattle.std.specs.Prelude.{◌≤◌, length};
 use lists_links::list::Item;
 use lists_links::list_number::parse_list_number;
 use spec::ctx::{FormatOpts, ListContext, ListKind};
-use text::buffer::{Full, Wrote, push_all};
+use text::buffer::{Full, Wrote};
+use text::by_len::push_all;
 
 // The numbers of a case: options as bits, and two that each function reads in its own way.
 #[derive(Clone, Copy)]
