@@ -7,7 +7,7 @@ ghost use Rattle.elements.specs.LinkStep.{append_by, bracket, link_front, link_s
 
 use lists_links::link::push_link_end;
 use normalized::normalize_own::push_normalized_own;
-use normalized::text_utils::escape_trailing_bang;
+use normalized::by_len::escape_trailing_bang;
 use spec::ctx::FormatOpts;
 use text::buffer::{Wrote, all_in, lift};
 use text::by_len::{push_byte, push_lifted};

@@ -24,9 +24,8 @@ use marks::heading::{escape_closing_hashes, is_heading, push_md_prefix};
 use marks::table::add_cell_block_break;
 use nodes::nodes::node_name;
 use nodes::skip_md::blank_for_br;
-use normalized::text_utils::{
-    add_linebreaks, ends_with_double_linebreak, push_block_space, trim_trailing_space,
-};
+use normalized::by_len::{add_linebreaks, push_block_space};
+use normalized::text_utils::{ends_with_double_linebreak, trim_trailing_space};
 use spec::ctx::{EmphasisScope, FormatOpts};
 use text::buffer::{Wrote, reread};
 use text::by_len::push_all;

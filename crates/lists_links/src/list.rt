@@ -8,7 +8,8 @@ ghost use Rattle.lists_links.specs.Items.{item_of, trimmed_start, rule_step, inl
 ghost use Rattle.text.specs.Writes.{Writes, Written};
 
 use crate::ctx::{prefix_len, push_prefix};
-use normalized::text_utils::{push_linebreak, trim_trailing_space};
+use normalized::by_len::push_linebreak;
+use normalized::text_utils::trim_trailing_space;
 use spec::ctx::ListContext;
 use text::buffer::{Wrote, drop_front, ends_with_byte, trim_end_matches, trim_start_matches};
 use text::by_len::{push_all, push_repeated};

@@ -10,7 +10,7 @@ ghost use Rattle.text.specs.Trimmed.{Trimmed};
 ghost use Rattle.text.specs.Writes.{Writes};
 
 use crate::list::{Item, push_line_start};
-use normalized::text_utils::push_linebreak;
+use normalized::by_len::push_linebreak;
 use text::buffer::{Wrote, all_in, ends_with_byte, lift, trim_end_matches, trim_start_matches};
 use text::by_len::push_byte;
 use text::class::{Blank, Only};

@@ -7,7 +7,7 @@ ghost use Rattle.marks.specs.Marked.{lead_blank, bang_if, marked_front, marked_w
 ghost use Rattle.text.specs.Writes.{Writes};
 
 use input::fields::is_same;
-use normalized::text_utils::escape_trailing_bang;
+use normalized::by_len::escape_trailing_bang;
 use text::buffer::{Full, Wrote, ends_with, ends_with_byte, lift, starts_with_byte, trim_end_matches};
 use text::by_len::{push_all, push_byte, push_byte_if, push_lifted};
 use text::class::{Only, White};

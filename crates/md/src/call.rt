@@ -10,7 +10,7 @@ ghost use Rattle.md.specs.Started.{Started, Answered};
 
 use input::questions::first_refusal;
 use input::refusal::Refusal;
-use normalized::text_utils::trim_space;
+use normalized::by_len::trim_space;
 use serializer::options::packed;
 use serializer::write;
 use spec::ctx::FormatOpts;

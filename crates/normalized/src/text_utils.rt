@@ -1,5 +1,5 @@
 // text_utils.rs. What each function writes is specs/Md/TextUtils.antt of the crate spec.
-ghost use Rattle.std.specs.Prelude.{◌≡◌, ◌||◌, ◌+◌, ◌≤◌, ◌<◌, length, take};
+ghost use Rattle.std.specs.Prelude.{◌≡◌, ◌||◌, Ok};
 ghost use Rattle.std.proofs.Math.Seq.{slice};
 ghost use Rattle.spec.specs.Bytes.{ascii, ends_with, same};
 ghost use Rattle.spec.specs.Md.LineBreak.{linebreak, double_linebreak};
@@ -7,12 +7,12 @@ ghost use Rattle.spec.specs.Out.{push};
 ghost use Rattle.spec.specs.Md.TextUtils as def;
 ghost use Rattle.spec.specs.declared.ctx.FormatOpts as Opts;
 ghost use Rattle.text.specs.Trimmed.{Trimmed};
-ghost use Rattle.text.specs.Writes.{Writes, Written};
+ghost use Rattle.text.specs.Texts.{WritesTo};
 
 use input::fields::is_same;
-use text::buffer::{Full, Wrote, all_in, drop_front, ends_with, ends_with_byte, ends_with_either, ends_with_white, trim_end_matches, trim_start_matches};
-use text::by_len::{push_all, push_byte};
+use text::buffer::{Full, all_in, drop_front, ends_with, ends_with_byte, ends_with_either, ends_with_white, trim_end_matches, trim_start_matches};
 use text::class::{Blank, Digit, InWord, White};
+use text::text::Text;
 
 // An ordered-list marker like `3.` or `12)`.
 pub fn is_ordered_list_marker(chunk: &[u8]) -> bool
@@ -77,19 +77,13 @@ pub fn ends_with_marker_digits(text: &[u8]) -> bool
 }
 
 // Escapes a `!` at the end, so that a `[` behind it makes no image.
-pub fn escape_trailing_bang(text: &mut [u8], len: usize) -> Wrote
-    requires { len ≤ length text.old }
-    ensures { Writes (length text.old) text.new result (def.escape_trailing_bang (take len text.old)) }
+pub fn escape_trailing_bang(text: &mut Text) -> Result<(), Full>
+    ensures { WritesTo text.old text.new result def.escape_trailing_bang }
 {
-    if !ends_with_byte(&text[..len], b'!') {
-        return Ok(len);
+    if !ends_with_byte(text.bytes(), b'!') {
+        return Ok(());
     }
-    if len == text.len() {
-        return Err(Full);
-    }
-    text[len - 1] = b'\\';
-    text[len] = b'!';
-    Ok(len + 1)
+    text.insert_byte(text.len - 1, b'\\')
 }
 
 pub fn trim_trailing_space(s: &[u8]) -> usize
@@ -98,54 +92,44 @@ pub fn trim_trailing_space(s: &[u8]) -> usize
     trim_end_matches::<Blank>(s)
 }
 
-pub fn add_linebreaks(text: &mut [u8], len: usize, linebreak: &[u8], end: &[u8]) -> Wrote
-    requires { len ≤ length text.old }
-    ensures { Writes (length text.old) text.new result (def.add_linebreaks linebreak.now end.now (take len text.old)) }
+pub fn add_linebreaks(text: &mut Text, linebreak: &[u8], end: &[u8]) -> Result<(), Full>
+    ensures { WritesTo text.old text.new result (def.add_linebreaks linebreak.now end.now) }
 {
-    let mut n = trim_trailing_space(&text[..len]);
+    text.len = trim_trailing_space(text.bytes());
     for _ in 0..end.len() {
-        if ends_with(&text[..n], end) {
-            return Ok(n);
+        if ends_with(text.bytes(), end) {
+            return Ok(());
         }
-        n = push_all(text, n, linebreak)?;
+        text.push_all(linebreak)?;
     }
-    Ok(n)
+    Ok(())
 }
 
-pub fn push_block_space(text: &mut [u8], len: usize) -> Wrote
-    requires { len ≤ length text.old }
-    ensures { Writes (length text.old) text.new result (def.push_block_space (take len text.old)) }
+pub fn push_block_space(text: &mut Text) -> Result<(), Full>
+    ensures { WritesTo text.old text.new result def.push_block_space }
 {
-    if len == 0 {
-        return Ok(len);
+    if (text.len == 0) | ends_with_white(text.bytes()) {
+        return Ok(());
     }
-    if ends_with_white(&text[..len]) {
-        return Ok(len);
-    }
-    push_byte(text, len, b' ')
+    text.push_byte(b' ')
 }
 
 // Trims white bytes at both ends; the rest moves to the front.
-pub fn trim_space(text: &mut [u8], len: usize) -> usize
-    requires { len ≤ length text.old }
-    ensures { Written (length text.old) text.new result (def.trim_space (take len text.old)) }
+pub fn trim_space(text: &mut Text)
+    ensures { WritesTo text.old text.new (Ok tt) def.trim_space }
 {
-    let n = trim_end_matches::<White>(&text[..len]);
-    let k = trim_start_matches::<White>(&text[..n]);
-    drop_front(text, k, n - k);
-    n - k
+    let s = text.bytes();
+    let n = trim_end_matches::<White>(s);
+    let k = trim_start_matches::<White>(&s[..n]);
+    drop_front(text.room, k, n - k);
+    text.len = n - k;
 }
 
 // Appends a line break.
-pub fn push_linebreak(text: &mut [u8], len: usize, br: bool) -> Wrote
-    requires { len ≤ length text.old }
-    ensures { Writes (length text.old) text.new result (push (linebreak br) (take len text.old)) }
+pub fn push_linebreak(text: &mut Text, br: bool) -> Result<(), Full>
+    ensures { WritesTo text.old text.new result (push (linebreak br)) }
 {
-    if br {
-        push_all(text, len, b"<br>")
-    } else {
-        push_all(text, len, b"\n")
-    }
+    text.push_all(if br { b"<br>" } else { b"\n" })
 }
 
 // Whether s ends with the line break that ends a block.

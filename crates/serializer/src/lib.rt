@@ -45,7 +45,7 @@ use lists_links::list::{Item, end_item, item_from, push_block_lead, push_inline_
 use lists_links::list_indented::push_indented;
 use marks::table::{escape_table_cell_inplace, trim_trailing_cell_break};
 use nodes::nodes::{has_element, node_is_skipped, node_name, write_text, write_text_node};
-use normalized::text_utils::{push_linebreak, trim_space};
+use normalized::by_len::{push_linebreak, trim_space};
 use options::{packed, unpacked};
 use progress::{Going, rule_block};
 use spec::ctx::{FormatOpts, ListContext};

@@ -10,7 +10,7 @@ ghost use Rattle.nodes.specs.Stands.{NodeAt};
 ghost use Rattle.nodes.specs.TextStep.{text_step};
 
 use nodes::nodes::write_text_node;
-use normalized::text_utils::trim_space;
+use normalized::by_len::trim_space;
 use spec::ctx::FormatOpts;
 use text::buffer::{Wrote, all_in};
 use text::class::White;

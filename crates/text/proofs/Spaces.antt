@@ -1,7 +1,8 @@
 -- Blanks and line breaks at the end of a text. Assumes nothing.
 use Prim.Native.Nat.{ℕ, zero, suc, ◌+◌, ◌-◌, ◌≤◌, ◌<◌}
 use mathlib.Core.Path.{◌≡◌, refl, sym, ap, ◌∙◌}
-use mathlib.Core.Bool.{true, false, or-true}
+use mathlib.Core.Bool.{true, false, ◌||◌}
+use lib.Dec.{eqb}
 use mathlib.Core.List.{List, [], ◌∷◌, ◌++◌, append_assoc}
 use native.Mathlib.Omega.{arith}
 use native.Mathlib.Numerals.{add-one}
@@ -12,7 +13,9 @@ use Rattle.spec.specs.Out.{cut, keep, push, replace, and_then}
 use Rattle.spec.specs.Md.TextUtils.{escape_trailing_bang, ends_with_white, push_block_space, trim_space, breaks_until}
 use Rattle.text.specs.Trimmed.{Trimmed, Skipped}
 use Rattle.text.specs.Writes.{Written, Refused}
-use Rattle.text.proofs.Reading.{null_none, null_some, drop_take}
+use Rattle.spec.proofs.Tests.{same_eq}
+use Rattle.input.proofs.Rules.{null_length}
+use Rattle.text.proofs.Reading.{drop_take}
 
 -- a trim of the text
 pub cut_done : (f : List ℕ → List ℕ) (d : List ℕ) (len n : ℕ) → len ≤ length d → Trimmed (take len d) n (f (take len d)) → Written (length d) d n (cut f (take len d))
@@ -43,52 +46,20 @@ pub bang_none : (t : List ℕ) → ends_with (33 ∷ []) t ≡ false → escape_
 unfolding escape_trailing_bang
 bang_none t e = rw e
 
-abbrev banged : List ℕ → List ℕ
-banged t = take (length t - 1) t ++ (92 ∷ 33 ∷ [])
-
-pub bang_some : (t : List ℕ) → ends_with (33 ∷ []) t ≡ true → escape_trailing_bang t ≡ replace banged t
-unfolding escape_trailing_bang
-bang_some t e = rw e
-
-module _ (d : List ℕ) (len : ℕ) (h : len ≤ length d) (k : 1 ≤ len) where
-  banged_length : length (banged (take len d)) ≡ len + 1
-  banged_length =
-      omega (arith, length-append (take (length (take len d) - 1) (take len d)) (92 ∷ 33 ∷ []), length-take-le (length (take len d) - 1) (take len d) (omega arith), length-take-le len d h)
-
-  pub bang_full : len ≡ length d → Refused (length d) (replace banged (take len d))
-  unfolding replace
-  bang_full e = record { over = omega (arith, banged_length) }
-
-  pub bang_done : (len ≡ length d → ⊥) → Written (length d) (set (set d (len - 1) 92) len 33) (len + 1) (replace banged (take len d))
-  unfolding replace
-  bang_done ne =
-      let s : List ℕ = set d (len - 1) 92 in
-      let a : take (suc len) (set s len 33) ≡ take len s ++ (33 ∷ []) = take-suc-set s len 33 (omega (arith, length-set d (len - 1) 92)) in
-      let m : len ≡ suc (len - 1) = omega arith in
-      let b : take len s ≡ take (len - 1) d ++ (92 ∷ []) = ap (λ (j : ℕ). take j s) m ∙ take-suc-set d (len - 1) 92 (omega arith) in
-      let q : take (length (take len d) - 1) (take len d) ≡ take (len - 1) d =
-      ap (λ (j : ℕ). take (j - 1) (take len d)) (length-take-le len d h) ∙ take-take (len - 1) len d (omega arith) in
-      record {
-        long = length-set s len 33 ∙ length-set d (len - 1) 92;
-        fits = omega (arith, banged_length);
-        count = sym banged_length;
-        text_is = ap (λ (j : ℕ). take j (set s len 33)) (add-one len) ∙ a ∙ ap (λ (l : List ℕ). l ++ (33 ∷ [])) b ∙ append_assoc (take (len - 1) d) (92 ∷ []) (33 ∷ [])
-            ∙ ap (λ (l : List ℕ). l ++ (92 ∷ 33 ∷ [])) (sym q);
-      }
+-- a backslash is put before it
+pub bang_some : (t : List ℕ) → ends_with (33 ∷ []) t ≡ true → escape_trailing_bang t ≡ replace (λ u. take (length t - 1) u ++ (92 ∷ drop (length t - 1) u)) t
+unfolding escape_trailing_bang ends_with replace
+bang_some t e = let q : drop (length t - 1) t ≡ 33 ∷ [] = same_eq _ _ e in rw (e, q)
 
 -- ---- a blank between blocks
 
-pub space_none : (t : List ℕ) → length t ≡ 0 → push_block_space t ≡ keep t
+pub space_kept : (t : List ℕ) (n : ℕ) → n ≡ length t → (eqb n 0 || ends_with_white t) ≡ true → push_block_space t ≡ keep t
 unfolding push_block_space
-space_none t e = rw (null_none t e)
+space_kept t n l e = rw (null_length t, sym l, e)
 
-pub space_white : (t : List ℕ) → ends_with_white t ≡ true → push_block_space t ≡ keep t
+pub space_push : (t : List ℕ) (n : ℕ) → n ≡ length t → (eqb n 0 || ends_with_white t) ≡ false → push_block_space t ≡ push (32 ∷ []) t
 unfolding push_block_space
-space_white t e = rw (e, or-true)
-
-pub space_push : (t : List ℕ) → (length t ≡ 0 → ⊥) → ends_with_white t ≡ false → push_block_space t ≡ push (32 ∷ []) t
-unfolding push_block_space
-space_push t h e = rw (null_some t h, e)
+space_push t n l e = rw (null_length t, sym l, e)
 
 -- ---- white bytes at both ends
 

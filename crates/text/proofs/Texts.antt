@@ -66,7 +66,33 @@ puts {a} {b} {x} {s} {k} p q h e l n =
 pub full_for : {a : Text} (s : List ℕ) → length a.room.now - a.len < length s → WritesTo a a (Err (record {})) (push s)
 full_for {a} s h = record { room_is = refl; long = refl; writes = record { says = push_full a.room.now s a.len a.fits h } }
 
--- what a function that takes the memory and the length answers, as a step on the text
-pub as_written : {a b : Text} {r : Answer} {f : Step} → b.room.ghost_name ≡ a.room.ghost_name → length b.room.now ≡ length a.room.now
-    → Writes (length a.room.now) b.room.now (wrote b r) (f (bytes a)) → WritesTo a b r f
-as_written n l w = record { room_is = n; long = l; writes = w }
+-- it is done, or has no room, as the memory and the length say
+pub as_done : {a b : Text} {f : Step} → b.room.ghost_name ≡ a.room.ghost_name → Written (length a.room.now) b.room.now b.len (f (bytes a)) → WritesTo a b (Ok tt) f
+as_done n w = record { room_is = n; long = w.long; writes = record { says = w } }
+
+pub as_full : {a b : Text} {f : Step} → b.room.ghost_name ≡ a.room.ghost_name → length b.room.now ≡ length a.room.now → Refused (length a.room.now) (f (bytes a)) → WritesTo a b (Err (record {})) f
+as_full n l w = record { room_is = n; long = l; writes = record { says = w } }
+
+-- ---- what is left to be done: whoever writes `rest` on from b answers for `whole` from a
+pub record Owes (a b : Text) (rest whole : Step) : Type 0 where
+  pub goes : (c : Text) (r : Answer) → WritesTo b c r rest → WritesTo a c r whole
+
+-- at the beginning the whole is left
+pub owes_all : (a : Text) (f : Step) → Owes a a f f
+owes_all a f = record { goes = λ c r w. w }
+
+module _ {a b : Text} {rest whole : Step} (p : Owes a b rest whole) where
+  -- f was the next step, and g comes behind it
+  pub owes_step : {c : Text} {q : Answer} {u : Unit {0}} {f : Step} (g : Step) → rest (bytes b) ≡ and_then (f (bytes b)) g → q ≡ Ok u → WritesTo b c q f → Owes a c g whole
+  owes_step g e q w = record { goes = λ d r x. p.goes d r (as_step e (next q w x)) }
+
+  pub owes_stop : {c : Text} {q r : Answer} {x : Full} {f : Step} (g : Step) → rest (bytes b) ≡ and_then (f (bytes b)) g → q ≡ Err x → WritesTo b c q f → IsErr r → WritesTo a c r whole
+  owes_stop {c} {q} {r} g e q' w h = p.goes c r (as_step e (stop g q' w h))
+
+  -- the last step
+  pub owes_last : {c : Text} {r : Answer} {f : Step} → rest (bytes b) ≡ f (bytes b) → WritesTo b c r f → WritesTo a c r whole
+  owes_last {c} {r} e w = p.goes c r (as_step e w)
+
+  -- nothing is left
+  pub owes_none : rest (bytes b) ≡ keep (bytes b) → WritesTo a b (Ok tt) whole
+  owes_none e = owes_last e (kept b)

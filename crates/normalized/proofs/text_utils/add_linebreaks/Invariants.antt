@@ -1,7 +1,7 @@
-use Rattle.std.proofs.Common.{◌-◌, length, take}
+use Rattle.std.proofs.Common.{◌-◌, length}
 use Rattle.spec.specs.Md.TextUtils.{add_linebreaks, breaks_until}
-use Rattle.text.proofs.Writing.{Owes}
+use Rattle.text.proofs.Texts.{Owes}
 use Rattle.normalized.proofs.text_utils.add_linebreaks.Given as goal
 
 abbrev pub invariant-loop : goal.invariant-loop
-invariant-loop l = Owes (length l.initial.text) l.text l.n (breaks_until (length l.fn.end - l.counter) l.linebreak l.fn.end) (add_linebreaks l.linebreak l.fn.end (take l.len l.initial.text))
+invariant-loop l = Owes l.fn.text l.text (breaks_until (length l.fn.end - l.counter) l.linebreak l.fn.end) (add_linebreaks l.linebreak l.fn.end)

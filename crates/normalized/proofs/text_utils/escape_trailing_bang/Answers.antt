@@ -1,30 +1,27 @@
-use mathlib.Core.Path.{sym, ◌∙◌}
-use lib.ListN.{take}
+use Rattle.std.proofs.Common.{◌≡◌, ℕ, List, [], ◌∷◌, ◌++◌, ◌-◌, length, take, drop, sym, ap, ◌∙◌, arith}
 use lib.Seq.{length-take-le}
+use Rattle.spec.specs.Bytes.{ends_with}
+use Rattle.spec.specs.Out.{replace}
+use Rattle.text.specs.Texts.{bytes}
 use Rattle.text.proofs.Reading.{ends_some}
-use Rattle.text.proofs.Writing.{alike, keeps}
-use Rattle.text.proofs.Spaces.{bang_none, bang_some, bang_full, bang_done}
-use native.Mathlib.Omega.{arith}
+use Rattle.text.proofs.Spaces.{bang_none, bang_some}
+use Rattle.text.proofs.Texts.{as_step, kept}
 use Rattle.normalized.proofs.text_utils.escape_trailing_bang.Goals as goal
 
 pub returns-then-not-ends_with_byte : goal.returns-then-not-ends_with_byte
 returns-then-not-ends_with_byte c =
-    let a = c.args in
-    alike (bang_none (take a.len a.text.now) (sym c.ends_with_byte.ensures ∙ c.if-not-ends_with_byte.true)) (record { says = keeps a.text.now a.len c.requires })
-
-pub returns-then-len-text : goal.returns-then-len-text
-returns-then-len-text c =
-    let a = c.args in
-    let e = sym c.ends_with_byte.ensures ∙ c.if-not-ends_with_byte.false in
-    alike (bang_some (take a.len a.text.now) e) (record { says = bang_full a.text.now a.len c.requires (omega (arith, ends_some (take a.len a.text.now) 33 e, length-take-le a.len a.text.now c.requires)) c.if-len-text.true })
+    let a = c.args.text.now in
+    let e = ap (ends_with (33 ∷ [])) (sym c.bytes.ensures) ∙ sym c.ends_with_byte.ensures ∙ c.if-not-ends_with_byte.true in
+    as_step (bang_none (bytes a) e) (kept a)
 
 pub overflow_sub-text : goal.overflow_sub-text
 overflow_sub-text c =
-    let a = c.args in
-    omega (arith, ends_some (take a.len a.text.now) 33 (sym c.ends_with_byte.ensures ∙ c.if-not-ends_with_byte.false), length-take-le a.len a.text.now c.requires)
+    let a = c.args.text.now in
+    omega (arith, ends_some c.bytes.result.now 33 (sym c.ends_with_byte.ensures ∙ c.if-not-ends_with_byte.false), ap length c.bytes.ensures, length-take-le a.len a.room.now a.fits)
 
 pub returns : goal.returns
 returns c =
-    let a = c.args in
-    let e = sym c.ends_with_byte.ensures ∙ c.if-not-ends_with_byte.false in
-    alike (bang_some (take a.len a.text.now) e) (record { says = bang_done a.text.now a.len c.requires (omega (arith, ends_some (take a.len a.text.now) 33 e, length-take-le a.len a.text.now c.requires)) c.if-len-text.false })
+    let a = c.args.text.now in
+    let e = ap (ends_with (33 ∷ [])) (sym c.bytes.ensures) ∙ sym c.ends_with_byte.ensures ∙ c.if-not-ends_with_byte.false in
+    as_step (bang_some (bytes a) e ∙ ap (λ (k : ℕ). replace (λ (t : List ℕ). take (k - 1) t ++ (92 ∷ drop (k - 1) t)) (bytes a)) (length-take-le a.len a.room.now a.fits))
+    c.insert_byte.ensures

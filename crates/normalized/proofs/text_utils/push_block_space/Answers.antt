@@ -1,21 +1,20 @@
-use mathlib.Core.Path.{sym, ◌∙◌}
-use lib.ListN.{take}
+use Rattle.std.proofs.Common.{Bool, ◌||◌, ◌≡◌, true, false, ap, sym, ◌∙◌}
+use lib.Dec.{eqb}
 use lib.Seq.{length-take-le}
-use Rattle.text.proofs.Writing.{alike, keeps}
-use Rattle.text.proofs.Spaces.{space_none, space_white, space_push}
+use Rattle.text.specs.Texts.{bytes}
+use Rattle.spec.specs.Md.TextUtils.{ends_with_white}
+use Rattle.text.proofs.Spaces.{space_kept, space_push}
+use Rattle.text.proofs.Texts.{as_step, kept}
 use Rattle.normalized.proofs.text_utils.push_block_space.Goals as goal
 
-pub returns-then-len-eq0 : goal.returns-then-len-eq0
-returns-then-len-eq0 c =
-    let a = c.args in
-    alike (space_none (take a.len a.text.now) (length-take-le a.len a.text.now c.requires ∙ c.if-len-eq0.true)) (record { says = keeps a.text.now a.len c.requires })
-
-pub returns-then-ends_with_white : goal.returns-then-ends_with_white
-returns-then-ends_with_white c =
-    let a = c.args in
-    alike (space_white (take a.len a.text.now) (sym c.ends_with_white.ensures ∙ c.if-ends_with_white.true)) (record { says = keeps a.text.now a.len c.requires })
+pub returns-then-text-ends_with_white : goal.returns-then-text-ends_with_white
+returns-then-text-ends_with_white c =
+    let a = c.args.text.now in
+    let e = ap (λ (w : Bool). eqb a.len 0 || w) (ap ends_with_white (sym c.bytes.ensures) ∙ sym c.ends_with_white.ensures) ∙ c.if-text-ends_with_white.true in
+    as_step (space_kept (bytes a) a.len (sym (length-take-le a.len a.room.now a.fits)) e) (kept a)
 
 pub returns : goal.returns
 returns c =
-    let a = c.args in
-    alike (space_push (take a.len a.text.now) (λ q. c.if-len-eq0.false (sym (length-take-le a.len a.text.now c.requires) ∙ q)) (sym c.ends_with_white.ensures ∙ c.if-ends_with_white.false)) c.push_byte.ensures
+    let a = c.args.text.now in
+    let e = ap (λ (w : Bool). eqb a.len 0 || w) (ap ends_with_white (sym c.bytes.ensures) ∙ sym c.ends_with_white.ensures) ∙ c.if-text-ends_with_white.false in
+    as_step (space_push (bytes a) a.len (sym (length-take-le a.len a.room.now a.fits)) e) c.push_byte.ensures
