@@ -9,7 +9,7 @@ ghost use Rattle.spec.specs.Md.TextUtils.{trim_blanks};
 ghost use Rattle.spec.specs.Md.Elements.Code as def;
 ghost use Rattle.tree.specs.Memory.{parent_at};
 ghost use Rattle.tree.specs.Represents.{Rep, Around};
-ghost use Rattle.input.specs.Scans.{skip_list};
+ghost use Rattle.input.specs.Scans.{skip_of};
 ghost use Rattle.text.specs.Trimmed.{Trimmed, Skipped};
 ghost use Rattle.text.specs.Writes.{Writes};
 ghost use Rattle.elements.specs.Edges.{ended_by};
@@ -193,8 +193,7 @@ fn code_opts(opts: FormatOpts) -> FormatOpts
 // One line of code.
 fn inline_code(
     sheet: &[u8],
-    own: bool,
-    run: &[u8],
+    skip: Option<&[u8]>,
     nodes: &[u8],
     text: &mut [u8],
     len: usize,
@@ -202,17 +201,16 @@ fn inline_code(
     opts: FormatOpts,
 ) -> Wrote
     requires { SomeElement sheet.now nodes.now i × (len ≤ length text.old) }
-    ensures { (levels : ℕ) (name : Bytes) (attrs : List Attr) (kids : Forest) → ElementAt sheet.now nodes.now i name attrs kids → Writes (length text.old) text.new result (def.inline_code (serializer (tags_to_skip (skip_list own run.now)) levels) opts name attrs kids (take len text.old)) }
+    ensures { (levels : ℕ) (name : Bytes) (attrs : List Attr) (kids : Forest) → ElementAt sheet.now nodes.now i name attrs kids → Writes (length text.old) text.new result (def.inline_code (serializer (tags_to_skip (skip_of skip.entry)) levels) opts name attrs kids (take len text.old)) }
 {
     let inner = code_opts(opts);
-    let n = write_skip_md(sheet, own, run, nodes, &mut text[len..], 0, i, inner)?;
+    let n = write_skip_md(sheet, skip, nodes, &mut text[len..], 0, i, inner)?;
     push_trimmed_code(sheet, nodes, text, len, n, i)
 }
 
 pub fn write_code(
     sheet: &[u8],
-    own: bool,
-    run: &[u8],
+    skip: Option<&[u8]>,
     nodes: &[u8],
     text: &mut [u8],
     len: usize,
@@ -220,11 +218,11 @@ pub fn write_code(
     opts: FormatOpts,
 ) -> Wrote
     requires { Placed sheet.now nodes.now i × (len ≤ length text.old) }
-    ensures { (levels : ℕ) (name : Bytes) (attrs : List Attr) (kids : Forest) (anc : Ancestors) → ElementAt sheet.now nodes.now i name attrs kids → Around sheet.now nodes.now (parent_at nodes.now i) anc → Writes (length text.old) text.new result (def.write_code (serializer (tags_to_skip (skip_list own run.now)) levels) anc opts name attrs kids (take len text.old)) }
+    ensures { (levels : ℕ) (name : Bytes) (attrs : List Attr) (kids : Forest) (anc : Ancestors) → ElementAt sheet.now nodes.now i name attrs kids → Around sheet.now nodes.now (parent_at nodes.now i) anc → Writes (length text.old) text.new result (def.write_code (serializer (tags_to_skip (skip_of skip.entry)) levels) anc opts name attrs kids (take len text.old)) }
 {
     let to = node_end(nodes, i);
     if is_multiline(sheet, nodes, i + 1, to) {
         return write_pre(sheet, nodes, text, len, i, opts);
     }
-    inline_code(sheet, own, run, nodes, text, len, i, opts)
+    inline_code(sheet, skip, nodes, text, len, i, opts)
 }

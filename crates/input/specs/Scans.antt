@@ -1,5 +1,6 @@
 -- What the scan of a sheet's fields answers. Assumes nothing.
 use Rattle.std.specs.Prelude.{ℕ, suc, Bool, true, false, cond, not, ◌&&◌, List, [], ◌∷◌, length, eqb, leb, Option, None, Some}
+use Rattle.std.specs.Borrow.{Bor}
 use Rattle.spec.specs.Utf8.{is_utf8}
 use Rattle.spec.specs.Bytes.{Bytes, ascii, same, isin}
 use Rattle.spec.specs.Fields.{Field}
@@ -34,3 +35,8 @@ skip_name_of s = (leb 1 (length s) && leb (length s) 64) && is_utf8 s
 abbrev pub skip_list : Bool → Bytes → SkipList
 skip_list true run = own run
 skip_list false run = standard
+
+-- the same, for a run that is lent only where it is the skip list
+abbrev pub skip_of : Option (Bor Bytes) → SkipList
+skip_of (Some run) = own run.now
+skip_of None = standard

@@ -21,7 +21,7 @@ ghost use Rattle.spec.specs.Questions.{
   question9,
   refusal,
 };
-ghost use Rattle.input.specs.Scans.{length_right, field_right, scan_of, begins_node, count_after, opens_blockquote, skip_name_of, skip_list};
+ghost use Rattle.input.specs.Scans.{length_right, field_right, scan_of, begins_node, count_after, opens_blockquote, skip_name_of, skip_of};
 ghost use Rattle.input.specs.Sound.{refusal_of_sound};
 ghost use Rattle.input.specs.Refusals.{number_told};
 
@@ -217,10 +217,13 @@ fn holds_skip_names(s: &[u8]) -> bool
 }
 
 // 8: Is the skip list the default, or at most 16 whole tag-7 fields of 1 to 64 UTF-8 bytes each?
-pub fn is_skip_list(own: bool, run: &[u8]) -> bool
-    ensures { result ≡ question8 (skip_list own run.now) }
+pub fn is_skip_list(skip: Option<&[u8]>) -> bool
+    ensures { result ≡ question8 (skip_of skip.entry) }
 {
-    !own || (is_whole(run, SKIP, SKIP) && field_count(run) <= 16 && holds_skip_names(run))
+    match skip {
+        Some(run) => is_whole(run, SKIP, SKIP) && field_count(run) <= 16 && holds_skip_names(run),
+        None => true,
+    }
 }
 
 // 9: Has the node memory at least 64 bytes for each node?
@@ -241,12 +244,11 @@ fn require(yes: bool, or: Refusal) -> Result<(), Refusal>
 #[tactic(auto, unfolding(spec::specs::Questions::refusal, spec::specs::Questions::first_no))]
 fn refusal_in_order(
     sheet: &[u8],
-    own: bool,
-    run: &[u8],
+    skip: Option<&[u8]>,
     start: usize,
     memory: usize,
 ) -> Result<(), Refusal>
-    ensures { number_told result ≡ refusal sheet.now (skip_list own run.now) start memory }
+    ensures { number_told result ≡ refusal sheet.now (skip_of skip.entry) start memory }
 {
     require(is_short(sheet), Refusal::SheetLength)?;
     require(is_in_fields(sheet), Refusal::Fields)?;
@@ -255,7 +257,7 @@ fn refusal_in_order(
     require(is_within_limits(sheet), Refusal::Limits)?;
     require(has_no_blockquote(sheet), Refusal::Blockquote)?;
     require(is_node(sheet, start), Refusal::Start)?;
-    require(is_skip_list(own, run), Refusal::SkipList)?;
+    require(is_skip_list(skip), Refusal::SkipList)?;
     require(has_node_memory(sheet, memory), Refusal::NodeMemory)
 }
 
@@ -263,30 +265,28 @@ fn refusal_in_order(
 #[tactic(auto, unfolding(crate::specs::Sound::refusal_of_sound, spec::specs::Questions::first_no))]
 fn refusal_of_sound(
     count: usize,
-    own: bool,
-    run: &[u8],
+    skip: Option<&[u8]>,
     start: usize,
     memory: usize,
 ) -> Result<(), Refusal>
-    ensures { number_told result ≡ refusal_of_sound count (skip_list own run.now) start memory }
+    ensures { number_told result ≡ refusal_of_sound count (skip_of skip.entry) start memory }
 {
     require(start < count, Refusal::Start)?;
-    require(is_skip_list(own, run), Refusal::SkipList)?;
+    require(is_skip_list(skip), Refusal::SkipList)?;
     require(count <= memory / 64, Refusal::NodeMemory)
 }
 
 // The first question among 1 to 9 that says no.
 pub fn first_refusal(
     sheet: &[u8],
-    own: bool,
-    run: &[u8],
+    skip: Option<&[u8]>,
     start: usize,
     memory: usize,
 ) -> Result<(), Refusal>
-    ensures { number_told result ≡ refusal sheet.now (skip_list own run.now) start memory }
+    ensures { number_told result ≡ refusal sheet.now (skip_of skip.entry) start memory }
 {
     match sound_count(sheet) {
-        Some(count) => refusal_of_sound(count, own, run, start, memory),
-        None => refusal_in_order(sheet, own, run, start, memory),
+        Some(count) => refusal_of_sound(count, skip, start, memory),
+        None => refusal_in_order(sheet, skip, start, memory),
     }
 }

@@ -3,7 +3,7 @@ ghost use Rattle.std.specs.Prelude.{◌≡◌, ◌++◌, ◌-◌, ◌≤◌, ◌
 ghost use Rattle.spec.specs.Questions.{refusal};
 ghost use Rattle.spec.specs.Call.{written, answer_for};
 ghost use Rattle.spec.specs.Promise.{Promise};
-ghost use Rattle.input.specs.Scans.{skip_list};
+ghost use Rattle.input.specs.Scans.{skip_of};
 ghost use Rattle.text.specs.Writes.{Writes};
 ghost use Rattle.md.specs.Answer.{number_of, length_of, is_written, coded, coded_number, coded_length, flag};
 ghost use Rattle.md.specs.Started.{Started, Answered};
@@ -22,22 +22,20 @@ use tree::store::store_nodes;
 // What stands in the start node, and then the trim of the text.
 fn write_inside(
     sheet: &[u8],
-    own: bool,
-    run: &[u8],
+    skip: Option<&[u8]>,
     nodes: &mut [u8],
     text: &mut [u8],
     start: usize,
 ) -> Wrote
     requires { Started sheet.now nodes.old start }
-    ensures { Writes (length text.old) text.new result (written sheet.now (skip_list own run.now) start false) }
+    ensures { Writes (length text.old) text.new result (written sheet.now (skip_of skip.entry) start false) }
 {
     let first = start + 1;
     let end = node_end(nodes, start);
     let opts = FormatOpts::new();
     let n = write(
         sheet,
-        own,
-        run,
+        skip,
         nodes,
         text,
         0,
@@ -52,14 +50,13 @@ fn write_inside(
 // The start node with itself; the fragment has no text of its own.
 fn write_whole(
     sheet: &[u8],
-    own: bool,
-    run: &[u8],
+    skip: Option<&[u8]>,
     nodes: &mut [u8],
     text: &mut [u8],
     start: usize,
 ) -> Wrote
     requires { Started sheet.now nodes.old start }
-    ensures { Writes (length text.old) text.new result (written sheet.now (skip_list own run.now) start true) }
+    ensures { Writes (length text.old) text.new result (written sheet.now (skip_of skip.entry) start true) }
 {
     if start == 0 {
         return Ok(0);
@@ -67,26 +64,25 @@ fn write_whole(
     let to = node_end(nodes, start);
     let opts = FormatOpts::new().include_node();
     let bits = packed(opts);
-    write(sheet, own, run, nodes, text, 0, start, to, bits, 101)
+    write(sheet, skip, nodes, text, 0, start, to, bits, 101)
 }
 
 // serializer.rs, `serialize`: the text from the start node.
 fn serialize(
     sheet: &[u8],
-    own: bool,
-    run: &[u8],
+    skip: Option<&[u8]>,
     nodes: &mut [u8],
     text: &mut [u8],
     start: usize,
     include_node: bool,
 ) -> Wrote
     requires { Started sheet.now nodes.old start }
-    ensures { Writes (length text.old) text.new result (written sheet.now (skip_list own run.now) start include_node) }
+    ensures { Writes (length text.old) text.new result (written sheet.now (skip_of skip.entry) start include_node) }
 {
     if include_node {
-        return write_whole(sheet, own, run, nodes, text, start);
+        return write_whole(sheet, skip, nodes, text, start);
     }
-    write_inside(sheet, own, run, nodes, text, start)
+    write_inside(sheet, skip, nodes, text, start)
 }
 
 // Clears what stands behind a text of n bytes.
@@ -100,18 +96,17 @@ fn clear_behind(text: &mut [u8], n: usize)
 // The call, where questions 1 to 9 say yes.
 fn write_sheet(
     sheet: &[u8],
-    own: bool,
-    run: &[u8],
+    skip: Option<&[u8]>,
     start: usize,
     include_node: bool,
     nodes: &mut [u8],
     text: &mut [u8],
 ) -> Result<usize, Refusal>
-    requires { refusal sheet.now (skip_list own run.now) start (length nodes.old) ≡ 0 }
-    ensures { Answered (answer_for (written sheet.now (skip_list own run.now) start include_node) nodes.old text.old) result nodes.new text.new }
+    requires { refusal sheet.now (skip_of skip) start (length nodes.old) ≡ 0 }
+    ensures { Answered (answer_for (written sheet.now (skip_of skip.entry) start include_node) nodes.old text.old) result nodes.new text.new }
 {
     store_nodes(sheet, nodes);
-    match serialize(sheet, own, run, nodes, text, start, include_node) {
+    match serialize(sheet, skip, nodes, text, start, include_node) {
         Ok(n) => {
             clear(nodes);
             clear_behind(text, n);
@@ -130,18 +125,17 @@ fn write_sheet(
 // said no.
 pub fn serialize_md(
     sheet: &[u8],
-    own: bool,
-    run: &[u8],
+    skip: Option<&[u8]>,
     start: usize,
     include_node: bool,
     nodes: &mut [u8],
     text: &mut [u8],
 ) -> Result<usize, Refusal>
-    ensures promise { Promise sheet.now (skip_list own run.now) start include_node nodes.old text.old (number_of result) (length_of result) nodes.new text.new }
+    ensures promise { Promise sheet.now (skip_of skip.entry) start include_node nodes.old text.old (number_of result) (length_of result) nodes.new text.new }
     ensures told { is_written result ≡ eqb (number_of result) 0 }
 {
-    first_refusal(sheet, own, run, start, nodes.len())?;
-    write_sheet(sheet, own, run, start, include_node, nodes, text)
+    first_refusal(sheet, skip, start, nodes.len())?;
+    write_sheet(sheet, skip, start, include_node, nodes, text)
 }
 
 // An answer as one signed number.
@@ -169,6 +163,7 @@ pub extern "C" fn buzhnael_serialize_md(
 ) -> i64
     ensures { Promise sheet.now (skip_list (flag own) run.now) start (flag include_node) nodes.old text.old (coded_number result) (coded_length result) nodes.new text.new }
 {
-    let answer = serialize_md(sheet, own != 0, run, start, include_node != 0, nodes, text);
+    let skip = (own != 0).then_some(run);
+    let answer = serialize_md(sheet, skip, start, include_node != 0, nodes, text);
     code(answer)
 }

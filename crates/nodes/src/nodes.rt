@@ -9,7 +9,7 @@ ghost use Rattle.spec.specs.Md.Elements.Link.{has_element};
 ghost use Rattle.tree.specs.Memory.{place_at};
 ghost use Rattle.tree.specs.Represents.{Rep};
 ghost use Rattle.tree.specs.Nodes.{name_at, skipped_at};
-ghost use Rattle.input.specs.Scans.{skip_list};
+ghost use Rattle.input.specs.Scans.{skip_of};
 ghost use Rattle.text.specs.Writes.{Writes};
 ghost use Rattle.nodes.specs.Stands.{Siblings, NodeAt};
 ghost use Rattle.nodes.specs.TextStep.{text_step};
@@ -32,16 +32,16 @@ pub fn node_name(sheet: &[u8], nodes: &[u8], i: usize) -> usize
 }
 
 // Whether node i is an element that the skip list leaves out. The default list has no name that has a number.
-pub fn node_is_skipped(sheet: &[u8], own: bool, run: &[u8], nodes: &[u8], i: usize) -> bool
+pub fn node_is_skipped(sheet: &[u8], skip: Option<&[u8]>, nodes: &[u8], i: usize) -> bool
     requires { NodeAt sheet.now nodes.now i }
-    ensures { result ≡ skipped_at (tags_to_skip (skip_list own run.now)) sheet.now (place_at nodes.now i) }
+    ensures { result ≡ skipped_at (tags_to_skip (skip_of skip.entry)) sheet.now (place_at nodes.now i) }
 {
     let number = node_number(nodes, i);
-    if !own & (number != 0) {
+    if skip.is_none() && number != 0 {
         return false;
     }
     let place = node_place(nodes, i);
-    is_skipped(sheet, place, own, run)
+    is_skipped(sheet, place, skip)
 }
 
 // Whether one of the nodes from number `from` up to `to` is an element of this name.

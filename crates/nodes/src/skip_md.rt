@@ -7,7 +7,7 @@ ghost use Rattle.spec.specs.Out.{and_then};
 ghost use Rattle.spec.specs.Tree.{Attr, Forest, nothing, element};
 ghost use Rattle.spec.specs.Md.Elements.Code as def;
 ghost use Rattle.tree.specs.Memory.{end_at};
-ghost use Rattle.input.specs.Scans.{skip_list};
+ghost use Rattle.input.specs.Scans.{skip_of};
 ghost use Rattle.text.specs.Writes.{Writes};
 ghost use Rattle.nodes.specs.Spots.{below_spot, next_spot, spot_step};
 ghost use Rattle.nodes.specs.Stands.{NodeAt, ElementAt, SomeElement};
@@ -75,12 +75,12 @@ fn write_spot(
 }
 
 // The place behind a node that follows in the open element: in it, if it is an element that is not left out.
-fn below_spot(sheet: &[u8], own: bool, run: &[u8], nodes: &[u8], open: usize, at: usize) -> Spot
+fn below_spot(sheet: &[u8], skip: Option<&[u8]>, nodes: &[u8], open: usize, at: usize) -> Spot
     requires { NodeAt sheet.now nodes.now at }
-    ensures { result ≡ below_spot (tags_to_skip (skip_list own run.now)) sheet.now nodes.now «open» at }
+    ensures { result ≡ below_spot (tags_to_skip (skip_of skip.entry)) sheet.now nodes.now «open» at }
 {
     let place = node_place(nodes, at);
-    if is_skipped(sheet, place, own, run) {
+    if is_skipped(sheet, place, skip) {
         return Spot {
             open,
             at: node_end(nodes, at),
@@ -98,18 +98,17 @@ fn below_spot(sheet: &[u8], own: bool, run: &[u8], nodes: &[u8], open: usize, at
 // The next place. Behind the end of node `top` no element is open, which is node 0.
 fn next_spot(
     sheet: &[u8],
-    own: bool,
-    run: &[u8],
+    skip: Option<&[u8]>,
     nodes: &[u8],
     top: usize,
     open: usize,
     at: usize,
 ) -> Spot
     requires { NodeAt sheet.now nodes.now «open» × (at < end_at nodes.now «open» → NodeAt sheet.now nodes.now at) }
-    ensures { result ≡ next_spot (tags_to_skip (skip_list own run.now)) sheet.now nodes.now top «open» at }
+    ensures { result ≡ next_spot (tags_to_skip (skip_of skip.entry)) sheet.now nodes.now top «open» at }
 {
     if at < node_end(nodes, open) {
-        return below_spot(sheet, own, run, nodes, open, at);
+        return below_spot(sheet, skip, nodes, open, at);
     }
     if open == top {
         return Spot { open: 0, at };
@@ -123,8 +122,7 @@ fn next_spot(
 // What stands in the element at node i, and its close.
 fn write_open_skip_md(
     sheet: &[u8],
-    own: bool,
-    run: &[u8],
+    skip: Option<&[u8]>,
     nodes: &[u8],
     text: &mut [u8],
     len: usize,
@@ -132,14 +130,14 @@ fn write_open_skip_md(
     opts: FormatOpts,
 ) -> Wrote
     requires { SomeElement sheet.now nodes.now i × (len ≤ length text.old) }
-    ensures { (name : Bytes) (attrs : List Attr) (kids : Forest) → ElementAt sheet.now nodes.now i name attrs kids → Writes (length text.old) text.new result (and_then (def.write_skip_md (tags_to_skip (skip_list own run.now)) opts kids (take len text.old)) (def.close_skip_md (tag_of name))) }
+    ensures { (name : Bytes) (attrs : List Attr) (kids : Forest) → ElementAt sheet.now nodes.now i name attrs kids → Writes (length text.old) text.new result (and_then (def.write_skip_md (tags_to_skip (skip_of skip.entry)) opts kids (take len text.old)) (def.close_skip_md (tag_of name))) }
 {
     let mut n = len;
     let mut open = i;
     let mut at = i + 1;
     while open != 0 {
         n = write_spot(sheet, nodes, text, n, open, at, opts)?;
-        let next = next_spot(sheet, own, run, nodes, i, open, at);
+        let next = next_spot(sheet, skip, nodes, i, open, at);
         open = next.open;
         at = next.at;
     }
@@ -149,8 +147,7 @@ fn write_open_skip_md(
 // The element at node i under skip_md.
 pub fn write_skip_md(
     sheet: &[u8],
-    own: bool,
-    run: &[u8],
+    skip: Option<&[u8]>,
     nodes: &[u8],
     text: &mut [u8],
     len: usize,
@@ -158,11 +155,11 @@ pub fn write_skip_md(
     opts: FormatOpts,
 ) -> Wrote
     requires { SomeElement sheet.now nodes.now i × (len ≤ length text.old) }
-    ensures { (name : Bytes) (attrs : List Attr) (kids : Forest) → ElementAt sheet.now nodes.now i name attrs kids → Writes (length text.old) text.new result (def.write_skip_md (tags_to_skip (skip_list own run.now)) opts (element name attrs kids nothing) (take len text.old)) }
+    ensures { (name : Bytes) (attrs : List Attr) (kids : Forest) → ElementAt sheet.now nodes.now i name attrs kids → Writes (length text.old) text.new result (def.write_skip_md (tags_to_skip (skip_of skip.entry)) opts (element name attrs kids nothing) (take len text.old)) }
 {
     let place = node_place(nodes, i);
-    if is_skipped(sheet, place, own, run) {
+    if is_skipped(sheet, place, skip) {
         return Ok(len);
     }
-    write_open_skip_md(sheet, own, run, nodes, text, len, i, opts)
+    write_open_skip_md(sheet, skip, nodes, text, len, i, opts)
 }

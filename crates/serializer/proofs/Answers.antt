@@ -13,10 +13,11 @@ use Rattle.spec.specs.Md.Serializer.{serializer, write_at}
 use Rattle.spec.specs.declared.ctx.FormatOpts.{FormatOpts}
 use Rattle.tree.specs.Memory.{end_at, parent_at}
 use Rattle.tree.specs.Represents.{Around}
-use Rattle.input.specs.Scans.{skip_list}
+use Rattle.input.specs.Scans.{skip_of}
 use Rattle.text.specs.Writes.{Writes}
 use Rattle.text.specs.Writes.{Wrote, no_room}
-use Rattle.std.specs.Prelude.{Ok, Err}
+use Rattle.std.specs.Prelude.{Ok, Err, Option}
+use Rattle.std.specs.Borrow.{Bor}
 use Rattle.std.specs.Result.{IsErr}
 use Rattle.text.proofs.Temporary.{lent, back, temp_full, temp_fits}
 use Rattle.text.proofs.Writing.{done, full, reaches, owes_all, owes_step, owes_stop, owes_last, stops}
@@ -42,12 +43,12 @@ module _ {sh ns : Bytes} {i : ℕ} {step : Ancestors → Bytes → List Attr →
   written-reaches = reaches (done q (w.for p.0.0 p.0.1 p.0.2 p.1.0 p.0.3 p.1.1))
 
 -- what stands below an element is written by the serializer's `below`
-pub below-wrote : (own : Bool) (run : Bytes) (levels : ℕ) (opts : FormatOpts) {sh ns : Bytes} {i d room : ℕ} {t after : Bytes} {r : Wrote}
+pub below-wrote : (skip : Option (Bor Bytes)) (levels : ℕ) (opts : FormatOpts) {sh ns : Bytes} {i d room : ℕ} {t after : Bytes} {r : Wrote}
     {name : Bytes} {attrs : List Attr} {kids : Forest} (anc : Ancestors) → ElementAt sh ns i name attrs kids → Around sh ns (parent_at ns i) anc → d ≡ end_at ns i
-    → WritesForest sh ns (i + 1) d (λ anc f. write_at (tags_to_skip (skip_list own run)) levels anc opts f) t room after r
-    → Writes room after r ((self_at own run levels).below (attrs ∷ anc) opts kids t)
+    → WritesForest sh ns (i + 1) d (λ anc f. write_at (tags_to_skip (skip_of skip)) levels anc opts f) t room after r
+    → Writes room after r ((self_at skip levels).below (attrs ∷ anc) opts kids t)
 unfolding serializer
-below-wrote own run levels opts {sh} {ns} {i} {name = name} {attrs} {kids} anc x a q w = w.for i kids (attrs ∷ anc) (element_kids x q) (around_it anc x a)
+below-wrote skip levels opts {sh} {ns} {i} {name = name} {attrs} {kids} anc x a q w = w.for i kids (attrs ∷ anc) (element_kids x q) (around_it anc x a)
 
 -- two steps one after the other
 module _ (text : Bytes) (len : ℕ) (h : len ≤ length text) (whole f g : Step) (e : whole (take len text) ≡ and_then (f (take len text)) g)

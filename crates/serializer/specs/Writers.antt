@@ -10,18 +10,19 @@ use Rattle.spec.specs.Md.Elements.List.{Progress}
 use Rattle.spec.specs.declared.ctx.FormatOpts.{FormatOpts}
 use Rattle.spec.specs.declared.ctx.ListContext.{ListContext}
 use Rattle.tree.specs.Memory.{parent_at}
-use Rattle.input.specs.Scans.{skip_list}
+use Rattle.input.specs.Scans.{skip_of}
 use Rattle.tree.specs.Represents.{Rep, Around}
 use Rattle.text.specs.Writes.{Written, Refused, Writes}
 use Rattle.text.specs.Writes.{Wrote}
-use Rattle.std.specs.Prelude.{Result, Ok, Err}
+use Rattle.std.specs.Prelude.{Result, Ok, Err, Option}
+use Rattle.std.specs.Borrow.{Bor}
 use Rattle.text.specs.declared.buffer.Full.{Full}
 use Rattle.nodes.specs.Stands.{ElementAt}
 use Rattle.serializer.specs.declared.progress.Going.{Going}
 
 -- the serializer of a call, with so many levels below
-abbrev pub self_at : Bool → Bytes → ℕ → MDSerializer
-self_at own run levels = serializer (tags_to_skip (skip_list own run)) levels
+abbrev pub self_at : Option (Bor Bytes) → ℕ → MDSerializer
+self_at skip levels = serializer (tags_to_skip (skip_of skip)) levels
 
 -- a text of len bytes in the text memory, and a sheet that passes question 1
 abbrev pub Ready : Bytes → Bytes → ℕ → Type 0

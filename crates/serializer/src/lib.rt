@@ -18,7 +18,7 @@ ghost use Rattle.spec.specs.Md.Elements.List.{item_child, item_children, list_ch
 ghost use Rattle.tree.specs.Memory.{Kept, place_at, end_at, parent_at};
 ghost use Rattle.tree.specs.Nodes.{name_at};
 ghost use Rattle.tree.specs.Represents.{Around};
-ghost use Rattle.input.specs.Scans.{skip_list};
+ghost use Rattle.input.specs.Scans.{skip_of};
 ghost use Rattle.lists_links.specs.Items.{item_of};
 ghost use Rattle.text.specs.Writes.{Writes};
 ghost use Rattle.serializer.specs.ListStep.{list_head, inline_step, led_step, body_step};
@@ -64,8 +64,7 @@ pub mod texts;
 #[cycle(writers)]
 pub fn write(
     sheet: &[u8],
-    own: bool,
-    run: &[u8],
+    skip: Option<&[u8]>,
     nodes: &mut [u8],
     text: &mut [u8],
     len: usize,
@@ -76,7 +75,7 @@ pub fn write(
 ) -> Wrote
     requires { Placeds sheet.now nodes.old from to × Ready sheet.now text.old len × Fits (def.unpacked bits) levels }
     ensures kept { Kept from to nodes.old nodes.new }
-    ensures writes_forest { WritesForest sheet.now nodes.old from to (λ anc f. write_at (tags_to_skip (skip_list own run.now)) levels anc (def.unpacked bits) f) (take len text.old) (length text.old) text.new result }
+    ensures writes_forest { WritesForest sheet.now nodes.old from to (λ anc f. write_at (tags_to_skip (skip_of skip.entry)) levels anc (def.unpacked bits) f) (take len text.old) (length text.old) text.new result }
 {
     if levels == 0 {
         return Ok(len);
@@ -84,7 +83,7 @@ pub fn write(
     let mut at = from;
     let mut end = len;
     while at < to {
-        end = node(sheet, own, run, nodes, text, end, at, bits, levels - 1)?;
+        end = node(sheet, skip, nodes, text, end, at, bits, levels - 1)?;
         at = node_end(nodes, at);
     }
     Ok(end)
@@ -94,8 +93,7 @@ pub fn write(
 #[cycle(writers)]
 fn siblings(
     sheet: &[u8],
-    own: bool,
-    run: &[u8],
+    skip: Option<&[u8]>,
     nodes: &mut [u8],
     text: &mut [u8],
     len: usize,
@@ -106,21 +104,20 @@ fn siblings(
 ) -> Wrote
     requires { Placeds sheet.now nodes.old from to × Ready sheet.now text.old len × Fits (def.unpacked bits) levels }
     ensures kept { Kept from to nodes.old nodes.new }
-    ensures writes_forest { WritesForest sheet.now nodes.old from to (λ anc f. write_at (tags_to_skip (skip_list own run.now)) levels anc (def.unpacked bits) f) (take len text.old) (length text.old) text.new result }
+    ensures writes_forest { WritesForest sheet.now nodes.old from to (λ anc f. write_at (tags_to_skip (skip_of skip.entry)) levels anc (def.unpacked bits) f) (take len text.old) (length text.old) text.new result }
 {
     if (levels != 0) & is_one_text(sheet, nodes, from, to) {
         let opts = unpacked(bits);
         return write_text_node(sheet, nodes, text, len, from, opts);
     }
-    write(sheet, own, run, nodes, text, len, from, to, bits, levels)
+    write(sheet, skip, nodes, text, len, from, to, bits, levels)
 }
 
 // One node, with itself.
 #[cycle(writers)]
 fn node(
     sheet: &[u8],
-    own: bool,
-    run: &[u8],
+    skip: Option<&[u8]>,
     nodes: &mut [u8],
     text: &mut [u8],
     len: usize,
@@ -130,27 +127,26 @@ fn node(
 ) -> Wrote
     requires { PlacedNode sheet.now nodes.old at × Ready sheet.now text.old len × Fits (def.unpacked bits) (levels + 1) }
     ensures kept { Kept at (end_at nodes.old at) nodes.old nodes.new }
-    ensures writes_forest { WritesForest sheet.now nodes.old at (end_at nodes.old at) (λ anc f. write_nodes (self_at own run.now levels) anc (def.unpacked bits) f) (take len text.old) (length text.old) text.new result }
+    ensures writes_forest { WritesForest sheet.now nodes.old at (end_at nodes.old at) (λ anc f. write_nodes (self_at skip.entry levels) anc (def.unpacked bits) f) (take len text.old) (length text.old) text.new result }
 {
     let place = node_place(nodes, at);
     if tag_at(sheet, place) != 1 {
         let opts = unpacked(bits);
         return write_text_node(sheet, nodes, text, len, at, opts);
     }
-    if node_is_skipped(sheet, own, run, nodes, at) {
+    if node_is_skipped(sheet, skip, nodes, at) {
         return Ok(len);
     }
     let opts = unpacked(bits);
     let n = opened(sheet, nodes, text, len, at, opts)?;
-    inside(sheet, own, run, nodes, text, n, at, bits, levels)
+    inside(sheet, skip, nodes, text, n, at, bits, levels)
 }
 
 // What stands in an element that is opened, and its close.
 #[cycle(writers)]
 fn inside(
     sheet: &[u8],
-    own: bool,
-    run: &[u8],
+    skip: Option<&[u8]>,
     nodes: &mut [u8],
     text: &mut [u8],
     len: usize,
@@ -160,7 +156,7 @@ fn inside(
 ) -> Wrote
     requires { Placed sheet.now nodes.old at × Ready sheet.now text.old len × Fits (def.unpacked bits) (levels + 1) }
     ensures kept { Kept at (end_at nodes.old at) nodes.old nodes.new }
-    ensures writes_element { WritesElement sheet.now nodes.old at (λ anc name attrs kids. in_element (self_at own run.now levels) anc (def.unpacked bits) name attrs kids) (take len text.old) (length text.old) text.new result }
+    ensures writes_element { WritesElement sheet.now nodes.old at (λ anc name attrs kids. in_element (self_at skip.entry levels) anc (def.unpacked bits) name attrs kids) (take len text.old) (length text.old) text.new result }
 {
     let name = node_name(sheet, nodes, at);
     let flags = unpacked(bits);
@@ -168,12 +164,12 @@ fn inside(
         // lists and tables, and the others: of two calls the compiler takes none into `write`, so that a level without a
         // writer needs no frame for them
         if name < 21 {
-            return write_element(sheet, own, run, nodes, text, len, at, name, bits, levels);
+            return write_element(sheet, skip, nodes, text, len, at, name, bits, levels);
         }
-        return write_element(sheet, own, run, nodes, text, len, at, name, bits, levels);
+        return write_element(sheet, skip, nodes, text, len, at, name, bits, levels);
     }
     let to = node_end(nodes, at);
-    let n = siblings(sheet, own, run, nodes, text, len, at + 1, to, bits, levels)?;
+    let n = siblings(sheet, skip, nodes, text, len, at + 1, to, bits, levels)?;
     closed(text, n, name, unpacked(bits))
 }
 
@@ -181,8 +177,7 @@ fn inside(
 #[cycle(writers)]
 fn write_element(
     sheet: &[u8],
-    own: bool,
-    run: &[u8],
+    skip: Option<&[u8]>,
     nodes: &mut [u8],
     text: &mut [u8],
     len: usize,
@@ -193,14 +188,14 @@ fn write_element(
 ) -> Wrote
     requires { Placed sheet.now nodes.old at × (name ≡ name_at sheet.now (place_at nodes.old at)) × Ready sheet.now text.old len × Fits (def.unpacked bits) (levels + 1) }
     ensures kept { Kept at (end_at nodes.old at) nodes.old nodes.new }
-    ensures writes_element { WritesElement sheet.now nodes.old at (λ anc name attrs kids. write_element (self_at own run.now levels) anc (def.unpacked bits) name attrs kids) (take len text.old) (length text.old) text.new result }
+    ensures writes_element { WritesElement sheet.now nodes.old at (λ anc name attrs kids. write_element (self_at skip.entry levels) anc (def.unpacked bits) name attrs kids) (take len text.old) (length text.old) text.new result }
 {
     let opts = unpacked(bits);
     if is_list(name) {
-        return write_list(sheet, own, run, nodes, text, len, at, name, opts, levels);
+        return write_list(sheet, skip, nodes, text, len, at, name, opts, levels);
     }
     if name == 21 {
-        return write_link(sheet, own, run, nodes, text, len, at, opts, levels);
+        return write_link(sheet, skip, nodes, text, len, at, opts, levels);
     }
     if name == 22 {
         let place = node_place(nodes, at);
@@ -210,20 +205,19 @@ fn write_element(
         return write_pre(sheet, nodes, text, len, at, opts);
     }
     if name == 14 {
-        return write_table(sheet, own, run, nodes, text, len, at, opts, levels);
+        return write_table(sheet, skip, nodes, text, len, at, opts, levels);
     }
     if name == 24 {
-        return write_code(sheet, own, run, nodes, text, len, at, opts);
+        return write_code(sheet, skip, nodes, text, len, at, opts);
     }
-    write_emphasis(sheet, own, run, nodes, text, len, at, name, opts, levels)
+    write_emphasis(sheet, skip, nodes, text, len, at, name, opts, levels)
 }
 
 // The children of an element, and then the trim of the whole text.
 #[cycle(writers)]
 fn kids(
     sheet: &[u8],
-    own: bool,
-    run: &[u8],
+    skip: Option<&[u8]>,
     nodes: &mut [u8],
     text: &mut [u8],
     len: usize,
@@ -233,14 +227,14 @@ fn kids(
 ) -> Wrote
     requires { Placed sheet.now nodes.old at × Ready sheet.now text.old len × Fits (def.unpacked bits) levels }
     ensures kept { Kept at (end_at nodes.old at) nodes.old nodes.new }
-    ensures writes_element { WritesElement sheet.now nodes.old at (λ anc name attrs kids. write_kids (self_at own run.now levels) anc (def.unpacked bits) (element name attrs kids nothing)) (take len text.old) (length text.old) text.new result }
+    ensures writes_element { WritesElement sheet.now nodes.old at (λ anc name attrs kids. write_kids (self_at skip.entry levels) anc (def.unpacked bits) (element name attrs kids nothing)) (take len text.old) (length text.old) text.new result }
 {
     let to = node_end(nodes, at);
     if (levels != 0) & is_one_text(sheet, nodes, at + 1, to) {
         let opts = unpacked(bits);
         return trim_behind_text(sheet, nodes, text, len, at + 1, opts);
     }
-    let n = write(sheet, own, run, nodes, text, len, at + 1, to, bits, levels)?;
+    let n = write(sheet, skip, nodes, text, len, at + 1, to, bits, levels)?;
     Ok(trim_space(text, n))
 }
 
@@ -248,8 +242,7 @@ fn kids(
 #[cycle(writers)]
 fn write_emphasis(
     sheet: &[u8],
-    own: bool,
-    run: &[u8],
+    skip: Option<&[u8]>,
     nodes: &mut [u8],
     text: &mut [u8],
     len: usize,
@@ -260,14 +253,13 @@ fn write_emphasis(
 ) -> Wrote
     requires { Placed sheet.now nodes.old at × (name ≡ name_at sheet.now (place_at nodes.old at)) × Ready sheet.now text.old len × Fits opts (levels + 1) }
     ensures kept { Kept at (end_at nodes.old at) nodes.old nodes.new }
-    ensures writes_element { WritesElement sheet.now nodes.old at (λ anc name attrs kids. write_emphasis (self_at own run.now levels) anc opts (tag_of name) attrs kids) (take len text.old) (length text.old) text.new result }
+    ensures writes_element { WritesElement sheet.now nodes.old at (λ anc name attrs kids. write_emphasis (self_at skip.entry levels) anc opts (tag_of name) attrs kids) (take len text.old) (length text.old) text.new result }
 {
     let to = node_end(nodes, at);
     let inner = emphasis_opts(name, opts);
     let n = write(
         sheet,
-        own,
-        run,
+        skip,
         nodes,
         &mut text[len..],
         0,
@@ -283,8 +275,7 @@ fn write_emphasis(
 #[cycle(writers)]
 fn write_link(
     sheet: &[u8],
-    own: bool,
-    run: &[u8],
+    skip: Option<&[u8]>,
     nodes: &mut [u8],
     text: &mut [u8],
     len: usize,
@@ -294,15 +285,15 @@ fn write_link(
 ) -> Wrote
     requires { Placed sheet.now nodes.old at × Ready sheet.now text.old len × Fits opts (levels + 1) }
     ensures kept { Kept at (end_at nodes.old at) nodes.old nodes.new }
-    ensures writes_element { WritesElement sheet.now nodes.old at (λ anc name attrs kids. write_link (self_at own run.now levels) anc opts name attrs kids) (take len text.old) (length text.old) text.new result }
+    ensures writes_element { WritesElement sheet.now nodes.old at (λ anc name attrs kids. write_link (self_at skip.entry levels) anc opts name attrs kids) (take len text.old) (length text.old) text.new result }
 {
     let place = node_place(nodes, at);
     let fresh = opts.fresh();
     match attribute(sheet, place, b"href") {
-        Some(dest) => link(sheet, own, run, nodes, text, len, at, dest, opts, levels),
+        Some(dest) => link(sheet, skip, nodes, text, len, at, dest, opts, levels),
         None => {
             let bits = packed(fresh);
-            kids(sheet, own, run, nodes, text, len, at, bits, levels)
+            kids(sheet, skip, nodes, text, len, at, bits, levels)
         }
     }
 }
@@ -311,8 +302,7 @@ fn write_link(
 #[cycle(writers)]
 fn link(
     sheet: &[u8],
-    own: bool,
-    run: &[u8],
+    skip: Option<&[u8]>,
     nodes: &mut [u8],
     text: &mut [u8],
     len: usize,
@@ -323,15 +313,14 @@ fn link(
 ) -> Wrote
     requires { Placed sheet.now nodes.old at × Ready sheet.now text.old len × Fits opts (levels + 1) × (length dest.now ≤ 1048576) }
     ensures kept { Kept at (end_at nodes.old at) nodes.old nodes.new }
-    ensures writes_element { WritesElement sheet.now nodes.old at (λ anc name attrs kids. link_to (self_at own run.now levels) anc opts dest.now name attrs kids) (take len text.old) (length text.old) text.new result }
+    ensures writes_element { WritesElement sheet.now nodes.old at (λ anc name attrs kids. link_to (self_at skip.entry levels) anc opts dest.now name attrs kids) (take len text.old) (length text.old) text.new result }
 {
     let end = node_end(nodes, at);
     let fresh = opts.fresh();
     if has_element(sheet, nodes, at + 1, end, 22) {
         return body(
             sheet,
-            own,
-            run,
+            skip,
             nodes,
             text,
             len,
@@ -344,7 +333,7 @@ fn link(
     let plain = fresh.include_node().skip_escape();
     let n = write_text(sheet, nodes, &mut text[len..], 0, at + 1, end, plain)?;
     if n == 0 {
-        body(sheet, own, run, nodes, text, len, at, dest, fresh, levels)
+        body(sheet, skip, nodes, text, len, at, dest, fresh, levels)
     } else {
         let place = node_place(nodes, at);
         push_text_link(sheet, text, len, n, place, dest, opts)
@@ -355,8 +344,7 @@ fn link(
 #[cycle(writers)]
 fn body(
     sheet: &[u8],
-    own: bool,
-    run: &[u8],
+    skip: Option<&[u8]>,
     nodes: &mut [u8],
     text: &mut [u8],
     len: usize,
@@ -367,14 +355,13 @@ fn body(
 ) -> Wrote
     requires { Placed sheet.now nodes.old at × Ready sheet.now text.old len × Fits opts levels × (length dest.now ≤ 1048576) }
     ensures kept { Kept at (end_at nodes.old at) nodes.old nodes.new }
-    ensures writes_element { WritesElement sheet.now nodes.old at (λ anc name attrs kids. link_of attrs dest.now (write_kids (self_at own run.now levels) anc opts (element name attrs kids nothing) []) push) (take len text.old) (length text.old) text.new result }
+    ensures writes_element { WritesElement sheet.now nodes.old at (λ anc name attrs kids. link_of attrs dest.now (write_kids (self_at skip.entry levels) anc opts (element name attrs kids nothing) []) push) (take len text.old) (length text.old) text.new result }
 {
     let place = node_place(nodes, at);
     let bits = packed(opts);
     let n = kids(
         sheet,
-        own,
-        run,
+        skip,
         nodes,
         &mut text[len..],
         0,
@@ -389,8 +376,7 @@ fn body(
 #[cycle(writers)]
 fn write_list(
     sheet: &[u8],
-    own: bool,
-    run: &[u8],
+    skip: Option<&[u8]>,
     nodes: &mut [u8],
     text: &mut [u8],
     len: usize,
@@ -401,13 +387,13 @@ fn write_list(
 ) -> Wrote
     requires { Placed sheet.now nodes.old at × (name ≡ name_at sheet.now (place_at nodes.old at)) × Ready sheet.now text.old len × Fits opts (levels + 1) }
     ensures kept { Kept at (end_at nodes.old at) nodes.old nodes.new }
-    ensures writes_element { WritesElement sheet.now nodes.old at (λ anc name attrs kids. write_list (self_at own run.now levels) anc opts (tag_of name) attrs kids) (take len text.old) (length text.old) text.new result }
+    ensures writes_element { WritesElement sheet.now nodes.old at (λ anc name attrs kids. write_list (self_at skip.entry levels) anc opts (tag_of name) attrs kids) (take len text.old) (length text.old) text.new result }
 {
     let place = node_place(nodes, at);
     let kind = kind_of(sheet, place, name);
     let to = node_end(nodes, at);
     let ctx = ListContext::new(opts, kind);
-    let n = items(sheet, own, run, nodes, text, len, at + 1, to, ctx, levels)?;
+    let n = items(sheet, skip, nodes, text, len, at + 1, to, ctx, levels)?;
     end_list(text, n, opts)
 }
 
@@ -415,8 +401,7 @@ fn write_list(
 #[cycle(writers)]
 fn items(
     sheet: &[u8],
-    own: bool,
-    run: &[u8],
+    skip: Option<&[u8]>,
     nodes: &mut [u8],
     text: &mut [u8],
     len: usize,
@@ -427,7 +412,7 @@ fn items(
 ) -> Wrote
     requires { Placeds sheet.now nodes.old from to × Ready sheet.now text.old len × FitsIn first levels }
     ensures kept { Kept from to nodes.old nodes.new }
-    ensures writes_forest { WritesForest sheet.now nodes.old from to (λ anc f. list_children (self_at own run.now levels) anc f first) (take len text.old) (length text.old) text.new result }
+    ensures writes_forest { WritesForest sheet.now nodes.old from to (λ anc f. list_children (self_at skip.entry levels) anc f first) (take len text.old) (length text.old) text.new result }
 {
     let mut ctx = first;
     let mut end = len;
@@ -436,7 +421,7 @@ fn items(
         let place = node_place(nodes, c);
         let li = node_name(sheet, nodes, c) == 16;
         ctx = renumbered(sheet, place, li, ctx);
-        end = item(sheet, own, run, nodes, text, end, c, li, &mut ctx, levels)?;
+        end = item(sheet, skip, nodes, text, end, c, li, &mut ctx, levels)?;
         c = node_end(nodes, c);
     }
     Ok(end)
@@ -446,8 +431,7 @@ fn items(
 #[cycle(writers)]
 fn item(
     sheet: &[u8],
-    own: bool,
-    run: &[u8],
+    skip: Option<&[u8]>,
     nodes: &mut [u8],
     text: &mut [u8],
     len: usize,
@@ -458,7 +442,7 @@ fn item(
 ) -> Wrote
     requires { PlacedNode sheet.now nodes.old c × (li ≡ eqb (name_at sheet.now (place_at nodes.old c)) 16) × Ready sheet.now text.old len × FitsIn ctx.old levels }
     ensures kept { Kept c (end_at nodes.old c) nodes.old nodes.new }
-    ensures writes_forest { WritesForest sheet.now nodes.old c (end_at nodes.old c) (λ anc f. list_head (self_at own run.now levels) anc f ctx.old) (take len text.old) (length text.old) text.new result }
+    ensures writes_forest { WritesForest sheet.now nodes.old c (end_at nodes.old c) (λ anc f. list_head (self_at skip.entry levels) anc f ctx.old) (take len text.old) (length text.old) text.new result }
     ensures ctx_value { ctx.new ≡ cond li (advance_ol_number ctx.old) ctx.old }
 {
     let to = node_end(nodes, c);
@@ -467,8 +451,7 @@ fn item(
         let inner = opts.fresh().include_node();
         return write(
             sheet,
-            own,
-            run,
+            skip,
             nodes,
             text,
             len,
@@ -479,17 +462,16 @@ fn item(
         );
     }
     if has_blocks(sheet, nodes, c + 1, to) {
-        return blocks(sheet, own, run, nodes, text, len, c, ctx, levels);
+        return blocks(sheet, skip, nodes, text, len, c, ctx, levels);
     }
-    flat(sheet, own, run, nodes, text, len, c, ctx, levels)
+    flat(sheet, skip, nodes, text, len, c, ctx, levels)
 }
 
 // An item without blocks: `write_list_item` of elements/list.rs.
 #[cycle(writers)]
 fn flat(
     sheet: &[u8],
-    own: bool,
-    run: &[u8],
+    skip: Option<&[u8]>,
     nodes: &mut [u8],
     text: &mut [u8],
     len: usize,
@@ -499,14 +481,14 @@ fn flat(
 ) -> Wrote
     requires { Placed sheet.now nodes.old c × Ready sheet.now text.old len × FitsIn ctx.old levels }
     ensures kept { Kept c (end_at nodes.old c) nodes.old nodes.new }
-    ensures writes_element { WritesElement sheet.now nodes.old c (λ anc name attrs kids. write_list_item (self_at own run.now levels) anc (element name attrs kids nothing) ctx.old) (take len text.old) (length text.old) text.new result }
+    ensures writes_element { WritesElement sheet.now nodes.old c (λ anc name attrs kids. write_list_item (self_at skip.entry levels) anc (element name attrs kids nothing) ctx.old) (take len text.old) (length text.old) text.new result }
     ensures ctx_value { ctx.new ≡ advance_ol_number ctx.old }
 {
     let n = write_list_item(text, len, ctx)?;
     let opts = ctx.opts;
     let inner = opts.list_item();
     let bits = packed(inner);
-    let m = kids(sheet, own, run, nodes, text, n, c, bits, levels)?;
+    let m = kids(sheet, skip, nodes, text, n, c, bits, levels)?;
     push_linebreak(text, m, opts.table_cell)
 }
 
@@ -514,8 +496,7 @@ fn flat(
 #[cycle(writers)]
 fn blocks(
     sheet: &[u8],
-    own: bool,
-    run: &[u8],
+    skip: Option<&[u8]>,
     nodes: &mut [u8],
     text: &mut [u8],
     len: usize,
@@ -525,7 +506,7 @@ fn blocks(
 ) -> Wrote
     requires { Placed sheet.now nodes.old c × Ready sheet.now text.old len × FitsIn ctx.old levels }
     ensures kept { Kept c (end_at nodes.old c) nodes.old nodes.new }
-    ensures writes_element { WritesElement sheet.now nodes.old c (λ anc name attrs kids. write_list_item_blocks (self_at own run.now levels) anc attrs kids ctx.old) (take len text.old) (length text.old) text.new result }
+    ensures writes_element { WritesElement sheet.now nodes.old c (λ anc name attrs kids. write_list_item_blocks (self_at skip.entry levels) anc attrs kids ctx.old) (take len text.old) (length text.old) text.new result }
     ensures ctx_value { ctx.new ≡ advance_ol_number ctx.old }
 {
     let to = node_end(nodes, c);
@@ -537,7 +518,7 @@ fn blocks(
         first: true,
         due: false,
     };
-    let end = children(sheet, own, run, nodes, text, c + 1, to, item, begun, levels)?;
+    let end = children(sheet, skip, nodes, text, c + 1, to, item, begun, levels)?;
     end_item(text, end.len, item)
 }
 
@@ -545,8 +526,7 @@ fn blocks(
 #[cycle(writers)]
 fn children(
     sheet: &[u8],
-    own: bool,
-    run: &[u8],
+    skip: Option<&[u8]>,
     nodes: &mut [u8],
     text: &mut [u8],
     from: usize,
@@ -557,12 +537,12 @@ fn children(
 ) -> Result<Going, Full>
     requires { Placeds sheet.now nodes.old from to × Ready sheet.now text.old before.len × FitsIn item.ctx levels }
     ensures kept { Kept from to nodes.old nodes.new }
-    ensures goes_forest { GoesForest sheet.now nodes.old from to (λ anc f. item_children (self_at own run.now levels) anc f (item_of item) (progress_of before text.old)) (length text.old) text.new result }
+    ensures goes_forest { GoesForest sheet.now nodes.old from to (λ anc f. item_children (self_at skip.entry levels) anc f (item_of item) (progress_of before text.old)) (length text.old) text.new result }
 {
     let mut going = before;
     let mut c = from;
     while c < to {
-        going = child(sheet, own, run, nodes, text, c, to, item, going, levels)?;
+        going = child(sheet, skip, nodes, text, c, to, item, going, levels)?;
         c = node_end(nodes, c);
     }
     Ok(going)
@@ -572,8 +552,7 @@ fn children(
 #[cycle(writers)]
 fn child(
     sheet: &[u8],
-    own: bool,
-    run: &[u8],
+    skip: Option<&[u8]>,
     nodes: &mut [u8],
     text: &mut [u8],
     c: usize,
@@ -584,22 +563,21 @@ fn child(
 ) -> Result<Going, Full>
     requires { PlacedNode sheet.now nodes.old c × (end_at nodes.old c ≤ to) × Ready sheet.now text.old before.len × FitsIn item.ctx levels }
     ensures kept { Kept c (end_at nodes.old c) nodes.old nodes.new }
-    ensures goes_forest { GoesForest sheet.now nodes.old c (end_at nodes.old c) (λ anc f. item_children (self_at own run.now levels) anc f (item_of item) (progress_of before text.old)) (length text.old) text.new result }
+    ensures goes_forest { GoesForest sheet.now nodes.old c (end_at nodes.old c) (λ anc f. item_children (self_at skip.entry levels) anc f (item_of item) (progress_of before text.old)) (length text.old) text.new result }
 {
     let place = node_place(nodes, c);
     let tag = tag_at(sheet, place);
     if (tag != 4) & (tag != 1) {
         return Ok(before);
     }
-    if node_is_skipped(sheet, own, run, nodes, c) {
+    if node_is_skipped(sheet, skip, nodes, c) {
         return Ok(before);
     }
     if node_is_block_wrapper(sheet, nodes, c) {
         let end = node_end(nodes, c);
         return children(
             sheet,
-            own,
-            run,
+            skip,
             nodes,
             text,
             c + 1,
@@ -610,15 +588,14 @@ fn child(
         );
     }
     let blank = is_blank_text(sheet, place);
-    alone(sheet, own, run, nodes, text, c, blank, item, before, levels)
+    alone(sheet, skip, nodes, text, c, blank, item, before, levels)
 }
 
 // A child of an item that is no wrapper; `blank` says that it is a blank text.
 #[cycle(writers)]
 fn alone(
     sheet: &[u8],
-    own: bool,
-    run: &[u8],
+    skip: Option<&[u8]>,
     nodes: &mut [u8],
     text: &mut [u8],
     c: usize,
@@ -629,7 +606,7 @@ fn alone(
 ) -> Result<Going, Full>
     requires { PlacedNode sheet.now nodes.old c × Ready sheet.now text.old before.len × FitsIn item.ctx levels }
     ensures kept { Kept c (end_at nodes.old c) nodes.old nodes.new }
-    ensures goes_forest { GoesForest sheet.now nodes.old c (end_at nodes.old c) (λ anc f. item_child (self_at own run.now levels) anc f blank (item_of item) (progress_of before text.old)) (length text.old) text.new result }
+    ensures goes_forest { GoesForest sheet.now nodes.old c (end_at nodes.old c) (λ anc f. item_child (self_at skip.entry levels) anc f blank (item_of item) (progress_of before text.old)) (length text.old) text.new result }
 {
     let name = node_name(sheet, nodes, c);
     let line = before.due & !((name == 23) | blank);
@@ -640,10 +617,10 @@ fn alone(
         due: before.due & !line,
     };
     if node_is_list_item_block(name) {
-        return block(sheet, own, run, nodes, text, c, name, item, going, levels);
+        return block(sheet, skip, nodes, text, c, name, item, going, levels);
     }
     let m = inline(
-        sheet, own, run, nodes, text, n, c, name, blank, item, levels,
+        sheet, skip, nodes, text, n, c, name, blank, item, levels,
     )?;
     Ok(Going { len: m, ..going })
 }
@@ -652,8 +629,7 @@ fn alone(
 #[cycle(writers)]
 fn inline(
     sheet: &[u8],
-    own: bool,
-    run: &[u8],
+    skip: Option<&[u8]>,
     nodes: &mut [u8],
     text: &mut [u8],
     len: usize,
@@ -665,7 +641,7 @@ fn inline(
 ) -> Wrote
     requires { PlacedNode sheet.now nodes.old c × (name ≡ name_at sheet.now (place_at nodes.old c)) × Ready sheet.now text.old len × FitsIn item.ctx levels }
     ensures kept { Kept c (end_at nodes.old c) nodes.old nodes.new }
-    ensures writes_forest { WritesForest sheet.now nodes.old c (end_at nodes.old c) (λ anc f. inline_step (self_at own run.now levels) anc f blank (item_of item)) (take len text.old) (length text.old) text.new result }
+    ensures writes_forest { WritesForest sheet.now nodes.old c (end_at nodes.old c) (λ anc f. inline_step (self_at skip.entry levels) anc f blank (item_of item)) (take len text.old) (length text.old) text.new result }
 {
     let to = node_end(nodes, c);
     let opts = item.ctx.opts;
@@ -673,8 +649,7 @@ fn inline(
     let n = push_inline_lead(text, len, item, blank)?;
     write(
         sheet,
-        own,
-        run,
+        skip,
         nodes,
         text,
         n,
@@ -689,8 +664,7 @@ fn inline(
 #[cycle(writers)]
 fn block(
     sheet: &[u8],
-    own: bool,
-    run: &[u8],
+    skip: Option<&[u8]>,
     nodes: &mut [u8],
     text: &mut [u8],
     c: usize,
@@ -701,15 +675,14 @@ fn block(
 ) -> Result<Going, Full>
     requires { Placed sheet.now nodes.old c × (name ≡ name_at sheet.now (place_at nodes.old c)) × Ready sheet.now text.old before.len × FitsIn item.ctx levels }
     ensures kept { Kept c (end_at nodes.old c) nodes.old nodes.new }
-    ensures goes_element { GoesElement sheet.now nodes.old c (λ anc name attrs kids. block_child (self_at own run.now levels) anc (element name attrs kids nothing) (item_of item) (progress_of before text.old)) (length text.old) text.new result }
+    ensures goes_element { GoesElement sheet.now nodes.old c (λ anc name attrs kids. block_child (self_at skip.entry levels) anc (element name attrs kids nothing) (item_of item) (progress_of before text.old)) (length text.old) text.new result }
 {
     if name == 15 {
         return rule_block(text, item, before);
     }
     let n = led(
         sheet,
-        own,
-        run,
+        skip,
         nodes,
         text,
         before.len,
@@ -730,8 +703,7 @@ fn block(
 #[cycle(writers)]
 fn led(
     sheet: &[u8],
-    own: bool,
-    run: &[u8],
+    skip: Option<&[u8]>,
     nodes: &mut [u8],
     text: &mut [u8],
     len: usize,
@@ -743,10 +715,10 @@ fn led(
 ) -> Wrote
     requires { Placed sheet.now nodes.old c × (name ≡ name_at sheet.now (place_at nodes.old c)) × Ready sheet.now text.old len × FitsIn item.ctx levels }
     ensures kept { Kept c (end_at nodes.old c) nodes.old nodes.new }
-    ensures writes_element { WritesElement sheet.now nodes.old c (λ anc name attrs kids. led_step (self_at own run.now levels) anc (element name attrs kids nothing) (item_of item) first) (take len text.old) (length text.old) text.new result }
+    ensures writes_element { WritesElement sheet.now nodes.old c (λ anc name attrs kids. led_step (self_at skip.entry levels) anc (element name attrs kids nothing) (item_of item) first) (take len text.old) (length text.old) text.new result }
 {
     let n = push_block_lead(text, len, item, first, name == 23)?;
-    let m = flow(sheet, own, run, nodes, text, n, c, name, item, levels)?;
+    let m = flow(sheet, skip, nodes, text, n, c, name, item, levels)?;
     push_linebreak(text, m, item.ctx.opts.table_cell)
 }
 
@@ -754,8 +726,7 @@ fn led(
 #[cycle(writers)]
 fn flow(
     sheet: &[u8],
-    own: bool,
-    run: &[u8],
+    skip: Option<&[u8]>,
     nodes: &mut [u8],
     text: &mut [u8],
     len: usize,
@@ -766,16 +737,16 @@ fn flow(
 ) -> Wrote
     requires { Placed sheet.now nodes.old c × (name ≡ name_at sheet.now (place_at nodes.old c)) × Ready sheet.now text.old len × FitsIn item.ctx levels }
     ensures kept { Kept c (end_at nodes.old c) nodes.old nodes.new }
-    ensures writes_element { WritesElement sheet.now nodes.old c (λ anc name attrs kids. body_step (self_at own run.now levels) anc (element name attrs kids nothing) (item_of item)) (take len text.old) (length text.old) text.new result }
+    ensures writes_element { WritesElement sheet.now nodes.old c (λ anc name attrs kids. body_step (self_at skip.entry levels) anc (element name attrs kids nothing) (item_of item)) (take len text.old) (length text.old) text.new result }
 {
     if name == 23 {
-        return indented(sheet, own, run, nodes, text, len, c, item, levels);
+        return indented(sheet, skip, nodes, text, len, c, item, levels);
     }
     let opts = item.ctx.opts;
     let n = push_heading_prefix(text, len, name)?;
     let inner = opts.list_item();
     let bits = packed(inner);
-    let m = kids(sheet, own, run, nodes, text, n, c, bits, levels)?;
+    let m = kids(sheet, skip, nodes, text, n, c, bits, levels)?;
     end_flow(text, m, name, item)
 }
 
@@ -783,8 +754,7 @@ fn flow(
 #[cycle(writers)]
 fn indented(
     sheet: &[u8],
-    own: bool,
-    run: &[u8],
+    skip: Option<&[u8]>,
     nodes: &mut [u8],
     text: &mut [u8],
     len: usize,
@@ -794,15 +764,14 @@ fn indented(
 ) -> Wrote
     requires { Placed sheet.now nodes.old c × Ready sheet.now text.old len × FitsIn item.ctx levels }
     ensures kept { Kept c (end_at nodes.old c) nodes.old nodes.new }
-    ensures writes_element { WritesElement sheet.now nodes.old c (λ anc name attrs kids. write_list_item_indented (self_at own run.now levels) anc (element name attrs kids nothing) (item_of item)) (take len text.old) (length text.old) text.new result }
+    ensures writes_element { WritesElement sheet.now nodes.old c (λ anc name attrs kids. write_list_item_indented (self_at skip.entry levels) anc (element name attrs kids nothing) (item_of item)) (take len text.old) (length text.old) text.new result }
 {
     let to = node_end(nodes, c);
     let opts = item.ctx.opts;
     let inner = opts.include_node();
     let n = write(
         sheet,
-        own,
-        run,
+        skip,
         nodes,
         &mut text[len..],
         0,
@@ -818,8 +787,7 @@ fn indented(
 #[cycle(writers)]
 fn write_table(
     sheet: &[u8],
-    own: bool,
-    run: &[u8],
+    skip: Option<&[u8]>,
     nodes: &mut [u8],
     text: &mut [u8],
     len: usize,
@@ -829,16 +797,16 @@ fn write_table(
 ) -> Wrote
     requires { Placed sheet.now nodes.old at × Ready sheet.now text.old len × Fits opts (levels + 1) }
     ensures kept { Kept at (end_at nodes.old at) nodes.old nodes.new }
-    ensures writes_element { WritesElement sheet.now nodes.old at (λ anc name attrs kids. write_table (self_at own run.now levels) anc opts name attrs kids) (take len text.old) (length text.old) text.new result }
+    ensures writes_element { WritesElement sheet.now nodes.old at (λ anc name attrs kids. write_table (self_at skip.entry levels) anc opts name attrs kids) (take len text.old) (length text.old) text.new result }
 {
     let to = node_end(nodes, at);
     let first = next_filled_row(sheet, nodes, at + 1, to);
     let fresh = opts.fresh();
     if !is_table_node_writable(sheet, nodes, at + 1, to, first) {
         let bits = packed(fresh);
-        return kids(sheet, own, run, nodes, text, len, at, bits, levels);
+        return kids(sheet, skip, nodes, text, len, at, bits, levels);
     }
-    let end = cells(sheet, own, run, nodes, text, len, first, to, opts, levels)?;
+    let end = cells(sheet, skip, nodes, text, len, first, to, opts, levels)?;
     push_table(sheet, nodes, text, len, end - len, first, to)
 }
 
@@ -846,8 +814,7 @@ fn write_table(
 #[cycle(writers)]
 fn cells(
     sheet: &[u8],
-    own: bool,
-    run: &[u8],
+    skip: Option<&[u8]>,
     nodes: &mut [u8],
     text: &mut [u8],
     len: usize,
@@ -858,12 +825,12 @@ fn cells(
 ) -> Wrote
     requires { SomeRows sheet.now nodes.old from to × ((j : ℕ) → from ≤ j → j < to → end_at nodes.old j ≤ to) × Ready sheet.now text.old len × Fits opts (levels + 1) }
     ensures kept { Kept from to nodes.old nodes.new }
-    ensures rows_writes { (rows : List (List Cell)) → Rows sheet.now nodes.old from to rows → RowsWrites (length text.old) text.new (table_lengths sheet.now nodes.new from to) result (rows_texts (self_at own run.now levels) opts rows) (take len text.old) }
+    ensures rows_writes { (rows : List (List Cell)) → Rows sheet.now nodes.old from to rows → RowsWrites (length text.old) text.new (table_lengths sheet.now nodes.new from to) result (rows_texts (self_at skip.entry levels) opts rows) (take len text.old) }
 {
     let mut end = len;
     let mut r = next_row(sheet, nodes, from, to);
     while r < to {
-        end = row(sheet, own, run, nodes, text, end, r, opts, levels)?;
+        end = row(sheet, skip, nodes, text, end, r, opts, levels)?;
         r = next_row(sheet, nodes, r + 1, to);
     }
     Ok(end)
@@ -873,8 +840,7 @@ fn cells(
 #[cycle(writers)]
 fn row(
     sheet: &[u8],
-    own: bool,
-    run: &[u8],
+    skip: Option<&[u8]>,
     nodes: &mut [u8],
     text: &mut [u8],
     len: usize,
@@ -884,13 +850,13 @@ fn row(
 ) -> Wrote
     requires { SomeRow sheet.now nodes.old tr × Ready sheet.now text.old len × Fits opts (levels + 1) }
     ensures kept { Kept (tr + 1) (end_at nodes.old tr) nodes.old nodes.new }
-    ensures row_writes { (cells : List Cell) → RowAt sheet.now nodes.old tr cells → RowWrites (length text.old) text.new (row_lengths sheet.now nodes.new tr) result (row_texts (self_at own run.now levels) opts cells) (take len text.old) }
+    ensures row_writes { (cells : List Cell) → RowAt sheet.now nodes.old tr cells → RowWrites (length text.old) text.new (row_lengths sheet.now nodes.new tr) result (row_texts (self_at skip.entry levels) opts cells) (take len text.old) }
 {
     let to = node_end(nodes, tr);
     let mut end = len;
     let mut c = next_cell(sheet, nodes, tr + 1, to);
     while c < to {
-        let n = cell(sheet, own, run, nodes, &mut text[end..], c, opts, levels)?;
+        let n = cell(sheet, skip, nodes, &mut text[end..], c, opts, levels)?;
         store_span(nodes, c, end, n);
         end += n;
         let after = node_end(nodes, c);
@@ -903,8 +869,7 @@ fn row(
 #[cycle(writers)]
 fn cell(
     sheet: &[u8],
-    own: bool,
-    run: &[u8],
+    skip: Option<&[u8]>,
     nodes: &mut [u8],
     text: &mut [u8],
     c: usize,
@@ -913,11 +878,11 @@ fn cell(
 ) -> Wrote
     requires { Placed sheet.now nodes.old c × (length sheet.now ≤ 1048576) × Fits opts (levels + 1) }
     ensures kept { Kept c (end_at nodes.old c) nodes.old nodes.new }
-    ensures writes { (name : Bytes) (attrs : List Attr) (kids : Forest) (anc : Ancestors) (th : Bool) → ElementAt sheet.now nodes.old c name attrs kids → Around sheet.now nodes.old (parent_at nodes.old c) anc → Writes (length text.old) text.new result (cell_text (self_at own run.now levels) opts (record { ancestors = anc; is_th = th; node = element name attrs kids nothing })) }
+    ensures writes { (name : Bytes) (attrs : List Attr) (kids : Forest) (anc : Ancestors) (th : Bool) → ElementAt sheet.now nodes.old c name attrs kids → Around sheet.now nodes.old (parent_at nodes.old c) anc → Writes (length text.old) text.new result (cell_text (self_at skip.entry levels) opts (record { ancestors = anc; is_th = th; node = element name attrs kids nothing })) }
 {
     let inner = opts.fresh().table_cell();
     let bits = packed(inner);
-    let n = kids(sheet, own, run, nodes, text, 0, c, bits, levels)?;
+    let n = kids(sheet, skip, nodes, text, 0, c, bits, levels)?;
     let k = trim_trailing_cell_break(&text[..n]);
     escape_table_cell_inplace(text, k)
 }

@@ -1,38 +1,53 @@
 -- A name among the bytes of a run's fields, from field to field, and the number of a name. Assumes nothing.
-use Prim.Native.Nat.{ℕ, suc, ◌+◌, ◌-◌, ◌<◌, ◌≤◌}
+use Prim.Native.Nat.{ℕ, zero, suc, ◌+◌, ◌-◌, ◌<◌, ◌≤◌}
 use mathlib.Core.Path.{◌≡◌, refl, ap, ◌∙◌, sym}
 use native.Mathlib.Omega.{arith}
-use mathlib.Core.Bool.{Bool, true, false, cond, ◌&&◌, ◌||◌}
+use mathlib.Core.Bool.{Bool, true, false, cond, ◌&&◌, ◌||◌, or-true}
 use mathlib.Core.List.{List, [], ◌∷◌}
 use lib.ListN.{length, get_or, drop}
 use lib.Dec.{eqb, eqb-suc-suc}
 use borrow.Author.Tests.{ne_eqb}
 use Rattle.spec.specs.Bytes.{Bytes, same, among}
-use Rattle.spec.specs.Fields.{fields}
+use Rattle.spec.specs.Fields.{Field, fields}
 use Rattle.spec.specs.Names.{place, names, tag_of}
 use Rattle.spec.specs.Call.{bodies}
 use Rattle.spec.specs.Md.Constants.{DEFAULT_SKIP_TAGS}
-use Rattle.input.specs.Spans.{span_at, field_of}
-use Rattle.input.specs.declared.fields.Span.{Span}
-use Rattle.input.proofs.Walking.{span_fields}
-use Rattle.input.proofs.Every.{none_left}
+use denote.Param.Members.{Mut, Called}
+use Rattle.std.proofs.lemmas.Iterator.{cases_from_any}
+use Rattle.std.specs.Bool.{MatchBool}
+use Rattle.std.specs.Iterator.{YieldsFirstBy, ChecksAny}
+use Rattle.std.specs.List.{AllWithin, HoldsAt}
+use Rattle.input.specs.Fields.{field, fields_left}
+use Rattle.input.specs.declared.fields.Fields.{Fields}
+use Rattle.input.specs.declared.fields.Field as code
+use Rattle.input.proofs.Splitting.{fields_from_run}
 use Rattle.std.proofs.lemmas.Bool.Decides.{nat_tests}
 
-module _ (x run : Bytes) (p : ℕ) (so_far : among x (bodies (fields run)) ≡ among x (bodies (fields (drop p run)))) where
-  module _ (r : Span) (h : p + 3 ≤ length run) (r-is : r ≡ span_at run p) where
-    among_step : among x (bodies (fields run)) ≡ (same x (field_of run r).body || among x (bodies (fields (drop r.end run))))
-    unfolding among bodies
-    among_step = so_far ∙ rw (r-is, span_fields run p h)
+-- ---- the answer of `any` over the fields of a run, where the closure compares each with a name
 
-    pub among_here : same x (field_of run r).body ≡ true → true ≡ among x (bodies (fields run))
-    among_here e = sym (among_step ∙ rw e)
+among_some : (x : Bytes) (fs : List Field) (k : ℕ) → k < length fs → HoldsAt (λ f. same x f.body ≡ true) fs k → true ≡ among x (bodies fs)
+unfolding among bodies
+among_some x [] k h e = absurd (omega arith)
+among_some x (f ∷ fs) zero h e = rw (e f) refl
+among_some x (f ∷ fs) (suc k) h e = rw (sym (among_some x fs k (omega arith) (λ d. e d)), or-true) refl
 
-    pub among_on : same x (field_of run r).body ≡ false → among x (bodies (fields run)) ≡ among x (bodies (fields (drop r.end run)))
-    among_on e = among_step ∙ rw e
+among_none : (x : Bytes) (fs : List Field) → AllWithin (λ f. same x f.body ≡ false) fs 0 (length fs) → false ≡ among x (bodies fs)
+unfolding among bodies
+among_none x [] h = refl
+among_none x (f ∷ fs) h = rw (h 0 f (omega arith) (omega arith)) (among_none x fs (λ k d l m. h (suc k) d (omega arith) (omega arith)))
 
-  pub among_none : length run - p < 3 → false ≡ among x (bodies (fields run))
-  unfolding among bodies
-  among_none h = sym (so_far ∙ rw (none_left run p h))
+among_cases : (x : Bytes) (fs : List Field) (r : Bool)
+    → MatchBool r ((k : ℕ) × (k < length fs) × HoldsAt (λ f. same x f.body ≡ true) fs k) (AllWithin (λ f. same x f.body ≡ false) fs 0 (length fs)) → r ≡ among x (bodies fs)
+among_cases x fs true h = among_some x fs h.0 h.1 h.2
+among_cases x fs false h = among_none x fs h
+
+pub among_from_any : {F : Type 0} {g : Mut F (code.Field × Unit {0}) Bool} (x run : Bytes) (u : Fields) {i : Fields} {f : F} {r : Bool}
+    → ChecksAny (YieldsFirstBy field fields_left) g i f r u → fields_left i ≡ fields run
+    → ((y : code.Field) (b : Bool) (k : F) → Called g f (y, tt) b k → (k ≡ f) × (b ≡ same x (field y).body)) → r ≡ among x (bodies (fields run))
+among_from_any x run u {i} {f} {r} ran e closure =
+    among_cases x (fields run) r
+    (cases_from_any u f r (λ y. same x y.body ≡ true) (λ y. same x y.body ≡ false) ran (fields_from_run i run e)
+    (λ y k t. sym (closure y true k t).1) (λ y k t. let h = closure y false k t in (h.0, sym h.1)))
 
 -- ---- whether names are the same, by their lengths and their bytes
 

@@ -10,7 +10,7 @@ use Rattle.spec.specs.Names.{names, place, tag_of}
 use Rattle.spec.specs.Call.{tags_to_skip}
 use Rattle.spec.specs.Md.Constants.{DEFAULT_SKIP_TAGS}
 use Rattle.tree.specs.Nodes.{body_at, name_at, skipped_at}
-use Rattle.input.specs.Scans.{skip_list}
+use Rattle.spec.specs.Questions.{standard}
 use Rattle.spec.proofs.Tests.{same_eq}
 
 -- none of these names has a number
@@ -35,10 +35,10 @@ is_false : (b : Bool) → (b ≡ true → ⊥) → b ≡ false
 is_false true n = absurd (n refl)
 is_false false n = refl
 
-pub unskipped : (sh run : Bytes) (p : ℕ) (own : Bool) → (own ≡ false) → (name_at sh p ≡ 0 → ⊥) → false ≡ skipped_at (tags_to_skip (skip_list own run)) sh p
+pub unskipped : (sh : Bytes) (p : ℕ) → (name_at sh p ≡ 0 → ⊥) → false ≡ skipped_at (tags_to_skip standard) sh p
 unfolding name_at skipped_at tags_to_skip
-unskipped sh run p own o n =
-    rw o (sym (is_false (eqb (get_or sh p 0) 1 && among (body_at sh p) DEFAULT_SKIP_TAGS) (λ e. n (go (eqb (get_or sh p 0) 1) e))))
+unskipped sh p n =
+    (sym (is_false (eqb (get_or sh p 0) 1 && among (body_at sh p) DEFAULT_SKIP_TAGS) (λ e. n (go (eqb (get_or sh p 0) 1) e))))
   where
     go : (t : Bool) → (t && among (body_at sh p) DEFAULT_SKIP_TAGS) ≡ true → cond t (tag_of (body_at sh p)) 0 ≡ 0
     go true e = numberless (body_at sh p) DEFAULT_SKIP_TAGS default_numberless e

@@ -5,26 +5,18 @@ ghost use Rattle.spec.specs.Bytes.{among};
 ghost use Rattle.spec.specs.Names.{tag_of};
 ghost use Rattle.spec.specs.Call.{bodies, tags_to_skip};
 ghost use Rattle.spec.specs.Md.Constants.{DEFAULT_SKIP_TAGS};
-ghost use Rattle.input.specs.Scans.{skip_list};
+ghost use Rattle.input.specs.Scans.{skip_of};
 ghost use Rattle.tree.specs.Nodes.{name_at, skipped_at};
 ghost use Rattle.tree.specs.Names.{number_of, Numbers};
 
 use crate::tags::OPEN;
-use input::fields::{is_same, span_at};
+use input::fields::{Fields, is_same, span_at};
 
 // Whether a name is one of the bytes of a run's fields.
 fn has_name(run: &[u8], name: &[u8]) -> bool
     ensures { result ≡ among name.now (bodies (fields run.now)) }
 {
-    let mut p = 0;
-    while 3 <= run.len() - p {
-        let f = span_at(run, p);
-        if is_same(name, &run[f.start..f.end]) {
-            return true;
-        }
-        p = f.end;
-    }
-    false
+    Fields::new(run).any(|f| is_same(name, f.body))
 }
 
 // The element names that the writers know, by the numbers under which nodes store them; `Other` is every other name.
@@ -168,13 +160,12 @@ fn is_default_skip_tag(name: &[u8]) -> bool
 
 // Whether a name is one of the skip list.
 #[tactic(auto, unfolding(spec::specs::Call::tags_to_skip))]
-fn is_skip_tag(own: bool, run: &[u8], name: &[u8]) -> bool
-    ensures { result ≡ among name.now (tags_to_skip (skip_list own run.now)) }
+fn is_skip_tag(skip: Option<&[u8]>, name: &[u8]) -> bool
+    ensures { result ≡ among name.now (tags_to_skip (skip_of skip.entry)) }
 {
-    if own {
-        has_name(run, name)
-    } else {
-        is_default_skip_tag(name)
+    match skip {
+        Some(run) => has_name(run, name),
+        None => is_default_skip_tag(name),
     }
 }
 
@@ -193,10 +184,10 @@ pub fn name_at(sheet: &[u8], place: usize) -> usize
 
 // Whether that node is an element that the skip list leaves out.
 #[tactic(auto, using(crate::proofs::Access::no_element, crate::proofs::Access::its_skip))]
-pub fn is_skipped(sheet: &[u8], place: usize, own: bool, run: &[u8]) -> bool
+pub fn is_skipped(sheet: &[u8], place: usize, skip: Option<&[u8]>) -> bool
     requires { place + 3 ≤ length sheet.now }
-    ensures { result ≡ skipped_at (tags_to_skip (skip_list own run.now)) sheet.now place }
+    ensures { result ≡ skipped_at (tags_to_skip (skip_of skip.entry)) sheet.now place }
 {
     let f = span_at(sheet, place);
-    f.tag == OPEN && is_skip_tag(own, run, &sheet[f.start..f.end])
+    f.tag == OPEN && is_skip_tag(skip, &sheet[f.start..f.end])
 }

@@ -5,7 +5,7 @@ use Rattle.elements.proofs.Nesting.{back_text}
 use Rattle.elements.specs.EmphasisStep.{emphasis_step}
 use Rattle.elements.specs.ItemStep.{ended_list}
 use Rattle.elements.specs.LinkStep.{link_step, text_link_step}
-use Rattle.input.specs.Scans.{skip_list}
+use Rattle.input.specs.Scans.{skip_of}
 use Rattle.tree.proofs.Values.{part_short}
 use Rattle.lists_links.specs.Items.{item_of, ended_item}
 use Rattle.nodes.proofs.Interrupts.{element_kids, element_name}
@@ -100,28 +100,28 @@ pub alone-returns-then-node_is_list_item_block : goal.alone-returns-then-node_is
 alone-returns-then-node_is_list_item_block t c =
     record {
       kept = c.block.ensures.kept;
-      goes_forest = alone_block c.args.sheet.now c.args.nodes.now c.args.c c.node_name-name.ensures c.requires.0.later (self_at c.args.own c.args.run.now c.args.levels) (item_of c.args.item) c.args.before.first c.args.before.due c.args.blank c.args.text.now c.args.before.len c.due_line.ensures c.in_ok-n.was c.node_is_list_item_block.ensures c.if-node_is_list_item_block.true c.requires.0.alone.positive c.block.ensures.goes_element;
+      goes_forest = alone_block c.args.sheet.now c.args.nodes.now c.args.c c.node_name-name.ensures c.requires.0.later (self_at c.args.skip c.args.levels) (item_of c.args.item) c.args.before.first c.args.before.due c.args.blank c.args.text.now c.args.before.len c.due_line.ensures c.in_ok-n.was c.node_is_list_item_block.ensures c.if-node_is_list_item_block.true c.requires.0.alone.positive c.block.ensures.goes_element;
     }
 
 pub alone-returns : goal.alone-returns
 alone-returns t c =
     record {
       kept = c.inline.ensures.kept;
-      goes_forest = alone_inline c.args.sheet.now c.args.nodes.now c.args.c c.node_name-name.ensures c.requires.0.later (self_at c.args.own c.args.run.now c.args.levels) (item_of c.args.item) c.args.before.first c.args.before.due c.args.blank c.args.text.now c.args.before.len c.due_line.ensures c.in_ok-n.was c.node_is_list_item_block.ensures c.if-node_is_list_item_block.false refl c.in_ok-m.ensures.writes_forest;
+      goes_forest = alone_inline c.args.sheet.now c.args.nodes.now c.args.c c.node_name-name.ensures c.requires.0.later (self_at c.args.skip c.args.levels) (item_of c.args.item) c.args.before.first c.args.before.due c.args.blank c.args.text.now c.args.before.len c.due_line.ensures c.in_ok-n.was c.node_is_list_item_block.ensures c.if-node_is_list_item_block.false refl c.in_ok-m.ensures.writes_forest;
     }
 
 pub alone-returns-in_err-m : goal.alone-returns-in_err-m
 alone-returns-in_err-m t c =
     record {
       kept = c.inline.ensures.kept;
-      goes_forest = alone_inline c.args.sheet.now c.args.nodes.now c.args.c c.node_name-name.ensures c.requires.0.later (self_at c.args.own c.args.run.now c.args.levels) (item_of c.args.item) c.args.before.first c.args.before.due c.args.blank c.args.text.now c.args.before.len c.due_line.ensures c.in_ok-n.was c.node_is_list_item_block.ensures c.if-node_is_list_item_block.false (err_is c.from_residual-in_err-m.ensures.0) c.in_err-m.ensures.writes_forest;
+      goes_forest = alone_inline c.args.sheet.now c.args.nodes.now c.args.c c.node_name-name.ensures c.requires.0.later (self_at c.args.skip c.args.levels) (item_of c.args.item) c.args.before.first c.args.before.due c.args.blank c.args.text.now c.args.before.len c.due_line.ensures c.in_ok-n.was c.node_is_list_item_block.ensures c.if-node_is_list_item_block.false (err_is c.from_residual-in_err-m.ensures.0) c.in_err-m.ensures.writes_forest;
     }
 
 pub alone-returns-in_err-n : goal.alone-returns-in_err-n
 alone-returns-in_err-n t c =
     record {
       kept = kept_none c.args.nodes.now;
-      goes_forest = stops_going c.from_residual.ensures.0 (alone_none c.args.sheet.now c.args.nodes.now c.args.c c.node_name-name.ensures c.requires.0.later (self_at c.args.own c.args.run.now c.args.levels) (item_of c.args.item) c.args.before.first c.args.before.due c.args.blank c.args.text.now c.args.before.len c.due_line.ensures c.in_err-n.was);
+      goes_forest = stops_going c.from_residual.ensures.0 (alone_none c.args.sheet.now c.args.nodes.now c.args.c c.node_name-name.ensures c.requires.0.later (self_at c.args.skip c.args.levels) (item_of c.args.item) c.args.before.first c.args.before.due c.args.blank c.args.text.now c.args.before.len c.due_line.ensures c.in_err-n.was);
     }
 
 pub block-led-requires : goal.block-led-requires
@@ -132,26 +132,26 @@ pub block-returns-then-name-eq15 : goal.block-returns-then-name-eq15
 block-returns-then-name-eq15 t c =
     record {
       kept = kept_none c.args.nodes.now;
-      goes_element = block_rule c.args.sheet.now c.args.nodes.now c.args.c c.requires.1 (self_at c.args.own c.args.run.now c.args.levels) (item_of c.args.item) c.args.before.first c.args.before.due (take c.args.before.len c.args.text.now) c.if-name-eq15.true c.rule_block.ensures;
+      goes_element = block_rule c.args.sheet.now c.args.nodes.now c.args.c c.requires.1 (self_at c.args.skip c.args.levels) (item_of c.args.item) c.args.before.first c.args.before.due (take c.args.before.len c.args.text.now) c.if-name-eq15.true c.rule_block.ensures;
     }
 
 pub block-returns : goal.block-returns
 block-returns t c =
     record {
       kept = c.led.ensures.kept;
-      goes_element = block_led c.args.sheet.now c.args.nodes.now c.args.c c.requires.1 (self_at c.args.own c.args.run.now c.args.levels) (item_of c.args.item) c.args.before.first c.args.before.due (take c.args.before.len c.args.text.now) c.if-name-eq15.false refl c.in_ok-n.ensures.writes_element;
+      goes_element = block_led c.args.sheet.now c.args.nodes.now c.args.c c.requires.1 (self_at c.args.skip c.args.levels) (item_of c.args.item) c.args.before.first c.args.before.due (take c.args.before.len c.args.text.now) c.if-name-eq15.false refl c.in_ok-n.ensures.writes_element;
     }
 
 pub block-returns-in_err-n : goal.block-returns-in_err-n
 block-returns-in_err-n t c =
     record {
       kept = c.led.ensures.kept;
-      goes_element = block_led c.args.sheet.now c.args.nodes.now c.args.c c.requires.1 (self_at c.args.own c.args.run.now c.args.levels) (item_of c.args.item) c.args.before.first c.args.before.due (take c.args.before.len c.args.text.now) c.if-name-eq15.false (err_is c.from_residual.ensures.0) c.in_err-n.ensures.writes_element;
+      goes_element = block_led c.args.sheet.now c.args.nodes.now c.args.c c.requires.1 (self_at c.args.skip c.args.levels) (item_of c.args.item) c.args.before.first c.args.before.due (take c.args.before.len c.args.text.now) c.if-name-eq15.false (err_is c.from_residual.ensures.0) c.in_err-n.ensures.writes_element;
     }
 
 pub blocks-returns-in_err-n : goal.blocks-returns-in_err-n
 blocks-returns-in_err-n t c =
-    let self = self_at c.args.own c.args.run.now c.args.levels in
+    let self = self_at c.args.skip c.args.levels in
     let item = item_from c.args.ctx.now (begin_item true c.args.ctx.now (take c.args.len c.args.text.now)) in record {
       kept = kept_none c.args.nodes.now;
       writes_element = stops_element c.from_residual.ensures.0 (record {
@@ -200,8 +200,8 @@ blocks-end_item-requires t c =
 pub blocks-returns : goal.blocks-returns
 blocks-returns t c =
     let item_is_here : item_of c.item_from-item.result ≡ item_from c.args.ctx.now (begin_item true c.args.ctx.now (take c.args.len c.args.text.now)) = c.item_from-item.ensures (begin_item true c.args.ctx.now (take c.args.len c.args.text.now)) (done c.in_ok-n.was c.write_list_item_blocks.ensures.0).count in
-    let begun_here : (anc : Ancestors) (attrs : List Attr) (kids : Forest) → let self = self_at c.args.own c.args.run.now c.args.levels in let item = item_of c.item_from-item.result in Owes (length c.args.text.now) c.write_list_item_blocks.new.text c.in_ok-n.n (λ u. and_then (item_children self (attrs ∷ anc) kids item (progress_at true false u)).out (ended_item item)) (write_list_item_blocks self anc attrs kids c.args.ctx.now (take c.args.len c.args.text.now)) = λ anc attrs kids. let self = self_at c.args.own c.args.run.now c.args.levels in let item = item_of c.item_from-item.result in owes_step (owes_all c.args.text.now c.args.len (write_list_item_blocks self anc attrs kids c.args.ctx.now) c.requires.1.0 refl) (begin_item true c.args.ctx.now) (λ u. and_then (item_children self (attrs ∷ anc) kids item (progress_at true false u)).out (ended_item item)) (blocks_parts self anc attrs kids c.args.ctx.now item (take c.args.len c.args.text.now) (item_is_here)) c.in_ok-n.was c.write_list_item_blocks.ensures.0 in
-    let self = self_at c.args.own c.args.run.now c.args.levels in
+    let begun_here : (anc : Ancestors) (attrs : List Attr) (kids : Forest) → let self = self_at c.args.skip c.args.levels in let item = item_of c.item_from-item.result in Owes (length c.args.text.now) c.write_list_item_blocks.new.text c.in_ok-n.n (λ u. and_then (item_children self (attrs ∷ anc) kids item (progress_at true false u)).out (ended_item item)) (write_list_item_blocks self anc attrs kids c.args.ctx.now (take c.args.len c.args.text.now)) = λ anc attrs kids. let self = self_at c.args.skip c.args.levels in let item = item_of c.item_from-item.result in owes_step (owes_all c.args.text.now c.args.len (write_list_item_blocks self anc attrs kids c.args.ctx.now) c.requires.1.0 refl) (begin_item true c.args.ctx.now) (λ u. and_then (item_children self (attrs ∷ anc) kids item (progress_at true false u)).out (ended_item item)) (blocks_parts self anc attrs kids c.args.ctx.now item (take c.args.len c.args.text.now) (item_is_here)) c.in_ok-n.was c.write_list_item_blocks.ensures.0 in
+    let self = self_at c.args.skip c.args.levels in
     let item = item_of c.item_from-item.result in record {
       kept = kept_in (omega arith) (omega (arith, c.node_end-to.ensures)) c.children.ensures.kept;
       writes_element = record {
@@ -215,8 +215,8 @@ blocks-returns t c =
 pub blocks-returns-in_err-end : goal.blocks-returns-in_err-end
 blocks-returns-in_err-end t c =
     let item_is_here : item_of c.item_from-item.result ≡ item_from c.args.ctx.now (begin_item true c.args.ctx.now (take c.args.len c.args.text.now)) = c.item_from-item.ensures (begin_item true c.args.ctx.now (take c.args.len c.args.text.now)) (done c.in_ok-n.was c.write_list_item_blocks.ensures.0).count in
-    let begun_here : (anc : Ancestors) (attrs : List Attr) (kids : Forest) → let self = self_at c.args.own c.args.run.now c.args.levels in let item = item_of c.item_from-item.result in Owes (length c.args.text.now) c.write_list_item_blocks.new.text c.in_ok-n.n (λ u. and_then (item_children self (attrs ∷ anc) kids item (progress_at true false u)).out (ended_item item)) (write_list_item_blocks self anc attrs kids c.args.ctx.now (take c.args.len c.args.text.now)) = λ anc attrs kids. let self = self_at c.args.own c.args.run.now c.args.levels in let item = item_of c.item_from-item.result in owes_step (owes_all c.args.text.now c.args.len (write_list_item_blocks self anc attrs kids c.args.ctx.now) c.requires.1.0 refl) (begin_item true c.args.ctx.now) (λ u. and_then (item_children self (attrs ∷ anc) kids item (progress_at true false u)).out (ended_item item)) (blocks_parts self anc attrs kids c.args.ctx.now item (take c.args.len c.args.text.now) (item_is_here)) c.in_ok-n.was c.write_list_item_blocks.ensures.0 in
-    let self = self_at c.args.own c.args.run.now c.args.levels in
+    let begun_here : (anc : Ancestors) (attrs : List Attr) (kids : Forest) → let self = self_at c.args.skip c.args.levels in let item = item_of c.item_from-item.result in Owes (length c.args.text.now) c.write_list_item_blocks.new.text c.in_ok-n.n (λ u. and_then (item_children self (attrs ∷ anc) kids item (progress_at true false u)).out (ended_item item)) (write_list_item_blocks self anc attrs kids c.args.ctx.now (take c.args.len c.args.text.now)) = λ anc attrs kids. let self = self_at c.args.skip c.args.levels in let item = item_of c.item_from-item.result in owes_step (owes_all c.args.text.now c.args.len (write_list_item_blocks self anc attrs kids c.args.ctx.now) c.requires.1.0 refl) (begin_item true c.args.ctx.now) (λ u. and_then (item_children self (attrs ∷ anc) kids item (progress_at true false u)).out (ended_item item)) (blocks_parts self anc attrs kids c.args.ctx.now item (take c.args.len c.args.text.now) (item_is_here)) c.in_ok-n.was c.write_list_item_blocks.ensures.0 in
+    let self = self_at c.args.skip c.args.levels in
     let item = item_of c.item_from-item.result in record {
       kept = kept_in (omega arith) (omega (arith, c.node_end-to.ensures)) c.children.ensures.kept;
       writes_element = stops_element c.from_residual-in_err-end.ensures.0 (record {
@@ -253,9 +253,9 @@ body-returns t c =
     let href = a.dest.now in record {
       kept = c.kids.ensures.kept;
       writes_element = record {
-        for = λ name attrs kids anc x h. let link = write_kids (self_at a.own a.run.now a.levels) anc a.opts (element name attrs kids nothing) [] in
+        for = λ name attrs kids anc x h. let link = write_kids (self_at a.skip a.levels) anc a.opts (element name attrs kids nothing) [] in
             alike (ap (λ (f : Step). f (take a.len a.text.now)) (link_is attrs href link push))
-            (nest-done a.text.now a.len c.requires.1.0 (subst (λ (o : FormatOpts). Writes (length (lent a.text.now a.len)) c.kids.new.text c.kids.result (write_kids (self_at a.own a.run.now a.levels) anc o (element name attrs kids nothing) [])) c.packed-bits.ensures (c.kids.ensures.writes_element.for name attrs kids anc x h)) (λ z. link_step attrs href z push) c.in_ok-n.was
+            (nest-done a.text.now a.len c.requires.1.0 (subst (λ (o : FormatOpts). Writes (length (lent a.text.now a.len)) c.kids.new.text c.kids.result (write_kids (self_at a.skip a.levels) anc o (element name attrs kids nothing) [])) c.packed-bits.ensures (c.kids.ensures.writes_element.for name attrs kids anc x h)) (λ z. link_step attrs href z push) c.in_ok-n.was
             (subst (λ (l : List Attr). Writes (length (back a.text.now a.len c.kids.new.text)) c.push_link.new.text c.push_link.result (link_step l href (take c.in_ok-n.n (drop a.len (back a.text.now a.len c.kids.new.text))) push (take a.len (back a.text.now a.len c.kids.new.text)))) (ap (attrs_behind a.sheet.now) c.node_place-place.ensures ∙ sym x.attrs_are) c.push_link.ensures));
       };
     }
@@ -266,9 +266,9 @@ body-returns-in_err-n t c =
     let href = a.dest.now in record {
       kept = c.kids.ensures.kept;
       writes_element = stops_element c.from_residual.ensures.0 (record {
-        for = λ name attrs kids anc x h. let link = write_kids (self_at a.own a.run.now a.levels) anc a.opts (element name attrs kids nothing) [] in
+        for = λ name attrs kids anc x h. let link = write_kids (self_at a.skip a.levels) anc a.opts (element name attrs kids nothing) [] in
             alike (ap (λ (f : Step). f (take a.len a.text.now)) (link_is attrs href link push))
-            (nest-full a.text.now a.len c.requires.1.0 (subst (λ (o : FormatOpts). Writes (length (lent a.text.now a.len)) c.kids.new.text c.kids.result (write_kids (self_at a.own a.run.now a.levels) anc o (element name attrs kids nothing) [])) c.packed-bits.ensures (c.kids.ensures.writes_element.for name attrs kids anc x h)) (link_step attrs href link.text push) c.in_err-n.was);
+            (nest-full a.text.now a.len c.requires.1.0 (subst (λ (o : FormatOpts). Writes (length (lent a.text.now a.len)) c.kids.new.text c.kids.result (write_kids (self_at a.skip a.levels) anc o (element name attrs kids nothing) [])) c.packed-bits.ensures (c.kids.ensures.writes_element.for name attrs kids anc x h)) (link_step attrs href link.text push) c.in_err-n.was);
       });
     }
 
@@ -296,11 +296,11 @@ cell-escape_table_cell_inplace-requires t c =
 pub cell-returns : goal.cell-returns
 unfolding cell_text trim_trailing_cell_break
 cell-returns t c =
-    let wrote_here : (name : Bytes) (attrs : List Attr) (kids : Forest) (anc : Ancestors) → ElementAt c.args.sheet.now c.args.nodes.now c.args.c name attrs kids → Around c.args.sheet.now c.args.nodes.now (parent_at c.args.nodes.now c.args.c) anc → Writes (length c.args.text.now) c.kids.new.text c.kids.result (write_kids (self_at c.args.own c.args.run.now c.args.levels) anc (table_cell (fresh c.args.opts)) (element name attrs kids nothing) (take 0 c.args.text.now)) = λ name attrs kids anc x h. let a = c.args in subst (λ (o : FormatOpts). Writes (length a.text.now) c.kids.new.text c.kids.result (write_kids (self_at a.own a.run.now a.levels) anc o (element name attrs kids nothing) (take 0 a.text.now))) (c.packed-bits.ensures ∙ c.table_cell-inner.ensures ∙ ap table_cell c.fresh.ensures) (c.kids.ensures.writes_element.for name attrs kids anc x h) in
+    let wrote_here : (name : Bytes) (attrs : List Attr) (kids : Forest) (anc : Ancestors) → ElementAt c.args.sheet.now c.args.nodes.now c.args.c name attrs kids → Around c.args.sheet.now c.args.nodes.now (parent_at c.args.nodes.now c.args.c) anc → Writes (length c.args.text.now) c.kids.new.text c.kids.result (write_kids (self_at c.args.skip c.args.levels) anc (table_cell (fresh c.args.opts)) (element name attrs kids nothing) (take 0 c.args.text.now)) = λ name attrs kids anc x h. let a = c.args in subst (λ (o : FormatOpts). Writes (length a.text.now) c.kids.new.text c.kids.result (write_kids (self_at a.skip a.levels) anc o (element name attrs kids nothing) (take 0 a.text.now))) (c.packed-bits.ensures ∙ c.table_cell-inner.ensures ∙ ap table_cell c.fresh.ensures) (c.kids.ensures.writes_element.for name attrs kids anc x h) in
     let a = c.args in record {
       kept = c.kids.ensures.kept;
       writes = λ name attrs kids anc th x h.
-          let f = write_kids (self_at a.own a.run.now a.levels) anc (table_cell (fresh a.opts)) (element name attrs kids nothing) in
+          let f = write_kids (self_at a.skip a.levels) anc (table_cell (fresh a.opts)) (element name attrs kids nothing) in
           let p = owes_step (owes_all a.text.now 0 (λ u. and_then (and_then (f u) trim_trailing_cell_break) escape_table_cell_inplace) (omega arith) refl) f (λ u. and_then (trim_trailing_cell_break u) escape_table_cell_inplace) (then_assoc (f (take 0 a.text.now)) trim_trailing_cell_break escape_table_cell_inplace) c.in_ok-n.was (wrote_here _ _ _ anc x h) in
           owes_last (owes_on p trim_trailing_cell_break escape_table_cell_inplace refl (cut_done (λ z. without_breaks (length z) z) c.kids.new.text c.in_ok-n.n c.trim_trailing_cell_break-k.result p.reach c.trim_trailing_cell_break-k.ensures)) c.escape_table_cell_inplace.ensures;
     }
@@ -308,11 +308,11 @@ cell-returns t c =
 pub cell-returns-in_err-n : goal.cell-returns-in_err-n
 unfolding cell_text
 cell-returns-in_err-n t c =
-    let wrote_here : (name : Bytes) (attrs : List Attr) (kids : Forest) (anc : Ancestors) → ElementAt c.args.sheet.now c.args.nodes.now c.args.c name attrs kids → Around c.args.sheet.now c.args.nodes.now (parent_at c.args.nodes.now c.args.c) anc → Writes (length c.args.text.now) c.kids.new.text c.kids.result (write_kids (self_at c.args.own c.args.run.now c.args.levels) anc (table_cell (fresh c.args.opts)) (element name attrs kids nothing) (take 0 c.args.text.now)) = λ name attrs kids anc x h. let a = c.args in subst (λ (o : FormatOpts). Writes (length a.text.now) c.kids.new.text c.kids.result (write_kids (self_at a.own a.run.now a.levels) anc o (element name attrs kids nothing) (take 0 a.text.now))) (c.packed-bits.ensures ∙ c.table_cell-inner.ensures ∙ ap table_cell c.fresh.ensures) (c.kids.ensures.writes_element.for name attrs kids anc x h) in
+    let wrote_here : (name : Bytes) (attrs : List Attr) (kids : Forest) (anc : Ancestors) → ElementAt c.args.sheet.now c.args.nodes.now c.args.c name attrs kids → Around c.args.sheet.now c.args.nodes.now (parent_at c.args.nodes.now c.args.c) anc → Writes (length c.args.text.now) c.kids.new.text c.kids.result (write_kids (self_at c.args.skip c.args.levels) anc (table_cell (fresh c.args.opts)) (element name attrs kids nothing) (take 0 c.args.text.now)) = λ name attrs kids anc x h. let a = c.args in subst (λ (o : FormatOpts). Writes (length a.text.now) c.kids.new.text c.kids.result (write_kids (self_at a.skip a.levels) anc o (element name attrs kids nothing) (take 0 a.text.now))) (c.packed-bits.ensures ∙ c.table_cell-inner.ensures ∙ ap table_cell c.fresh.ensures) (c.kids.ensures.writes_element.for name attrs kids anc x h) in
     let a = c.args in record {
       kept = c.kids.ensures.kept;
       writes = λ name attrs kids anc th x h.
-          let f = write_kids (self_at a.own a.run.now a.levels) anc (table_cell (fresh a.opts)) (element name attrs kids nothing) in
+          let f = write_kids (self_at a.skip a.levels) anc (table_cell (fresh a.opts)) (element name attrs kids nothing) in
           stops c.from_residual.ensures.0 (owes_stop (owes_all a.text.now 0 (λ u. and_then (and_then (f u) trim_trailing_cell_break) escape_table_cell_inplace) (omega arith) refl) f (λ u. and_then (trim_trailing_cell_break u) escape_table_cell_inplace) (then_assoc (f (take 0 a.text.now)) trim_trailing_cell_break escape_table_cell_inplace) c.in_err-n.was (wrote_here _ _ _ anc x h));
     }
 
@@ -323,7 +323,7 @@ cells-next_row-r-requires t c =
 pub cells-loop-r-init : goal.cells-loop-r-init
 cells-loop-r-init t c =
     let a = c.args in
-    rows_start (serializer (tags_to_skip (skip_list a.own a.run.now)) a.levels) a.opts c.requires.0 c.requires.1 c.next_row-r.ensures.later c.next_row-r.ensures.rows a.text.now a.len c.requires.2.0
+    rows_start (serializer (tags_to_skip (skip_of a.skip)) a.levels) a.opts c.requires.0 c.requires.1 c.next_row-r.ensures.later c.next_row-r.ensures.rows a.text.now a.len c.requires.2.0
 
 pub cells-row-requires : goal.cells-row-requires
 cells-row-requires t c =
@@ -412,28 +412,28 @@ pub child-returns-then-tag : goal.child-returns-then-tag
 child-returns-then-tag t c =
     record {
       kept = kept_none c.args.nodes.now;
-      goes_forest = child_comment c.args.sheet.now c.args.nodes.now c.args.c c.node_place-place.ensures (tags_to_skip (skip_list c.args.own c.args.run.now)) c.args.levels (item_of c.args.item) c.args.before.first c.args.before.due c.args.text.now c.args.before.len c.requires.2.0 c.tag_at-tag.ensures c.if-tag.true;
+      goes_forest = child_comment c.args.sheet.now c.args.nodes.now c.args.c c.node_place-place.ensures (tags_to_skip (skip_of c.args.skip)) c.args.levels (item_of c.args.item) c.args.before.first c.args.before.due c.args.text.now c.args.before.len c.requires.2.0 c.tag_at-tag.ensures c.if-tag.true;
     }
 
 pub child-returns-then-node_is_skipped : goal.child-returns-then-node_is_skipped
 child-returns-then-node_is_skipped t c =
     record {
       kept = kept_none c.args.nodes.now;
-      goes_forest = child_skipped c.args.sheet.now c.args.nodes.now c.args.c c.node_place-place.ensures (tags_to_skip (skip_list c.args.own c.args.run.now)) c.args.levels (item_of c.args.item) c.args.before.first c.args.before.due c.args.text.now c.args.before.len c.requires.2.0 c.node_is_skipped.ensures c.if-node_is_skipped.true;
+      goes_forest = child_skipped c.args.sheet.now c.args.nodes.now c.args.c c.node_place-place.ensures (tags_to_skip (skip_of c.args.skip)) c.args.levels (item_of c.args.item) c.args.before.first c.args.before.due c.args.text.now c.args.before.len c.requires.2.0 c.node_is_skipped.ensures c.if-node_is_skipped.true;
     }
 
 pub child-returns-then-node_is_block_wrapper : goal.child-returns-then-node_is_block_wrapper
 child-returns-then-node_is_block_wrapper t c =
     record {
       kept = kept_in (omega arith) (omega (arith, c.node_end-end.ensures)) c.children.ensures.kept;
-      goes_forest = child_wrapper c.args.sheet.now c.args.nodes.now c.args.c c.node_place-place.ensures (tags_to_skip (skip_list c.args.own c.args.run.now)) c.args.levels (item_of c.args.item) c.args.before.first c.args.before.due c.args.text.now c.args.before.len c.node_is_skipped.ensures c.if-node_is_skipped.false c.requires.0.later c.node_is_block_wrapper.ensures c.node_end-end.ensures c.if-node_is_block_wrapper.true c.requires.0.alone.positive c.children.ensures.goes_forest;
+      goes_forest = child_wrapper c.args.sheet.now c.args.nodes.now c.args.c c.node_place-place.ensures (tags_to_skip (skip_of c.args.skip)) c.args.levels (item_of c.args.item) c.args.before.first c.args.before.due c.args.text.now c.args.before.len c.node_is_skipped.ensures c.if-node_is_skipped.false c.requires.0.later c.node_is_block_wrapper.ensures c.node_end-end.ensures c.if-node_is_block_wrapper.true c.requires.0.alone.positive c.children.ensures.goes_forest;
     }
 
 pub child-returns : goal.child-returns
 child-returns t c =
     record {
       kept = c.alone.ensures.kept;
-      goes_forest = child_alone c.args.sheet.now c.args.nodes.now c.args.c c.node_place-place.ensures (tags_to_skip (skip_list c.args.own c.args.run.now)) c.args.levels (item_of c.args.item) c.args.before.first c.args.before.due c.args.text.now c.args.before.len c.node_is_skipped.ensures c.if-node_is_skipped.false c.requires.0.later c.node_is_block_wrapper.ensures c.tag_at-tag.ensures c.if-tag.false c.if-node_is_block_wrapper.false c.is_blank_text-blank.ensures c.alone.ensures.goes_forest;
+      goes_forest = child_alone c.args.sheet.now c.args.nodes.now c.args.c c.node_place-place.ensures (tags_to_skip (skip_of c.args.skip)) c.args.levels (item_of c.args.item) c.args.before.first c.args.before.due c.args.text.now c.args.before.len c.node_is_skipped.ensures c.if-node_is_skipped.false c.requires.0.later c.node_is_block_wrapper.ensures c.tag_at-tag.ensures c.if-tag.false c.if-node_is_block_wrapper.false c.is_blank_text-blank.ensures c.alone.ensures.goes_forest;
     }
 
 pub children-loop-c-init : goal.children-loop-c-init
@@ -443,7 +443,7 @@ children-loop-c-init t c = (
   kept_none c.args.nodes.now,
   omega arith,
   c.requires.0,
-  going_first c.args.sheet.now c.args.nodes.now c.args.from c.args.to (self_at c.args.own c.args.run.now c.args.levels) (item_of c.args.item) c.args.text.now c.args.before c.requires.1.0,
+  going_first c.args.sheet.now c.args.nodes.now c.args.from c.args.to (self_at c.args.skip c.args.levels) (item_of c.args.item) c.args.text.now c.args.before c.requires.1.0,
 )
 
 pub children-child-requires : goal.children-child-requires
@@ -457,7 +457,7 @@ children-child-requires t c =
 pub children-returns-in_err-going : goal.children-returns-in_err-going
 children-returns-in_err-going t c =
     let kept_here : Kept c.args.from c.args.to c.args.nodes.now c.child.new.nodes = let l = c.loop-c in let lt = c.loop-c-test.true in kept_then l.invariant.2 (kept_in l.invariant.3 (omega (arith, end_kept l.invariant.2 l.c, placeds_within l.invariant.4 lt)) c.child.ensures.kept) in
-    let went_on_here : GoesForest c.args.sheet.now c.args.nodes.now c.loop-c.c (end_at c.args.nodes.now c.loop-c.c) (λ anc f. item_children (self_at c.args.own c.args.run.now c.args.levels) anc f (item_of c.args.item) (progress_of c.loop-c.going c.loop-c.text)) (length c.loop-c.text) c.child.new.text c.child.result = goes_before c.loop-c.invariant.2 c.child.ensures.goes_forest in
+    let went_on_here : GoesForest c.args.sheet.now c.args.nodes.now c.loop-c.c (end_at c.args.nodes.now c.loop-c.c) (λ anc f. item_children (self_at c.args.skip c.args.levels) anc f (item_of c.args.item) (progress_of c.loop-c.going c.loop-c.text)) (length c.loop-c.text) c.child.new.text c.child.result = goes_before c.loop-c.invariant.2 c.child.ensures.goes_forest in
     record {
       kept = kept_here;
       goes_forest = stops_going c.from_residual.ensures.0 (record { for = λ parent f anc h a. going_stop c.loop-c.invariant.5 c.loop-c-test.true (went_on_here) c.in_err-going.was parent f anc h a });
@@ -476,7 +476,7 @@ children-loop-c-smaller t c =
 pub children-loop-c-preserved : goal.children-loop-c-preserved
 children-loop-c-preserved t c =
     let kept_here : Kept c.args.from c.args.to c.args.nodes.now c.child.new.nodes = let l = c.loop-c in let lt = c.loop-c-test.true in kept_then l.invariant.2 (kept_in l.invariant.3 (omega (arith, end_kept l.invariant.2 l.c, placeds_within l.invariant.4 lt)) c.child.ensures.kept) in
-    let went_on_here : GoesForest c.args.sheet.now c.args.nodes.now c.loop-c.c (end_at c.args.nodes.now c.loop-c.c) (λ anc f. item_children (self_at c.args.own c.args.run.now c.args.levels) anc f (item_of c.args.item) (progress_of c.loop-c.going c.loop-c.text)) (length c.loop-c.text) c.child.new.text c.child.result = goes_before c.loop-c.invariant.2 c.child.ensures.goes_forest in
+    let went_on_here : GoesForest c.args.sheet.now c.args.nodes.now c.loop-c.c (end_at c.args.nodes.now c.loop-c.c) (λ anc f. item_children (self_at c.args.skip c.args.levels) anc f (item_of c.args.item) (progress_of c.loop-c.going c.loop-c.text)) (length c.loop-c.text) c.child.new.text c.child.result = goes_before c.loop-c.invariant.2 c.child.ensures.goes_forest in
     let l = c.loop-c in
     let lt = c.loop-c-test.true in
     let K = kept_here in
@@ -516,8 +516,8 @@ flat-push_linebreak-requires t c =
 
 pub flat-returns : goal.flat-returns
 flat-returns t c =
-    let begun_here : (anc : Ancestors) (node : Forest) → let self = self_at c.args.own c.args.run.now c.args.levels in Owes (length c.args.text.now) c.write_list_item.new.text c.in_ok-n.n (λ u. and_then (write_kids self anc (unpacked c.packed-bits.result) node u) (push (break_of c.write_list_item.new.ctx))) (write_list_item self anc node c.args.ctx.now (take c.args.len c.args.text.now)) = λ anc node. let self = self_at c.args.own c.args.run.now c.args.levels in owes_step (owes_all c.args.text.now c.args.len (write_list_item self anc node c.args.ctx.now) c.requires.1.0 refl) (begin_item false c.args.ctx.now) (λ u. and_then (write_kids self anc (unpacked c.packed-bits.result) node u) (push (break_of c.write_list_item.new.ctx))) (item_parts self anc node c.args.ctx.now c.write_list_item.new.ctx (unpacked c.packed-bits.result) (take c.args.len c.args.text.now) c.write_list_item.ensures.1 (c.packed-bits.ensures ∙ c.list_item-inner.ensures)) c.in_ok-n.was c.write_list_item.ensures.0 in
-    let self = self_at c.args.own c.args.run.now c.args.levels in record {
+    let begun_here : (anc : Ancestors) (node : Forest) → let self = self_at c.args.skip c.args.levels in Owes (length c.args.text.now) c.write_list_item.new.text c.in_ok-n.n (λ u. and_then (write_kids self anc (unpacked c.packed-bits.result) node u) (push (break_of c.write_list_item.new.ctx))) (write_list_item self anc node c.args.ctx.now (take c.args.len c.args.text.now)) = λ anc node. let self = self_at c.args.skip c.args.levels in owes_step (owes_all c.args.text.now c.args.len (write_list_item self anc node c.args.ctx.now) c.requires.1.0 refl) (begin_item false c.args.ctx.now) (λ u. and_then (write_kids self anc (unpacked c.packed-bits.result) node u) (push (break_of c.write_list_item.new.ctx))) (item_parts self anc node c.args.ctx.now c.write_list_item.new.ctx (unpacked c.packed-bits.result) (take c.args.len c.args.text.now) c.write_list_item.ensures.1 (c.packed-bits.ensures ∙ c.list_item-inner.ensures)) c.in_ok-n.was c.write_list_item.ensures.0 in
+    let self = self_at c.args.skip c.args.levels in record {
       kept = c.kids.ensures.kept;
       writes_element = record { for = λ name attrs kids anc x a. owes_last (owes_step (begun_here anc (element name attrs kids nothing)) (write_kids self anc (unpacked c.packed-bits.result) (element name attrs kids nothing)) (push (break_of c.write_list_item.new.ctx)) refl c.in_ok-m.was (c.kids.ensures.writes_element.for name attrs kids anc x a)) c.push_linebreak.ensures };
       ctx_value = c.write_list_item.ensures.1;
@@ -525,8 +525,8 @@ flat-returns t c =
 
 pub flat-returns-in_err-m : goal.flat-returns-in_err-m
 flat-returns-in_err-m t c =
-    let begun_here : (anc : Ancestors) (node : Forest) → let self = self_at c.args.own c.args.run.now c.args.levels in Owes (length c.args.text.now) c.write_list_item.new.text c.in_ok-n.n (λ u. and_then (write_kids self anc (unpacked c.packed-bits.result) node u) (push (break_of c.write_list_item.new.ctx))) (write_list_item self anc node c.args.ctx.now (take c.args.len c.args.text.now)) = λ anc node. let self = self_at c.args.own c.args.run.now c.args.levels in owes_step (owes_all c.args.text.now c.args.len (write_list_item self anc node c.args.ctx.now) c.requires.1.0 refl) (begin_item false c.args.ctx.now) (λ u. and_then (write_kids self anc (unpacked c.packed-bits.result) node u) (push (break_of c.write_list_item.new.ctx))) (item_parts self anc node c.args.ctx.now c.write_list_item.new.ctx (unpacked c.packed-bits.result) (take c.args.len c.args.text.now) c.write_list_item.ensures.1 (c.packed-bits.ensures ∙ c.list_item-inner.ensures)) c.in_ok-n.was c.write_list_item.ensures.0 in
-    let self = self_at c.args.own c.args.run.now c.args.levels in record {
+    let begun_here : (anc : Ancestors) (node : Forest) → let self = self_at c.args.skip c.args.levels in Owes (length c.args.text.now) c.write_list_item.new.text c.in_ok-n.n (λ u. and_then (write_kids self anc (unpacked c.packed-bits.result) node u) (push (break_of c.write_list_item.new.ctx))) (write_list_item self anc node c.args.ctx.now (take c.args.len c.args.text.now)) = λ anc node. let self = self_at c.args.skip c.args.levels in owes_step (owes_all c.args.text.now c.args.len (write_list_item self anc node c.args.ctx.now) c.requires.1.0 refl) (begin_item false c.args.ctx.now) (λ u. and_then (write_kids self anc (unpacked c.packed-bits.result) node u) (push (break_of c.write_list_item.new.ctx))) (item_parts self anc node c.args.ctx.now c.write_list_item.new.ctx (unpacked c.packed-bits.result) (take c.args.len c.args.text.now) c.write_list_item.ensures.1 (c.packed-bits.ensures ∙ c.list_item-inner.ensures)) c.in_ok-n.was c.write_list_item.ensures.0 in
+    let self = self_at c.args.skip c.args.levels in record {
       kept = c.kids.ensures.kept;
       writes_element = stops_element c.from_residual-in_err-m.ensures.0 (record { for = λ name attrs kids anc x a. owes_stop (begun_here anc (element name attrs kids nothing)) (write_kids self anc (unpacked c.packed-bits.result) (element name attrs kids nothing)) (push (break_of c.write_list_item.new.ctx)) refl c.in_err-m.was (c.kids.ensures.writes_element.for name attrs kids anc x a) });
       ctx_value = c.write_list_item.ensures.1;
@@ -534,7 +534,7 @@ flat-returns-in_err-m t c =
 
 pub flat-returns-in_err-n : goal.flat-returns-in_err-n
 flat-returns-in_err-n t c =
-    let self = self_at c.args.own c.args.run.now c.args.levels in record {
+    let self = self_at c.args.skip c.args.levels in record {
       kept = kept_none c.args.nodes.now;
       writes_element = stops_element c.from_residual.ensures.0 (record {
         for = λ name attrs kids anc x a.
@@ -571,28 +571,28 @@ pub flow-returns-then-name-eq23 : goal.flow-returns-then-name-eq23
 flow-returns-then-name-eq23 t c =
     record {
       kept = c.indented.ensures.kept;
-      writes_element = body_pre c.args.sheet.now c.args.nodes.now c.args.c c.requires.1 (self_at c.args.own c.args.run.now c.args.levels) (item_of c.args.item) c.if-name-eq23.true c.indented.ensures.writes_element;
+      writes_element = body_pre c.args.sheet.now c.args.nodes.now c.args.c c.requires.1 (self_at c.args.skip c.args.levels) (item_of c.args.item) c.if-name-eq23.true c.indented.ensures.writes_element;
     }
 
 pub flow-returns : goal.flow-returns
 flow-returns t c =
     record {
       kept = c.kids.ensures.kept;
-      writes_element = flow_done c.args.sheet.now c.args.nodes.now c.args.c c.requires.1 (self_at c.args.own c.args.run.now c.args.levels) (item_of c.args.item) c.if-name-eq23.false c.args.text.now c.args.len c.requires.2.0 c.push_heading_prefix.ensures c.in_ok-n.was (c.packed-bits.ensures ∙ c.list_item-inner.ensures) c.kids.ensures.writes_element c.in_ok-m.was c.end_flow.ensures;
+      writes_element = flow_done c.args.sheet.now c.args.nodes.now c.args.c c.requires.1 (self_at c.args.skip c.args.levels) (item_of c.args.item) c.if-name-eq23.false c.args.text.now c.args.len c.requires.2.0 c.push_heading_prefix.ensures c.in_ok-n.was (c.packed-bits.ensures ∙ c.list_item-inner.ensures) c.kids.ensures.writes_element c.in_ok-m.was c.end_flow.ensures;
     }
 
 pub flow-returns-in_err-m : goal.flow-returns-in_err-m
 flow-returns-in_err-m t c =
     record {
       kept = c.kids.ensures.kept;
-      writes_element = stops_element c.from_residual-in_err-m.ensures.0 (flow_full c.args.sheet.now c.args.nodes.now c.args.c c.requires.1 (self_at c.args.own c.args.run.now c.args.levels) (item_of c.args.item) c.if-name-eq23.false c.args.text.now c.args.len c.requires.2.0 c.push_heading_prefix.ensures c.in_ok-n.was (c.packed-bits.ensures ∙ c.list_item-inner.ensures) c.kids.ensures.writes_element c.in_err-m.was);
+      writes_element = stops_element c.from_residual-in_err-m.ensures.0 (flow_full c.args.sheet.now c.args.nodes.now c.args.c c.requires.1 (self_at c.args.skip c.args.levels) (item_of c.args.item) c.if-name-eq23.false c.args.text.now c.args.len c.requires.2.0 c.push_heading_prefix.ensures c.in_ok-n.was (c.packed-bits.ensures ∙ c.list_item-inner.ensures) c.kids.ensures.writes_element c.in_err-m.was);
     }
 
 pub flow-returns-in_err-n : goal.flow-returns-in_err-n
 flow-returns-in_err-n t c =
     record {
       kept = kept_none c.args.nodes.now;
-      writes_element = stops_element c.from_residual.ensures.0 (flow_none c.args.sheet.now c.args.nodes.now c.args.c c.requires.1 (self_at c.args.own c.args.run.now c.args.levels) (item_of c.args.item) c.if-name-eq23.false c.args.text.now c.args.len c.requires.2.0 c.push_heading_prefix.ensures c.in_err-n.was);
+      writes_element = stops_element c.from_residual.ensures.0 (flow_none c.args.sheet.now c.args.nodes.now c.args.c c.requires.1 (self_at c.args.skip c.args.levels) (item_of c.args.item) c.if-name-eq23.false c.args.text.now c.args.len c.requires.2.0 c.push_heading_prefix.ensures c.in_err-n.was);
     }
 
 pub indented-node_end-to-requires : goal.indented-node_end-to-requires
@@ -615,20 +615,20 @@ indented-write-requires t c = (
 
 pub indented-push_indented-requires : goal.indented-push_indented-requires
 indented-push_indented-requires t c =
-    indented_fits (tags_to_skip (skip_list c.args.own c.args.run.now)) c.args.levels (item_of c.args.item) c.node_end-to.ensures (c.packed.ensures ∙ c.include_node-inner.ensures) c.args.text.now c.args.len c.requires.1.0 c.write.ensures.writes_forest c.requires.0 c.in_ok-n.was
+    indented_fits (tags_to_skip (skip_of c.args.skip)) c.args.levels (item_of c.args.item) c.node_end-to.ensures (c.packed.ensures ∙ c.include_node-inner.ensures) c.args.text.now c.args.len c.requires.1.0 c.write.ensures.writes_forest c.requires.0 c.in_ok-n.was
 
 pub indented-returns : goal.indented-returns
 indented-returns t c =
     record {
       kept = subst (λ (k : ℕ). Kept c.args.c k c.args.nodes.now c.write.new.nodes) c.node_end-to.ensures c.write.ensures.kept;
-      writes_element = indented_done (tags_to_skip (skip_list c.args.own c.args.run.now)) c.args.levels (item_of c.args.item) c.node_end-to.ensures (c.packed.ensures ∙ c.include_node-inner.ensures) c.args.text.now c.args.len c.requires.1.0 c.write.ensures.writes_forest c.in_ok-n.was c.push_indented.ensures;
+      writes_element = indented_done (tags_to_skip (skip_of c.args.skip)) c.args.levels (item_of c.args.item) c.node_end-to.ensures (c.packed.ensures ∙ c.include_node-inner.ensures) c.args.text.now c.args.len c.requires.1.0 c.write.ensures.writes_forest c.in_ok-n.was c.push_indented.ensures;
     }
 
 pub indented-returns-in_err-n : goal.indented-returns-in_err-n
 indented-returns-in_err-n t c =
     record {
       kept = subst (λ (k : ℕ). Kept c.args.c k c.args.nodes.now c.write.new.nodes) c.node_end-to.ensures c.write.ensures.kept;
-      writes_element = stops_element c.from_residual.ensures.0 (indented_full (tags_to_skip (skip_list c.args.own c.args.run.now)) c.args.levels (item_of c.args.item) c.node_end-to.ensures (c.packed.ensures ∙ c.include_node-inner.ensures) c.args.text.now c.args.len c.requires.1.0 c.write.ensures.writes_forest c.in_err-n.was);
+      writes_element = stops_element c.from_residual.ensures.0 (indented_full (tags_to_skip (skip_of c.args.skip)) c.args.levels (item_of c.args.item) c.node_end-to.ensures (c.packed.ensures ∙ c.include_node-inner.ensures) c.args.text.now c.args.len c.requires.1.0 c.write.ensures.writes_forest c.in_err-n.was);
     }
 
 pub inline-node_end-to-requires : goal.inline-node_end-to-requires
@@ -653,14 +653,14 @@ pub inline-returns : goal.inline-returns
 inline-returns t c =
     record {
       kept = subst (λ (k : ℕ). Kept c.args.c k c.args.nodes.now c.write.new.nodes) c.node_end-to.ensures c.write.ensures.kept;
-      writes_forest = inline_done c.args.sheet.now c.args.nodes.now c.args.c c.requires.1 (tags_to_skip (skip_list c.args.own c.args.run.now)) c.args.levels (item_of c.args.item) c.args.blank c.requires.0.later c.args.text.now c.args.len c.requires.2.0 c.push_inline_lead.ensures c.in_ok-n.was c.node_end-to.ensures (c.packed.ensures ∙ c.child_opts-inner.ensures) c.write.ensures.writes_forest;
+      writes_forest = inline_done c.args.sheet.now c.args.nodes.now c.args.c c.requires.1 (tags_to_skip (skip_of c.args.skip)) c.args.levels (item_of c.args.item) c.args.blank c.requires.0.later c.args.text.now c.args.len c.requires.2.0 c.push_inline_lead.ensures c.in_ok-n.was c.node_end-to.ensures (c.packed.ensures ∙ c.child_opts-inner.ensures) c.write.ensures.writes_forest;
     }
 
 pub inline-returns-in_err-n : goal.inline-returns-in_err-n
 inline-returns-in_err-n t c =
     record {
       kept = kept_none c.args.nodes.now;
-      writes_forest = stops_forest c.from_residual.ensures.0 (inline_none c.args.sheet.now c.args.nodes.now c.args.c c.requires.1 (tags_to_skip (skip_list c.args.own c.args.run.now)) c.args.levels (item_of c.args.item) c.args.blank c.requires.0.later c.args.text.now c.args.len c.requires.2.0 c.push_inline_lead.ensures c.in_err-n.was);
+      writes_forest = stops_forest c.from_residual.ensures.0 (inline_none c.args.sheet.now c.args.nodes.now c.args.c c.requires.1 (tags_to_skip (skip_of c.args.skip)) c.args.levels (item_of c.args.item) c.args.blank c.requires.0.later c.args.text.now c.args.len c.requires.2.0 c.push_inline_lead.ensures c.in_err-n.was);
     }
 
 pub inside-node_name-name-requires : goal.inside-node_name-name-requires
@@ -677,7 +677,7 @@ inside-write_element-requires-then-flags-has_writer t c =
 
 pub inside-returns-then-name-lt21 : goal.inside-returns-then-name-lt21
 inside-returns-then-name-lt21 t c =
-    let by_writer_here : (name : Bytes) (attrs : List Attr) (kids : Forest) (anc : Ancestors) → ElementAt c.args.sheet.now c.args.nodes.now c.args.at name attrs kids → in_element (self_at c.args.own c.args.run.now c.args.levels) anc (unpacked c.args.bits) name attrs kids (take c.args.len c.args.text.now) ≡ write_element (self_at c.args.own c.args.run.now c.args.levels) anc (unpacked c.args.bits) name attrs kids (take c.args.len c.args.text.now) = λ name attrs kids anc x. let a = c.args in let u = c.unpacked-flags in subst (λ (o : FormatOpts). in_element (self_at a.own a.run.now a.levels) anc o name attrs kids (take a.len a.text.now) ≡ write_element (self_at a.own a.run.now a.levels) anc o name attrs kids (take a.len a.text.now)) u.ensures (inside_writer (self_at a.own a.run.now a.levels) anc u.result name attrs kids (take a.len a.text.now) (ap (λ (k : ℕ). not u.result.skip_md && has_writer u.result k) (sym (c.node_name-name.ensures ∙ element_name x)) ∙ ap (λ (b : Bool). not u.result.skip_md && b) (sym c.has_writer.ensures) ∙ c.if-flags-has_writer.true)) in
+    let by_writer_here : (name : Bytes) (attrs : List Attr) (kids : Forest) (anc : Ancestors) → ElementAt c.args.sheet.now c.args.nodes.now c.args.at name attrs kids → in_element (self_at c.args.skip c.args.levels) anc (unpacked c.args.bits) name attrs kids (take c.args.len c.args.text.now) ≡ write_element (self_at c.args.skip c.args.levels) anc (unpacked c.args.bits) name attrs kids (take c.args.len c.args.text.now) = λ name attrs kids anc x. let a = c.args in let u = c.unpacked-flags in subst (λ (o : FormatOpts). in_element (self_at a.skip a.levels) anc o name attrs kids (take a.len a.text.now) ≡ write_element (self_at a.skip a.levels) anc o name attrs kids (take a.len a.text.now)) u.ensures (inside_writer (self_at a.skip a.levels) anc u.result name attrs kids (take a.len a.text.now) (ap (λ (k : ℕ). not u.result.skip_md && has_writer u.result k) (sym (c.node_name-name.ensures ∙ element_name x)) ∙ ap (λ (b : Bool). not u.result.skip_md && b) (sym c.has_writer.ensures) ∙ c.if-flags-has_writer.true)) in
     record {
       kept = c.write_element.ensures.kept;
       writes_element = record { for = λ name attrs kids anc x h. alike (by_writer_here _ _ _ anc x) (c.write_element.ensures.writes_element.for name attrs kids anc x h) };
@@ -685,7 +685,7 @@ inside-returns-then-name-lt21 t c =
 
 pub inside-returns-then-flags-has_writer : goal.inside-returns-then-flags-has_writer
 inside-returns-then-flags-has_writer t c =
-    let by_writer_here : (name : Bytes) (attrs : List Attr) (kids : Forest) (anc : Ancestors) → ElementAt c.args.sheet.now c.args.nodes.now c.args.at name attrs kids → in_element (self_at c.args.own c.args.run.now c.args.levels) anc (unpacked c.args.bits) name attrs kids (take c.args.len c.args.text.now) ≡ write_element (self_at c.args.own c.args.run.now c.args.levels) anc (unpacked c.args.bits) name attrs kids (take c.args.len c.args.text.now) = λ name attrs kids anc x. let a = c.args in let u = c.unpacked-flags in subst (λ (o : FormatOpts). in_element (self_at a.own a.run.now a.levels) anc o name attrs kids (take a.len a.text.now) ≡ write_element (self_at a.own a.run.now a.levels) anc o name attrs kids (take a.len a.text.now)) u.ensures (inside_writer (self_at a.own a.run.now a.levels) anc u.result name attrs kids (take a.len a.text.now) (ap (λ (k : ℕ). not u.result.skip_md && has_writer u.result k) (sym (c.node_name-name.ensures ∙ element_name x)) ∙ ap (λ (b : Bool). not u.result.skip_md && b) (sym c.has_writer.ensures) ∙ c.if-flags-has_writer.true)) in
+    let by_writer_here : (name : Bytes) (attrs : List Attr) (kids : Forest) (anc : Ancestors) → ElementAt c.args.sheet.now c.args.nodes.now c.args.at name attrs kids → in_element (self_at c.args.skip c.args.levels) anc (unpacked c.args.bits) name attrs kids (take c.args.len c.args.text.now) ≡ write_element (self_at c.args.skip c.args.levels) anc (unpacked c.args.bits) name attrs kids (take c.args.len c.args.text.now) = λ name attrs kids anc x. let a = c.args in let u = c.unpacked-flags in subst (λ (o : FormatOpts). in_element (self_at a.skip a.levels) anc o name attrs kids (take a.len a.text.now) ≡ write_element (self_at a.skip a.levels) anc o name attrs kids (take a.len a.text.now)) u.ensures (inside_writer (self_at a.skip a.levels) anc u.result name attrs kids (take a.len a.text.now) (ap (λ (k : ℕ). not u.result.skip_md && has_writer u.result k) (sym (c.node_name-name.ensures ∙ element_name x)) ∙ ap (λ (b : Bool). not u.result.skip_md && b) (sym c.has_writer.ensures) ∙ c.if-flags-has_writer.true)) in
     record {
       kept = c.write_element-then-flags-has_writer.ensures.kept;
       writes_element = record { for = λ name attrs kids anc x h. alike (by_writer_here _ _ _ anc x) (c.write_element-then-flags-has_writer.ensures.writes_element.for name attrs kids anc x h) };
@@ -709,19 +709,19 @@ inside-closed-requires t c =
 
 pub inside-returns-in_err-n : goal.inside-returns-in_err-n
 inside-returns-in_err-n t c =
-    let plain_here : (name : Bytes) (attrs : List Attr) (kids : Forest) (anc : Ancestors) → ElementAt c.args.sheet.now c.args.nodes.now c.args.at name attrs kids → in_element (self_at c.args.own c.args.run.now c.args.levels) anc (unpacked c.args.bits) name attrs kids (take c.args.len c.args.text.now) ≡ and_then ((self_at c.args.own c.args.run.now c.args.levels).below (attrs ∷ anc) (unpacked c.args.bits) kids (take c.args.len c.args.text.now)) (closed (unpacked c.args.bits) (tag_of name)) = λ name attrs kids anc x. let a = c.args in let u = c.unpacked-flags in subst (λ (o : FormatOpts). in_element (self_at a.own a.run.now a.levels) anc o name attrs kids (take a.len a.text.now) ≡ and_then ((self_at a.own a.run.now a.levels).below (attrs ∷ anc) o kids (take a.len a.text.now)) (closed o (tag_of name))) u.ensures (inside_plain (self_at a.own a.run.now a.levels) anc u.result name attrs kids (take a.len a.text.now) (ap (λ (k : ℕ). not u.result.skip_md && has_writer u.result k) (sym (c.node_name-name.ensures ∙ element_name x)) ∙ ap (λ (b : Bool). not u.result.skip_md && b) (sym c.has_writer.ensures) ∙ c.if-flags-has_writer.false)) in
+    let plain_here : (name : Bytes) (attrs : List Attr) (kids : Forest) (anc : Ancestors) → ElementAt c.args.sheet.now c.args.nodes.now c.args.at name attrs kids → in_element (self_at c.args.skip c.args.levels) anc (unpacked c.args.bits) name attrs kids (take c.args.len c.args.text.now) ≡ and_then ((self_at c.args.skip c.args.levels).below (attrs ∷ anc) (unpacked c.args.bits) kids (take c.args.len c.args.text.now)) (closed (unpacked c.args.bits) (tag_of name)) = λ name attrs kids anc x. let a = c.args in let u = c.unpacked-flags in subst (λ (o : FormatOpts). in_element (self_at a.skip a.levels) anc o name attrs kids (take a.len a.text.now) ≡ and_then ((self_at a.skip a.levels).below (attrs ∷ anc) o kids (take a.len a.text.now)) (closed o (tag_of name))) u.ensures (inside_plain (self_at a.skip a.levels) anc u.result name attrs kids (take a.len a.text.now) (ap (λ (k : ℕ). not u.result.skip_md && has_writer u.result k) (sym (c.node_name-name.ensures ∙ element_name x)) ∙ ap (λ (b : Bool). not u.result.skip_md && b) (sym c.has_writer.ensures) ∙ c.if-flags-has_writer.false)) in
     let a = c.args in record {
       kept = kept_in (omega arith) (omega (arith, c.node_end-to.ensures)) c.siblings.ensures.kept;
-      writes_element = stops_element c.from_residual.ensures.0 (record { for = λ name attrs kids anc x h. both-full a.text.now a.len c.requires.1.0 (in_element (self_at a.own a.run.now a.levels) anc (unpacked a.bits) name attrs kids) ((self_at a.own a.run.now a.levels).below (attrs ∷ anc) (unpacked a.bits) kids) (closed (unpacked a.bits) (tag_of name)) (plain_here _ _ _ anc x) (below-wrote a.own a.run.now a.levels (unpacked a.bits) anc x h c.node_end-to.ensures c.siblings.ensures.writes_forest) c.in_err-n.was });
+      writes_element = stops_element c.from_residual.ensures.0 (record { for = λ name attrs kids anc x h. both-full a.text.now a.len c.requires.1.0 (in_element (self_at a.skip a.levels) anc (unpacked a.bits) name attrs kids) ((self_at a.skip a.levels).below (attrs ∷ anc) (unpacked a.bits) kids) (closed (unpacked a.bits) (tag_of name)) (plain_here _ _ _ anc x) (below-wrote a.skip a.levels (unpacked a.bits) anc x h c.node_end-to.ensures c.siblings.ensures.writes_forest) c.in_err-n.was });
     }
 
 pub inside-returns : goal.inside-returns
 inside-returns t c =
-    let plain_here : (name : Bytes) (attrs : List Attr) (kids : Forest) (anc : Ancestors) → ElementAt c.args.sheet.now c.args.nodes.now c.args.at name attrs kids → in_element (self_at c.args.own c.args.run.now c.args.levels) anc (unpacked c.args.bits) name attrs kids (take c.args.len c.args.text.now) ≡ and_then ((self_at c.args.own c.args.run.now c.args.levels).below (attrs ∷ anc) (unpacked c.args.bits) kids (take c.args.len c.args.text.now)) (closed (unpacked c.args.bits) (tag_of name)) = λ name attrs kids anc x. let a = c.args in let u = c.unpacked-flags in subst (λ (o : FormatOpts). in_element (self_at a.own a.run.now a.levels) anc o name attrs kids (take a.len a.text.now) ≡ and_then ((self_at a.own a.run.now a.levels).below (attrs ∷ anc) o kids (take a.len a.text.now)) (closed o (tag_of name))) u.ensures (inside_plain (self_at a.own a.run.now a.levels) anc u.result name attrs kids (take a.len a.text.now) (ap (λ (k : ℕ). not u.result.skip_md && has_writer u.result k) (sym (c.node_name-name.ensures ∙ element_name x)) ∙ ap (λ (b : Bool). not u.result.skip_md && b) (sym c.has_writer.ensures) ∙ c.if-flags-has_writer.false)) in
+    let plain_here : (name : Bytes) (attrs : List Attr) (kids : Forest) (anc : Ancestors) → ElementAt c.args.sheet.now c.args.nodes.now c.args.at name attrs kids → in_element (self_at c.args.skip c.args.levels) anc (unpacked c.args.bits) name attrs kids (take c.args.len c.args.text.now) ≡ and_then ((self_at c.args.skip c.args.levels).below (attrs ∷ anc) (unpacked c.args.bits) kids (take c.args.len c.args.text.now)) (closed (unpacked c.args.bits) (tag_of name)) = λ name attrs kids anc x. let a = c.args in let u = c.unpacked-flags in subst (λ (o : FormatOpts). in_element (self_at a.skip a.levels) anc o name attrs kids (take a.len a.text.now) ≡ and_then ((self_at a.skip a.levels).below (attrs ∷ anc) o kids (take a.len a.text.now)) (closed o (tag_of name))) u.ensures (inside_plain (self_at a.skip a.levels) anc u.result name attrs kids (take a.len a.text.now) (ap (λ (k : ℕ). not u.result.skip_md && has_writer u.result k) (sym (c.node_name-name.ensures ∙ element_name x)) ∙ ap (λ (b : Bool). not u.result.skip_md && b) (sym c.has_writer.ensures) ∙ c.if-flags-has_writer.false)) in
     let a = c.args in record {
       kept = kept_in (omega arith) (omega (arith, c.node_end-to.ensures)) c.siblings.ensures.kept;
       writes_element = record {
-        for = λ name attrs kids anc x h. both-done a.text.now a.len c.requires.1.0 (in_element (self_at a.own a.run.now a.levels) anc (unpacked a.bits) name attrs kids) ((self_at a.own a.run.now a.levels).below (attrs ∷ anc) (unpacked a.bits) kids) (closed (unpacked a.bits) (tag_of name)) (plain_here _ _ _ anc x) (below-wrote a.own a.run.now a.levels (unpacked a.bits) anc x h c.node_end-to.ensures c.siblings.ensures.writes_forest) c.in_ok-n.was
+        for = λ name attrs kids anc x h. both-done a.text.now a.len c.requires.1.0 (in_element (self_at a.skip a.levels) anc (unpacked a.bits) name attrs kids) ((self_at a.skip a.levels).below (attrs ∷ anc) (unpacked a.bits) kids) (closed (unpacked a.bits) (tag_of name)) (plain_here _ _ _ anc x) (below-wrote a.skip a.levels (unpacked a.bits) anc x h c.node_end-to.ensures c.siblings.ensures.writes_forest) c.in_ok-n.was
             (subst (λ (o : FormatOpts). Writes (length c.siblings.new.text) c.closed.new.text c.closed.result (closed o (tag_of name) (take c.in_ok-n.n c.siblings.new.text))) c.unpacked.ensures
             (subst (λ (k : ℕ). Writes (length c.siblings.new.text) c.closed.new.text c.closed.result (closed c.unpacked.result k (take c.in_ok-n.n c.siblings.new.text))) (c.node_name-name.ensures ∙ element_name x) c.closed.ensures));
       };
@@ -746,7 +746,7 @@ pub item-returns-then-not-li : goal.item-returns-then-not-li
 item-returns-then-not-li t c =
     let inner_here : c.include_node-inner.result ≡ include_node (fresh c.args.ctx.now.opts) = c.include_node-inner.ensures ∙ ap include_node c.fresh.ensures in
     let a = c.args in
-    let skips = tags_to_skip (skip_list a.own a.run.now) in record {
+    let skips = tags_to_skip (skip_of a.skip) in record {
       kept = kept_in (omega arith) (omega (arith, c.node_end-to.ensures)) c.write.ensures.kept;
       writes_forest = record {
         for = λ parent f anc h x.
@@ -787,7 +787,7 @@ item-returns-then-has_blocks t c =
     let named_here : name_at c.args.sheet.now (place_at c.args.nodes.now c.args.c) ≡ 16 = eqb-true (name_at c.args.sheet.now (place_at c.args.nodes.now c.args.c)) 16 (sym c.requires.1 ∙ c.if-not-li.false) in
     let a = c.args in record {
       kept = c.blocks-then-has_blocks.ensures.kept;
-      writes_forest = head_item c.requires.0 (named_here) (self_at a.own a.run.now a.levels) a.ctx.now true c.node_end-to.ensures (λ parent f h. sym c.if-has_blocks.true ∙ c.has_blocks.ensures parent f h) c.blocks-then-has_blocks.ensures.writes_element;
+      writes_forest = head_item c.requires.0 (named_here) (self_at a.skip a.levels) a.ctx.now true c.node_end-to.ensures (λ parent f h. sym c.if-has_blocks.true ∙ c.has_blocks.ensures parent f h) c.blocks-then-has_blocks.ensures.writes_element;
       ctx_value = c.blocks-then-has_blocks.ensures.ctx_value ∙ sym (ap (λ (b : Bool). cond b (advance_ol_number a.ctx.now) a.ctx.now) (c.if-not-li.false));
     }
 
@@ -796,7 +796,7 @@ item-returns t c =
     let named_here : name_at c.args.sheet.now (place_at c.args.nodes.now c.args.c) ≡ 16 = eqb-true (name_at c.args.sheet.now (place_at c.args.nodes.now c.args.c)) 16 (sym c.requires.1 ∙ c.if-not-li.false) in
     let a = c.args in record {
       kept = c.flat.ensures.kept;
-      writes_forest = head_item c.requires.0 (named_here) (self_at a.own a.run.now a.levels) a.ctx.now false c.node_end-to.ensures (λ parent f h. sym c.if-has_blocks.false ∙ c.has_blocks.ensures parent f h) c.flat.ensures.writes_element;
+      writes_forest = head_item c.requires.0 (named_here) (self_at a.skip a.levels) a.ctx.now false c.node_end-to.ensures (λ parent f h. sym c.if-has_blocks.false ∙ c.has_blocks.ensures parent f h) c.flat.ensures.writes_element;
       ctx_value = c.flat.ensures.ctx_value ∙ sym (ap (λ (b : Bool). cond b (advance_ol_number a.ctx.now) a.ctx.now) (c.if-not-li.false));
     }
 
@@ -808,7 +808,7 @@ items-loop-c-init t c = (
   omega arith,
   c.requires.0,
   c.requires.2,
-  turn_first c.args.sheet.now c.args.nodes.now c.args.from c.args.to (λ anc f. list_children (self_at c.args.own c.args.run.now c.args.levels) anc f c.args.first) c.args.text.now c.args.len c.requires.1.0,
+  turn_first c.args.sheet.now c.args.nodes.now c.args.from c.args.to (λ anc f. list_children (self_at c.args.skip c.args.levels) anc f c.args.first) c.args.text.now c.args.len c.requires.1.0,
 )
 
 pub items-node_place-place-requires : goal.items-node_place-place-requires
@@ -838,9 +838,9 @@ items-item-requires t c =
 pub items-returns-in_err-end : goal.items-returns-in_err-end
 items-returns-in_err-end t c =
     let kept_here : Kept c.args.from c.args.to c.args.nodes.now c.item.new.nodes = let l = c.loop-c in let lt = c.loop-c-test.true in kept_then l.invariant.2 (kept_in l.invariant.3 (omega (arith, end_kept l.invariant.2 l.c, placeds_within l.invariant.4 lt)) c.item.ensures.kept) in
-    let parts_here : (next : ListContext) → next ≡ cond (eqb c.node_name-li.result 16) (advance_ol_number c.renumbered-ctx.result) c.renumbered-ctx.result → (parent : ℕ) (anc : Ancestors) (g : Forest) → Rep c.args.sheet.now c.args.nodes.now parent c.loop-c.c c.args.to g → (u : Bytes) → list_children (self_at c.args.own c.args.run.now c.args.levels) anc g c.loop-c.ctx u ≡ and_then (list_head (self_at c.args.own c.args.run.now c.args.levels) anc (head_of g) c.renumbered-ctx.result u) (list_children (self_at c.args.own c.args.run.now c.args.levels) anc (rest_of g) next) = λ next b parent anc g h u. let l = c.loop-c in let k = place_kept l.invariant.2 l.c in list_first (self_at c.args.own c.args.run.now c.args.levels) anc l.ctx u c.args.sheet.now c.args.nodes.now parent l.c c.args.to g h c.loop-c-test.true c.node_place-place.result (eqb c.node_name-li.result 16) c.renumbered-ctx.result next (c.node_place-place.ensures ∙ k) (ap (λ (j : ℕ). eqb j 16) (c.node_name-li.ensures ∙ ap (name_at c.args.sheet.now) k)) c.renumbered-ctx.ensures b in
-    let wrote_here : WritesForest c.args.sheet.now c.args.nodes.now c.loop-c.c (end_at c.args.nodes.now c.loop-c.c) (λ anc f. list_head (self_at c.args.own c.args.run.now c.args.levels) anc f c.renumbered-ctx.result) (take c.loop-c.end c.loop-c.text) (length c.loop-c.text) c.item.new.text c.item.result = writes_before c.loop-c.invariant.2 c.item.ensures.writes_forest in
-    let self = self_at c.args.own c.args.run.now c.args.levels in
+    let parts_here : (next : ListContext) → next ≡ cond (eqb c.node_name-li.result 16) (advance_ol_number c.renumbered-ctx.result) c.renumbered-ctx.result → (parent : ℕ) (anc : Ancestors) (g : Forest) → Rep c.args.sheet.now c.args.nodes.now parent c.loop-c.c c.args.to g → (u : Bytes) → list_children (self_at c.args.skip c.args.levels) anc g c.loop-c.ctx u ≡ and_then (list_head (self_at c.args.skip c.args.levels) anc (head_of g) c.renumbered-ctx.result u) (list_children (self_at c.args.skip c.args.levels) anc (rest_of g) next) = λ next b parent anc g h u. let l = c.loop-c in let k = place_kept l.invariant.2 l.c in list_first (self_at c.args.skip c.args.levels) anc l.ctx u c.args.sheet.now c.args.nodes.now parent l.c c.args.to g h c.loop-c-test.true c.node_place-place.result (eqb c.node_name-li.result 16) c.renumbered-ctx.result next (c.node_place-place.ensures ∙ k) (ap (λ (j : ℕ). eqb j 16) (c.node_name-li.ensures ∙ ap (name_at c.args.sheet.now) k)) c.renumbered-ctx.ensures b in
+    let wrote_here : WritesForest c.args.sheet.now c.args.nodes.now c.loop-c.c (end_at c.args.nodes.now c.loop-c.c) (λ anc f. list_head (self_at c.args.skip c.args.levels) anc f c.renumbered-ctx.result) (take c.loop-c.end c.loop-c.text) (length c.loop-c.text) c.item.new.text c.item.result = writes_before c.loop-c.invariant.2 c.item.ensures.writes_forest in
+    let self = self_at c.args.skip c.args.levels in
     let next = cond (eqb c.node_name-li.result 16) (advance_ol_number c.renumbered-ctx.result) c.renumbered-ctx.result in record {
       kept = kept_here;
       writes_forest = stops_forest c.from_residual.ensures.0 (record {
@@ -864,13 +864,13 @@ items-loop-c-preserved t c =
     let kept_here : Kept c.args.from c.args.to c.args.nodes.now c.item.new.nodes = let l = c.loop-c in let lt = c.loop-c-test.true in kept_then l.invariant.2 (kept_in l.invariant.3 (omega (arith, end_kept l.invariant.2 l.c, placeds_within l.invariant.4 lt)) c.item.ensures.kept) in
     let here_here : PlacedNode c.args.sheet.now c.loop-c.nodes c.loop-c.c = node_kept c.loop-c.invariant.2 (placeds_first c.loop-c.invariant.4 c.loop-c-test.true) in
     let fits_here : FitsIn c.renumbered-ctx.result c.args.levels = fits_child c.args.levels (eqb c.node_name-li.result 16) (number_of (attr (ascii "value") (attrs_behind c.args.sheet.now c.node_place-place.result))) c.loop-c.ctx c.renumbered-ctx.result c.renumbered-ctx.ensures c.loop-c.invariant.5 in
-    let parts_here : (next : ListContext) → next ≡ cond (eqb c.node_name-li.result 16) (advance_ol_number c.renumbered-ctx.result) c.renumbered-ctx.result → (parent : ℕ) (anc : Ancestors) (g : Forest) → Rep c.args.sheet.now c.args.nodes.now parent c.loop-c.c c.args.to g → (u : Bytes) → list_children (self_at c.args.own c.args.run.now c.args.levels) anc g c.loop-c.ctx u ≡ and_then (list_head (self_at c.args.own c.args.run.now c.args.levels) anc (head_of g) c.renumbered-ctx.result u) (list_children (self_at c.args.own c.args.run.now c.args.levels) anc (rest_of g) next) = λ next b parent anc g h u. let l = c.loop-c in let k = place_kept l.invariant.2 l.c in list_first (self_at c.args.own c.args.run.now c.args.levels) anc l.ctx u c.args.sheet.now c.args.nodes.now parent l.c c.args.to g h c.loop-c-test.true c.node_place-place.result (eqb c.node_name-li.result 16) c.renumbered-ctx.result next (c.node_place-place.ensures ∙ k) (ap (λ (j : ℕ). eqb j 16) (c.node_name-li.ensures ∙ ap (name_at c.args.sheet.now) k)) c.renumbered-ctx.ensures b in
-    let wrote_here : WritesForest c.args.sheet.now c.args.nodes.now c.loop-c.c (end_at c.args.nodes.now c.loop-c.c) (λ anc f. list_head (self_at c.args.own c.args.run.now c.args.levels) anc f c.renumbered-ctx.result) (take c.loop-c.end c.loop-c.text) (length c.loop-c.text) c.item.new.text c.item.result = writes_before c.loop-c.invariant.2 c.item.ensures.writes_forest in
+    let parts_here : (next : ListContext) → next ≡ cond (eqb c.node_name-li.result 16) (advance_ol_number c.renumbered-ctx.result) c.renumbered-ctx.result → (parent : ℕ) (anc : Ancestors) (g : Forest) → Rep c.args.sheet.now c.args.nodes.now parent c.loop-c.c c.args.to g → (u : Bytes) → list_children (self_at c.args.skip c.args.levels) anc g c.loop-c.ctx u ≡ and_then (list_head (self_at c.args.skip c.args.levels) anc (head_of g) c.renumbered-ctx.result u) (list_children (self_at c.args.skip c.args.levels) anc (rest_of g) next) = λ next b parent anc g h u. let l = c.loop-c in let k = place_kept l.invariant.2 l.c in list_first (self_at c.args.skip c.args.levels) anc l.ctx u c.args.sheet.now c.args.nodes.now parent l.c c.args.to g h c.loop-c-test.true c.node_place-place.result (eqb c.node_name-li.result 16) c.renumbered-ctx.result next (c.node_place-place.ensures ∙ k) (ap (λ (j : ℕ). eqb j 16) (c.node_name-li.ensures ∙ ap (name_at c.args.sheet.now) k)) c.renumbered-ctx.ensures b in
+    let wrote_here : WritesForest c.args.sheet.now c.args.nodes.now c.loop-c.c (end_at c.args.nodes.now c.loop-c.c) (λ anc f. list_head (self_at c.args.skip c.args.levels) anc f c.renumbered-ctx.result) (take c.loop-c.end c.loop-c.text) (length c.loop-c.text) c.item.new.text c.item.result = writes_before c.loop-c.invariant.2 c.item.ensures.writes_forest in
     let l = c.loop-c in
     let lt = c.loop-c-test.true in
     let K = kept_here in
     let q = c.node_end-c.ensures ∙ end_kept K l.c in
-    let self = self_at c.args.own c.args.run.now c.args.levels in (
+    let self = self_at c.args.skip c.args.levels in (
       forest-reaches c.item.ensures.writes_forest (here_here).alone c.in_ok-end.was,
       forest-long c.item.ensures.writes_forest (here_here).alone c.in_ok-end.was ∙ l.invariant.1,
       K,
@@ -886,7 +886,7 @@ items-returns t c =
       kept = l.invariant.2;
       writes_forest = record {
         for = λ parent f anc h a.
-            turn_last l.invariant.6 c.loop-c-test.false (λ anc u. list_none (self_at c.args.own c.args.run.now c.args.levels) anc l.ctx u) parent f anc h a;
+            turn_last l.invariant.6 c.loop-c-test.false (λ anc u. list_none (self_at c.args.skip c.args.levels) anc l.ctx u) parent f anc h a;
       };
     }
 
@@ -921,10 +921,10 @@ kids-returns-then-levels-is_one_text t c =
       kept = kept_none a.nodes.now;
       writes_element = record {
         for = λ name attrs kids anc x h.
-            alike (ap (λ (o : FormatOpts). write_kids (self_at a.own a.run.now a.levels) anc o (element name attrs kids nothing) (take a.len a.text.now)) (sym u.ensures)
-            ∙ kids_is (self_at a.own a.run.now a.levels) anc u.result name attrs kids (take a.len a.text.now)
-            ∙ ap (λ (z : Out). and_then z trim_space) (write_some (tags_to_skip (skip_list a.own a.run.now)) a.levels (attrs ∷ anc) u.result kids (take a.len a.text.now) b.0
-            ∙ one_is a.sheet.now a.nodes.now a.at (a.at + 1) c.node_end-to.result o.0 o.1 (self_at a.own a.run.now (a.levels - 1)) (attrs ∷ anc) u.result (take a.len a.text.now) kids (element_kids x c.node_end-to.ensures)))
+            alike (ap (λ (o : FormatOpts). write_kids (self_at a.skip a.levels) anc o (element name attrs kids nothing) (take a.len a.text.now)) (sym u.ensures)
+            ∙ kids_is (self_at a.skip a.levels) anc u.result name attrs kids (take a.len a.text.now)
+            ∙ ap (λ (z : Out). and_then z trim_space) (write_some (tags_to_skip (skip_of a.skip)) a.levels (attrs ∷ anc) u.result kids (take a.len a.text.now) b.0
+            ∙ one_is a.sheet.now a.nodes.now a.at (a.at + 1) c.node_end-to.result o.0 o.1 (self_at a.skip (a.levels - 1)) (attrs ∷ anc) u.result (take a.len a.text.now) kids (element_kids x c.node_end-to.ensures)))
             c.trim_behind_text.ensures;
       };
     }
@@ -945,14 +945,14 @@ pub kids-returns-in_err-n : goal.kids-returns-in_err-n
 kids-returns-in_err-n t c =
     let a = c.args in record {
       kept = kept_in (omega arith) (omega (arith, c.node_end-to.ensures)) c.write.ensures.kept;
-      writes_element = stops_element c.from_residual.ensures.0 (record { for = λ name attrs kids anc x h. both-full a.text.now a.len c.requires.1.0 (write_kids (self_at a.own a.run.now a.levels) anc (unpacked a.bits) (element name attrs kids nothing)) ((self_at a.own a.run.now a.levels).below (attrs ∷ anc) (unpacked a.bits) kids) trim_space (kids_is (self_at a.own a.run.now a.levels) anc (unpacked a.bits) name attrs kids (take a.len a.text.now)) (below-wrote a.own a.run.now a.levels (unpacked a.bits) anc x h c.node_end-to.ensures c.write.ensures.writes_forest) c.in_err-n.was });
+      writes_element = stops_element c.from_residual.ensures.0 (record { for = λ name attrs kids anc x h. both-full a.text.now a.len c.requires.1.0 (write_kids (self_at a.skip a.levels) anc (unpacked a.bits) (element name attrs kids nothing)) ((self_at a.skip a.levels).below (attrs ∷ anc) (unpacked a.bits) kids) trim_space (kids_is (self_at a.skip a.levels) anc (unpacked a.bits) name attrs kids (take a.len a.text.now)) (below-wrote a.skip a.levels (unpacked a.bits) anc x h c.node_end-to.ensures c.write.ensures.writes_forest) c.in_err-n.was });
     }
 
 pub kids-returns : goal.kids-returns
 kids-returns t c =
     let a = c.args in record {
       kept = kept_in (omega arith) (omega (arith, c.node_end-to.ensures)) c.write.ensures.kept;
-      writes_element = record { for = λ name attrs kids anc x h. both-done a.text.now a.len c.requires.1.0 (write_kids (self_at a.own a.run.now a.levels) anc (unpacked a.bits) (element name attrs kids nothing)) ((self_at a.own a.run.now a.levels).below (attrs ∷ anc) (unpacked a.bits) kids) trim_space (kids_is (self_at a.own a.run.now a.levels) anc (unpacked a.bits) name attrs kids (take a.len a.text.now)) (below-wrote a.own a.run.now a.levels (unpacked a.bits) anc x h c.node_end-to.ensures c.write.ensures.writes_forest) c.in_ok-n.was (record { says = c.trim_space.ensures }) };
+      writes_element = record { for = λ name attrs kids anc x h. both-done a.text.now a.len c.requires.1.0 (write_kids (self_at a.skip a.levels) anc (unpacked a.bits) (element name attrs kids nothing)) ((self_at a.skip a.levels).below (attrs ∷ anc) (unpacked a.bits) kids) trim_space (kids_is (self_at a.skip a.levels) anc (unpacked a.bits) name attrs kids (take a.len a.text.now)) (below-wrote a.skip a.levels (unpacked a.bits) anc x h c.node_end-to.ensures c.write.ensures.writes_forest) c.in_ok-n.was (record { says = c.trim_space.ensures }) };
     }
 
 pub led-flow-requires : goal.led-flow-requires
@@ -969,21 +969,21 @@ pub led-returns : goal.led-returns
 led-returns t c =
     record {
       kept = c.flow.ensures.kept;
-      writes_element = led_done c.args.sheet.now c.args.nodes.now c.args.c c.requires.1 (self_at c.args.own c.args.run.now c.args.levels) (item_of c.args.item) c.args.first c.args.text.now c.args.len c.requires.2.0 c.push_block_lead.ensures c.in_ok-n.was c.flow.ensures.writes_element c.in_ok-m.was c.push_linebreak.ensures;
+      writes_element = led_done c.args.sheet.now c.args.nodes.now c.args.c c.requires.1 (self_at c.args.skip c.args.levels) (item_of c.args.item) c.args.first c.args.text.now c.args.len c.requires.2.0 c.push_block_lead.ensures c.in_ok-n.was c.flow.ensures.writes_element c.in_ok-m.was c.push_linebreak.ensures;
     }
 
 pub led-returns-in_err-m : goal.led-returns-in_err-m
 led-returns-in_err-m t c =
     record {
       kept = c.flow.ensures.kept;
-      writes_element = stops_element c.from_residual-in_err-m.ensures.0 (led_full c.args.sheet.now c.args.nodes.now c.args.c c.requires.1 (self_at c.args.own c.args.run.now c.args.levels) (item_of c.args.item) c.args.first c.args.text.now c.args.len c.requires.2.0 c.push_block_lead.ensures c.in_ok-n.was c.flow.ensures.writes_element c.in_err-m.was);
+      writes_element = stops_element c.from_residual-in_err-m.ensures.0 (led_full c.args.sheet.now c.args.nodes.now c.args.c c.requires.1 (self_at c.args.skip c.args.levels) (item_of c.args.item) c.args.first c.args.text.now c.args.len c.requires.2.0 c.push_block_lead.ensures c.in_ok-n.was c.flow.ensures.writes_element c.in_err-m.was);
     }
 
 pub led-returns-in_err-n : goal.led-returns-in_err-n
 led-returns-in_err-n t c =
     record {
       kept = kept_none c.args.nodes.now;
-      writes_element = stops_element c.from_residual.ensures.0 (led_none c.args.sheet.now c.args.nodes.now c.args.c c.requires.1 (self_at c.args.own c.args.run.now c.args.levels) (item_of c.args.item) c.args.first c.args.text.now c.args.len c.requires.2.0 c.push_block_lead.ensures c.in_err-n.was);
+      writes_element = stops_element c.from_residual.ensures.0 (led_none c.args.sheet.now c.args.nodes.now c.args.c c.requires.1 (self_at c.args.skip c.args.levels) (item_of c.args.item) c.args.first c.args.text.now c.args.len c.requires.2.0 c.push_block_lead.ensures c.in_err-n.was);
     }
 
 pub link-node_end-end-requires : goal.link-node_end-end-requires
@@ -1014,8 +1014,8 @@ link-returns-then-has_element t c =
       kept = c.body.ensures.kept;
       writes_element = record {
         for = λ name attrs kids anc x h.
-            alike (to_image (self_at a.own a.run.now a.levels) anc a.opts href name attrs kids (take a.len a.text.now) (sym (c.has_element.ensures a.at kids (element_kids x c.node_end-end.ensures)) ∙ c.if-has_element.true))
-            (subst (λ (o : FormatOpts). Writes (length a.text.now) c.body.new.text c.body.result (link_of attrs href (write_kids (self_at a.own a.run.now a.levels) anc o (element name attrs kids nothing) []) push (take a.len a.text.now))) (c.link_body.ensures ∙ ap link_body c.fresh-fresh.ensures) (c.body.ensures.writes_element.for name attrs kids anc x h));
+            alike (to_image (self_at a.skip a.levels) anc a.opts href name attrs kids (take a.len a.text.now) (sym (c.has_element.ensures a.at kids (element_kids x c.node_end-end.ensures)) ∙ c.if-has_element.true))
+            (subst (λ (o : FormatOpts). Writes (length a.text.now) c.body.new.text c.body.result (link_of attrs href (write_kids (self_at a.skip a.levels) anc o (element name attrs kids nothing) []) push (take a.len a.text.now))) (c.link_body.ensures ∙ ap link_body c.fresh-fresh.ensures) (c.body.ensures.writes_element.for name attrs kids anc x h));
       };
     }
 
@@ -1042,9 +1042,9 @@ link-returns-then-n-eq0 t c =
       writes_element = record {
         for = λ name attrs kids anc x h.
             let w = done c.in_ok-n.was (wrote_here _ _ _ x) in
-            alike (to_body (self_at a.own a.run.now a.levels) anc a.opts href name attrs kids (take a.len a.text.now) (bare_here _ _ _ x) (null_none (shown_text a.opts kids).text (sym w.count ∙ c.if-n-eq0.true)))
-            (subst₂ (λ (k : ℕ) (u : Bytes). Writes k c.body-then-n-eq0.new.text c.body-then-n-eq0.result (link_of attrs href (write_kids (self_at a.own a.run.now a.levels) anc (fresh a.opts) (element name attrs kids nothing) []) push u)) (back_length a.text.now a.len c.requires.1.0 (shown_text a.opts kids) w) (back_text a.text.now a.len c.requires.1.0 (shown_text a.opts kids) w)
-            (subst (λ (o : FormatOpts). Writes (length (back a.text.now a.len c.write_text.new.text)) c.body-then-n-eq0.new.text c.body-then-n-eq0.result (link_of attrs href (write_kids (self_at a.own a.run.now a.levels) anc o (element name attrs kids nothing) []) push (take a.len (back a.text.now a.len c.write_text.new.text)))) c.fresh-fresh.ensures (c.body-then-n-eq0.ensures.writes_element.for name attrs kids anc x h)));
+            alike (to_body (self_at a.skip a.levels) anc a.opts href name attrs kids (take a.len a.text.now) (bare_here _ _ _ x) (null_none (shown_text a.opts kids).text (sym w.count ∙ c.if-n-eq0.true)))
+            (subst₂ (λ (k : ℕ) (u : Bytes). Writes k c.body-then-n-eq0.new.text c.body-then-n-eq0.result (link_of attrs href (write_kids (self_at a.skip a.levels) anc (fresh a.opts) (element name attrs kids nothing) []) push u)) (back_length a.text.now a.len c.requires.1.0 (shown_text a.opts kids) w) (back_text a.text.now a.len c.requires.1.0 (shown_text a.opts kids) w)
+            (subst (λ (o : FormatOpts). Writes (length (back a.text.now a.len c.write_text.new.text)) c.body-then-n-eq0.new.text c.body-then-n-eq0.result (link_of attrs href (write_kids (self_at a.skip a.levels) anc o (element name attrs kids nothing) []) push (take a.len (back a.text.now a.len c.write_text.new.text)))) c.fresh-fresh.ensures (c.body-then-n-eq0.ensures.writes_element.for name attrs kids anc x h)));
       };
     }
 
@@ -1068,7 +1068,7 @@ link-returns-else-n-eq0 t c =
       writes_element = record {
         for = λ name attrs kids anc x h.
             let w = done c.in_ok-n.was (wrote_here _ _ _ x) in
-            alike (to_text (self_at a.own a.run.now a.levels) anc a.opts href name attrs kids (take a.len a.text.now) (bare_here _ _ _ x) (null_more (shown_text a.opts kids).text (λ z. c.if-n-eq0.false (w.count ∙ z))))
+            alike (to_text (self_at a.skip a.levels) anc a.opts href name attrs kids (take a.len a.text.now) (bare_here _ _ _ x) (null_more (shown_text a.opts kids).text (λ z. c.if-n-eq0.false (w.count ∙ z))))
             (nest-done a.text.now a.len c.requires.1.0 (wrote_here _ _ _ x) (λ z. text_link_step a.opts attrs href z) c.in_ok-n.was
             (subst (λ (l : List Attr). Writes (length (back a.text.now a.len c.write_text.new.text)) c.push_text_link.new.text c.push_text_link.result (text_link_step a.opts l href (take c.in_ok-n.n (drop a.len (back a.text.now a.len c.write_text.new.text))) (take a.len (back a.text.now a.len c.write_text.new.text)))) (ap (attrs_behind a.sheet.now) c.node_place-place.ensures ∙ sym x.attrs_are) c.push_text_link.ensures));
       };
@@ -1083,7 +1083,7 @@ link-returns-in_err-n t c =
       kept = kept_none a.nodes.now;
       writes_element = stops_element c.from_residual.ensures.0 (record {
         for = λ name attrs kids anc x h.
-            alike (to_text (self_at a.own a.run.now a.levels) anc a.opts href name attrs kids (take a.len a.text.now) (bare_here _ _ _ x) (shown_null (shown_text a.opts kids) (text_grown (skip_escape (include_node (fresh a.opts))) kids []) (full c.in_err-n.was (wrote_here _ _ _ x))))
+            alike (to_text (self_at a.skip a.levels) anc a.opts href name attrs kids (take a.len a.text.now) (bare_here _ _ _ x) (shown_null (shown_text a.opts kids) (text_grown (skip_escape (include_node (fresh a.opts))) kids []) (full c.in_err-n.was (wrote_here _ _ _ x))))
             (nest-full a.text.now a.len c.requires.1.0 (wrote_here _ _ _ x) (text_link_step a.opts attrs href (shown_text a.opts kids).text) c.in_err-n.was);
       });
     }
@@ -1122,7 +1122,7 @@ node-returns-then-tag_at-ne1 t c =
     let u = c.unpacked-opts in
     record {
       kept = kept_none a.nodes.now;
-      writes_forest = record { for = λ parent f anc h q. alike (ap (λ (o : FormatOpts). write_nodes (self_at a.own a.run.now a.levels) anc o f (take a.len a.text.now)) (sym u.ensures) ∙ node_text a.sheet.now a.nodes.now parent a.at c.requires.0.later (self_at a.own a.run.now a.levels) anc u.result (take a.len a.text.now) f h (λ e. c.if-tag_at-ne1.true (c.tag_at.ensures ∙ ap (λ (k : ℕ). get_or a.sheet.now k 0) c.node_place-place.ensures ∙ e))) c.write_text_node.ensures };
+      writes_forest = record { for = λ parent f anc h q. alike (ap (λ (o : FormatOpts). write_nodes (self_at a.skip a.levels) anc o f (take a.len a.text.now)) (sym u.ensures) ∙ node_text a.sheet.now a.nodes.now parent a.at c.requires.0.later (self_at a.skip a.levels) anc u.result (take a.len a.text.now) f h (λ e. c.if-tag_at-ne1.true (c.tag_at.ensures ∙ ap (λ (k : ℕ). get_or a.sheet.now k 0) c.node_place-place.ensures ∙ e))) c.write_text_node.ensures };
     }
 
 pub node-returns-then-node_is_skipped : goal.node-returns-then-node_is_skipped
@@ -1130,13 +1130,13 @@ unfolding serializer
 node-returns-then-node_is_skipped t c =
     let tagged_here : get_or c.args.sheet.now (place_at c.args.nodes.now c.args.at) 0 ≡ 1 = omega (arith, c.if-tag_at-ne1.false, c.tag_at.ensures ∙ ap (λ (k : ℕ). get_or c.args.sheet.now k 0) c.node_place-place.ensures) in
     let tagged_here_2 : get_or c.args.sheet.now (place_at c.args.nodes.now c.args.at) 0 ≡ 1 = omega (arith, c.if-tag_at-ne1.false, c.tag_at.ensures ∙ ap (λ (k : ℕ). get_or c.args.sheet.now k 0) c.node_place-place.ensures) in
-    let skips_here : among (body_at c.args.sheet.now (place_at c.args.nodes.now c.args.at)) (tags_to_skip (skip_list c.args.own c.args.run.now)) ≡ c.node_is_skipped.result = let a = c.args in sym (first_skipped a.sheet.now (place_at a.nodes.now a.at) (tags_to_skip (skip_list a.own a.run.now)) (tagged_here_2)) ∙ sym c.node_is_skipped.ensures in
+    let skips_here : among (body_at c.args.sheet.now (place_at c.args.nodes.now c.args.at)) (tags_to_skip (skip_of c.args.skip)) ≡ c.node_is_skipped.result = let a = c.args in sym (first_skipped a.sheet.now (place_at a.nodes.now a.at) (tags_to_skip (skip_of a.skip)) (tagged_here_2)) ∙ sym c.node_is_skipped.ensures in
     let a = c.args in record {
       kept = kept_none a.nodes.now;
       writes_forest = record {
         for = λ parent f anc h q.
-            alike (ap (λ (g : Forest). write_nodes (self_at a.own a.run.now a.levels) anc (unpacked a.bits) g (take a.len a.text.now)) (alone_element a.sheet.now a.nodes.now parent a.at c.requires.0.later f h (tagged_here))
-            ∙ element_skipped (self_at a.own a.run.now a.levels) anc (unpacked a.bits) (body_at a.sheet.now (place_at a.nodes.now a.at)) (attrs_behind a.sheet.now (place_at a.nodes.now a.at)) (kids_of f) (take a.len a.text.now) (skips_here ∙ c.if-node_is_skipped.true))
+            alike (ap (λ (g : Forest). write_nodes (self_at a.skip a.levels) anc (unpacked a.bits) g (take a.len a.text.now)) (alone_element a.sheet.now a.nodes.now parent a.at c.requires.0.later f h (tagged_here))
+            ∙ element_skipped (self_at a.skip a.levels) anc (unpacked a.bits) (body_at a.sheet.now (place_at a.nodes.now a.at)) (attrs_behind a.sheet.now (place_at a.nodes.now a.at)) (kids_of f) (take a.len a.text.now) (skips_here ∙ c.if-node_is_skipped.true))
             (record { says = keeps a.text.now a.len c.requires.1.0 });
       };
     }
@@ -1159,8 +1159,8 @@ unfolding serializer
 node-returns t c =
     let tagged_here : get_or c.args.sheet.now (place_at c.args.nodes.now c.args.at) 0 ≡ 1 = omega (arith, c.if-tag_at-ne1.false, c.tag_at.ensures ∙ ap (λ (k : ℕ). get_or c.args.sheet.now k 0) c.node_place-place.ensures) in
     let tagged_here_2 : get_or c.args.sheet.now (place_at c.args.nodes.now c.args.at) 0 ≡ 1 = omega (arith, c.if-tag_at-ne1.false, c.tag_at.ensures ∙ ap (λ (k : ℕ). get_or c.args.sheet.now k 0) c.node_place-place.ensures) in
-    let skips_here : among (body_at c.args.sheet.now (place_at c.args.nodes.now c.args.at)) (tags_to_skip (skip_list c.args.own c.args.run.now)) ≡ c.node_is_skipped.result = let a = c.args in sym (first_skipped a.sheet.now (place_at a.nodes.now a.at) (tags_to_skip (skip_list a.own a.run.now)) (tagged_here_2)) ∙ sym c.node_is_skipped.ensures in
-    let goes_here : (parent : ℕ) (f : Forest) (anc : Ancestors) → Rep c.args.sheet.now c.args.nodes.now parent c.args.at (end_at c.args.nodes.now c.args.at) f → write_nodes (self_at c.args.own c.args.run.now c.args.levels) anc (unpacked c.args.bits) f (take c.args.len c.args.text.now) ≡ and_then (opened (unpacked c.args.bits) (tag_of (body_at c.args.sheet.now (place_at c.args.nodes.now c.args.at))) (attrs_behind c.args.sheet.now (place_at c.args.nodes.now c.args.at)) (kids_of f) (take c.args.len c.args.text.now)) (in_element (self_at c.args.own c.args.run.now c.args.levels) anc (unpacked c.args.bits) (body_at c.args.sheet.now (place_at c.args.nodes.now c.args.at)) (attrs_behind c.args.sheet.now (place_at c.args.nodes.now c.args.at)) (kids_of f)) = λ parent f anc h. let a = c.args in ap (λ (g : Forest). write_nodes (self_at a.own a.run.now a.levels) anc (unpacked a.bits) g (take a.len a.text.now)) (alone_element a.sheet.now a.nodes.now parent a.at c.requires.0.later f h (tagged_here)) ∙ element_opened (self_at a.own a.run.now a.levels) anc (unpacked a.bits) (body_at a.sheet.now (place_at a.nodes.now a.at)) (attrs_behind a.sheet.now (place_at a.nodes.now a.at)) (kids_of f) (take a.len a.text.now) (skips_here ∙ c.if-node_is_skipped.false) in
+    let skips_here : among (body_at c.args.sheet.now (place_at c.args.nodes.now c.args.at)) (tags_to_skip (skip_of c.args.skip)) ≡ c.node_is_skipped.result = let a = c.args in sym (first_skipped a.sheet.now (place_at a.nodes.now a.at) (tags_to_skip (skip_of a.skip)) (tagged_here_2)) ∙ sym c.node_is_skipped.ensures in
+    let goes_here : (parent : ℕ) (f : Forest) (anc : Ancestors) → Rep c.args.sheet.now c.args.nodes.now parent c.args.at (end_at c.args.nodes.now c.args.at) f → write_nodes (self_at c.args.skip c.args.levels) anc (unpacked c.args.bits) f (take c.args.len c.args.text.now) ≡ and_then (opened (unpacked c.args.bits) (tag_of (body_at c.args.sheet.now (place_at c.args.nodes.now c.args.at))) (attrs_behind c.args.sheet.now (place_at c.args.nodes.now c.args.at)) (kids_of f) (take c.args.len c.args.text.now)) (in_element (self_at c.args.skip c.args.levels) anc (unpacked c.args.bits) (body_at c.args.sheet.now (place_at c.args.nodes.now c.args.at)) (attrs_behind c.args.sheet.now (place_at c.args.nodes.now c.args.at)) (kids_of f)) = λ parent f anc h. let a = c.args in ap (λ (g : Forest). write_nodes (self_at a.skip a.levels) anc (unpacked a.bits) g (take a.len a.text.now)) (alone_element a.sheet.now a.nodes.now parent a.at c.requires.0.later f h (tagged_here)) ∙ element_opened (self_at a.skip a.levels) anc (unpacked a.bits) (body_at a.sheet.now (place_at a.nodes.now a.at)) (attrs_behind a.sheet.now (place_at a.nodes.now a.at)) (kids_of f) (take a.len a.text.now) (skips_here ∙ c.if-node_is_skipped.false) in
     let tagged_here_3 : get_or c.args.sheet.now (place_at c.args.nodes.now c.args.at) 0 ≡ 1 = omega (arith, c.if-tag_at-ne1.false, c.tag_at.ensures ∙ ap (λ (k : ℕ). get_or c.args.sheet.now k 0) c.node_place-place.ensures) in
     let opens_here : (parent : ℕ) (f : Forest) → Rep c.args.sheet.now c.args.nodes.now parent c.args.at (end_at c.args.nodes.now c.args.at) f → Writes (length c.args.text.now) c.opened.new.text c.opened.result (opened (unpacked c.args.bits) (tag_of (body_at c.args.sheet.now (place_at c.args.nodes.now c.args.at))) (attrs_behind c.args.sheet.now (place_at c.args.nodes.now c.args.at)) (kids_of f) (take c.args.len c.args.text.now)) = λ parent f h. let a = c.args in subst (λ (o : FormatOpts). Writes (length a.text.now) c.opened.new.text c.opened.result (opened o (tag_of (body_at a.sheet.now (place_at a.nodes.now a.at))) (attrs_behind a.sheet.now (place_at a.nodes.now a.at)) (kids_of f) (take a.len a.text.now))) c.unpacked-opts-2.ensures (c.opened.ensures (body_at c.args.sheet.now (place_at c.args.nodes.now c.args.at)) (attrs_behind c.args.sheet.now (place_at c.args.nodes.now c.args.at)) (kids_of f) (node_element c.args.sheet.now c.args.nodes.now parent c.args.at (end_at c.args.nodes.now c.args.at) f h c.requires.0.later c.requires.0.alone.positive (tagged_here_3))) in
     let tagged_here_4 : get_or c.args.sheet.now (place_at c.args.nodes.now c.args.at) 0 ≡ 1 = omega (arith, c.if-tag_at-ne1.false, c.tag_at.ensures ∙ ap (λ (k : ℕ). get_or c.args.sheet.now k 0) c.node_place-place.ensures) in
@@ -1168,8 +1168,8 @@ node-returns t c =
       kept = c.inside.ensures.kept;
       writes_forest = record {
         for = λ parent f anc h q.
-            both-done a.text.now a.len c.requires.1.0 (write_nodes (self_at a.own a.run.now a.levels) anc (unpacked a.bits) f) (opened (unpacked a.bits) (tag_of (body_at a.sheet.now (place_at a.nodes.now a.at))) (attrs_behind a.sheet.now (place_at a.nodes.now a.at)) (kids_of f))
-            (in_element (self_at a.own a.run.now a.levels) anc (unpacked a.bits) (body_at a.sheet.now (place_at a.nodes.now a.at)) (attrs_behind a.sheet.now (place_at a.nodes.now a.at)) (kids_of f)) (goes_here parent f anc h) (opens_here parent f h) c.in_ok-n.was
+            both-done a.text.now a.len c.requires.1.0 (write_nodes (self_at a.skip a.levels) anc (unpacked a.bits) f) (opened (unpacked a.bits) (tag_of (body_at a.sheet.now (place_at a.nodes.now a.at))) (attrs_behind a.sheet.now (place_at a.nodes.now a.at)) (kids_of f))
+            (in_element (self_at a.skip a.levels) anc (unpacked a.bits) (body_at a.sheet.now (place_at a.nodes.now a.at)) (attrs_behind a.sheet.now (place_at a.nodes.now a.at)) (kids_of f)) (goes_here parent f anc h) (opens_here parent f h) c.in_ok-n.was
             (alone_writes c.requires.0 (tagged_here_4) c.inside.ensures.writes_element parent f anc h q);
       };
     }
@@ -1179,16 +1179,16 @@ unfolding serializer
 node-returns-in_err-n t c =
     let tagged_here : get_or c.args.sheet.now (place_at c.args.nodes.now c.args.at) 0 ≡ 1 = omega (arith, c.if-tag_at-ne1.false, c.tag_at.ensures ∙ ap (λ (k : ℕ). get_or c.args.sheet.now k 0) c.node_place-place.ensures) in
     let tagged_here_2 : get_or c.args.sheet.now (place_at c.args.nodes.now c.args.at) 0 ≡ 1 = omega (arith, c.if-tag_at-ne1.false, c.tag_at.ensures ∙ ap (λ (k : ℕ). get_or c.args.sheet.now k 0) c.node_place-place.ensures) in
-    let skips_here : among (body_at c.args.sheet.now (place_at c.args.nodes.now c.args.at)) (tags_to_skip (skip_list c.args.own c.args.run.now)) ≡ c.node_is_skipped.result = let a = c.args in sym (first_skipped a.sheet.now (place_at a.nodes.now a.at) (tags_to_skip (skip_list a.own a.run.now)) (tagged_here_2)) ∙ sym c.node_is_skipped.ensures in
-    let goes_here : (parent : ℕ) (f : Forest) (anc : Ancestors) → Rep c.args.sheet.now c.args.nodes.now parent c.args.at (end_at c.args.nodes.now c.args.at) f → write_nodes (self_at c.args.own c.args.run.now c.args.levels) anc (unpacked c.args.bits) f (take c.args.len c.args.text.now) ≡ and_then (opened (unpacked c.args.bits) (tag_of (body_at c.args.sheet.now (place_at c.args.nodes.now c.args.at))) (attrs_behind c.args.sheet.now (place_at c.args.nodes.now c.args.at)) (kids_of f) (take c.args.len c.args.text.now)) (in_element (self_at c.args.own c.args.run.now c.args.levels) anc (unpacked c.args.bits) (body_at c.args.sheet.now (place_at c.args.nodes.now c.args.at)) (attrs_behind c.args.sheet.now (place_at c.args.nodes.now c.args.at)) (kids_of f)) = λ parent f anc h. let a = c.args in ap (λ (g : Forest). write_nodes (self_at a.own a.run.now a.levels) anc (unpacked a.bits) g (take a.len a.text.now)) (alone_element a.sheet.now a.nodes.now parent a.at c.requires.0.later f h (tagged_here)) ∙ element_opened (self_at a.own a.run.now a.levels) anc (unpacked a.bits) (body_at a.sheet.now (place_at a.nodes.now a.at)) (attrs_behind a.sheet.now (place_at a.nodes.now a.at)) (kids_of f) (take a.len a.text.now) (skips_here ∙ c.if-node_is_skipped.false) in
+    let skips_here : among (body_at c.args.sheet.now (place_at c.args.nodes.now c.args.at)) (tags_to_skip (skip_of c.args.skip)) ≡ c.node_is_skipped.result = let a = c.args in sym (first_skipped a.sheet.now (place_at a.nodes.now a.at) (tags_to_skip (skip_of a.skip)) (tagged_here_2)) ∙ sym c.node_is_skipped.ensures in
+    let goes_here : (parent : ℕ) (f : Forest) (anc : Ancestors) → Rep c.args.sheet.now c.args.nodes.now parent c.args.at (end_at c.args.nodes.now c.args.at) f → write_nodes (self_at c.args.skip c.args.levels) anc (unpacked c.args.bits) f (take c.args.len c.args.text.now) ≡ and_then (opened (unpacked c.args.bits) (tag_of (body_at c.args.sheet.now (place_at c.args.nodes.now c.args.at))) (attrs_behind c.args.sheet.now (place_at c.args.nodes.now c.args.at)) (kids_of f) (take c.args.len c.args.text.now)) (in_element (self_at c.args.skip c.args.levels) anc (unpacked c.args.bits) (body_at c.args.sheet.now (place_at c.args.nodes.now c.args.at)) (attrs_behind c.args.sheet.now (place_at c.args.nodes.now c.args.at)) (kids_of f)) = λ parent f anc h. let a = c.args in ap (λ (g : Forest). write_nodes (self_at a.skip a.levels) anc (unpacked a.bits) g (take a.len a.text.now)) (alone_element a.sheet.now a.nodes.now parent a.at c.requires.0.later f h (tagged_here)) ∙ element_opened (self_at a.skip a.levels) anc (unpacked a.bits) (body_at a.sheet.now (place_at a.nodes.now a.at)) (attrs_behind a.sheet.now (place_at a.nodes.now a.at)) (kids_of f) (take a.len a.text.now) (skips_here ∙ c.if-node_is_skipped.false) in
     let tagged_here_3 : get_or c.args.sheet.now (place_at c.args.nodes.now c.args.at) 0 ≡ 1 = omega (arith, c.if-tag_at-ne1.false, c.tag_at.ensures ∙ ap (λ (k : ℕ). get_or c.args.sheet.now k 0) c.node_place-place.ensures) in
     let opens_here : (parent : ℕ) (f : Forest) → Rep c.args.sheet.now c.args.nodes.now parent c.args.at (end_at c.args.nodes.now c.args.at) f → Writes (length c.args.text.now) c.opened.new.text c.opened.result (opened (unpacked c.args.bits) (tag_of (body_at c.args.sheet.now (place_at c.args.nodes.now c.args.at))) (attrs_behind c.args.sheet.now (place_at c.args.nodes.now c.args.at)) (kids_of f) (take c.args.len c.args.text.now)) = λ parent f h. let a = c.args in subst (λ (o : FormatOpts). Writes (length a.text.now) c.opened.new.text c.opened.result (opened o (tag_of (body_at a.sheet.now (place_at a.nodes.now a.at))) (attrs_behind a.sheet.now (place_at a.nodes.now a.at)) (kids_of f) (take a.len a.text.now))) c.unpacked-opts-2.ensures (c.opened.ensures (body_at c.args.sheet.now (place_at c.args.nodes.now c.args.at)) (attrs_behind c.args.sheet.now (place_at c.args.nodes.now c.args.at)) (kids_of f) (node_element c.args.sheet.now c.args.nodes.now parent c.args.at (end_at c.args.nodes.now c.args.at) f h c.requires.0.later c.requires.0.alone.positive (tagged_here_3))) in
     let a = c.args in record {
       kept = kept_none a.nodes.now;
       writes_forest = stops_forest c.from_residual.ensures.0 (record {
         for = λ parent f anc h q.
-            both-full a.text.now a.len c.requires.1.0 (write_nodes (self_at a.own a.run.now a.levels) anc (unpacked a.bits) f) (opened (unpacked a.bits) (tag_of (body_at a.sheet.now (place_at a.nodes.now a.at))) (attrs_behind a.sheet.now (place_at a.nodes.now a.at)) (kids_of f))
-            (in_element (self_at a.own a.run.now a.levels) anc (unpacked a.bits) (body_at a.sheet.now (place_at a.nodes.now a.at)) (attrs_behind a.sheet.now (place_at a.nodes.now a.at)) (kids_of f)) (goes_here parent f anc h) (opens_here parent f h) c.in_err-n.was;
+            both-full a.text.now a.len c.requires.1.0 (write_nodes (self_at a.skip a.levels) anc (unpacked a.bits) f) (opened (unpacked a.bits) (tag_of (body_at a.sheet.now (place_at a.nodes.now a.at))) (attrs_behind a.sheet.now (place_at a.nodes.now a.at)) (kids_of f))
+            (in_element (self_at a.skip a.levels) anc (unpacked a.bits) (body_at a.sheet.now (place_at a.nodes.now a.at)) (attrs_behind a.sheet.now (place_at a.nodes.now a.at)) (kids_of f)) (goes_here parent f anc h) (opens_here parent f h) c.in_err-n.was;
       });
     }
 
@@ -1209,7 +1209,7 @@ row-next_cell-c-requires t c =
 pub row-loop-c-init : goal.row-loop-c-init
 row-loop-c-init t c =
     let a = c.args in
-    row_start (serializer (tags_to_skip (skip_list a.own a.run.now)) a.levels) a.opts c.requires.0 c.node_end-to.ensures c.next_cell-c.ensures.later c.next_cell-c.ensures.cells a.text.now a.len c.requires.1.0
+    row_start (serializer (tags_to_skip (skip_of a.skip)) a.levels) a.opts c.requires.0 c.node_end-to.ensures c.next_cell-c.ensures.later c.next_cell-c.ensures.cells a.text.now a.len c.requires.1.0
 
 pub row-slice_bounds-cell-count : goal.row-slice_bounds-cell-count
 row-slice_bounds-cell-count t c =
@@ -1295,9 +1295,9 @@ siblings-returns-then-levels-is_one_text t c =
       kept = kept_none a.nodes.now;
       writes_forest = record {
         for = λ parent f anc h q.
-            alike (ap (λ (o : FormatOpts). write_at (tags_to_skip (skip_list a.own a.run.now)) a.levels anc o f (take a.len a.text.now)) (sym u.ensures)
-            ∙ write_some (tags_to_skip (skip_list a.own a.run.now)) a.levels anc u.result f (take a.len a.text.now) b.0
-            ∙ one_is a.sheet.now a.nodes.now parent a.from a.to o.0 o.1 (self_at a.own a.run.now (a.levels - 1)) anc u.result (take a.len a.text.now) f h)
+            alike (ap (λ (o : FormatOpts). write_at (tags_to_skip (skip_of a.skip)) a.levels anc o f (take a.len a.text.now)) (sym u.ensures)
+            ∙ write_some (tags_to_skip (skip_of a.skip)) a.levels anc u.result f (take a.len a.text.now) b.0
+            ∙ one_is a.sheet.now a.nodes.now parent a.from a.to o.0 o.1 (self_at a.skip (a.levels - 1)) anc u.result (take a.len a.text.now) f h)
             c.write_text_node.ensures;
       };
     }
@@ -1314,7 +1314,7 @@ pub write-returns-then-levels-eq0 : goal.write-returns-then-levels-eq0
 write-returns-then-levels-eq0 t c =
     record {
       kept = kept_none c.args.nodes.now;
-      writes_forest = record { for = λ parent f anc h a. alike (write_none (tags_to_skip (skip_list c.args.own c.args.run.now)) c.args.levels anc (unpacked c.args.bits) f (take c.args.len c.args.text.now) c.if-levels-eq0.true) (record { says = keeps c.args.text.now c.args.len c.requires.1.0 }) };
+      writes_forest = record { for = λ parent f anc h a. alike (write_none (tags_to_skip (skip_of c.args.skip)) c.args.levels anc (unpacked c.args.bits) f (take c.args.len c.args.text.now) c.if-levels-eq0.true) (record { says = keeps c.args.text.now c.args.len c.requires.1.0 }) };
     }
 
 pub write-loop-at-init : goal.write-loop-at-init
@@ -1324,7 +1324,7 @@ write-loop-at-init t c = (
   kept_none c.args.nodes.now,
   omega arith,
   c.requires.0,
-  turn_first c.args.sheet.now c.args.nodes.now c.args.from c.args.to (λ anc f. write_nodes (self_at c.args.own c.args.run.now (c.args.levels - 1)) anc (unpacked c.args.bits) f) c.args.text.now c.args.len c.requires.1.0,
+  turn_first c.args.sheet.now c.args.nodes.now c.args.from c.args.to (λ anc f. write_nodes (self_at c.args.skip (c.args.levels - 1)) anc (unpacked c.args.bits) f) c.args.text.now c.args.len c.requires.1.0,
 )
 
 pub write-overflow_sub-levels : goal.write-overflow_sub-levels
@@ -1340,12 +1340,12 @@ write-node-requires t c =
 pub write-returns-in_err-end : goal.write-returns-in_err-end
 write-returns-in_err-end t c =
     let kept_here : Kept c.args.from c.args.to c.args.nodes.now c.node.new.nodes = let l = c.loop-at in let lt = c.loop-at-test.true in kept_then l.invariant.2 (kept_in l.invariant.3 (omega (arith, end_kept l.invariant.2 l.at, placeds_within l.invariant.4 lt)) c.node.ensures.kept) in
-    let wrote_here : WritesForest c.args.sheet.now c.args.nodes.now c.loop-at.at (end_at c.args.nodes.now c.loop-at.at) (λ anc f. write_nodes (self_at c.args.own c.args.run.now (c.args.levels - 1)) anc (unpacked c.args.bits) f) (take c.loop-at.end c.loop-at.text) (length c.loop-at.text) c.node.new.text c.node.result = writes_before c.loop-at.invariant.2 c.node.ensures.writes_forest in
+    let wrote_here : WritesForest c.args.sheet.now c.args.nodes.now c.loop-at.at (end_at c.args.nodes.now c.loop-at.at) (λ anc f. write_nodes (self_at c.args.skip (c.args.levels - 1)) anc (unpacked c.args.bits) f) (take c.loop-at.end c.loop-at.text) (length c.loop-at.text) c.node.new.text c.node.result = writes_before c.loop-at.invariant.2 c.node.ensures.writes_forest in
     record {
       kept = kept_here;
       writes_forest = stops_forest c.from_residual.ensures.0 (record {
-        for = λ parent f anc h a. alike (write_some (tags_to_skip (skip_list c.args.own c.args.run.now)) c.args.levels anc (unpacked c.args.bits) f (take c.args.len c.args.text.now) (omega (arith, c.if-levels-eq0.false)))
-            (turn_stop c.loop-at.invariant.5 (λ anc f. write_nodes (self_at c.args.own c.args.run.now (c.args.levels - 1)) anc (unpacked c.args.bits) f) (λ anc f. write_nodes (self_at c.args.own c.args.run.now (c.args.levels - 1)) anc (unpacked c.args.bits) f) (λ parent anc g h u. nodes_first (self_at c.args.own c.args.run.now (c.args.levels - 1)) anc (unpacked c.args.bits) g u) c.loop-at-test.true (wrote_here) c.in_err-end.was parent f anc h a);
+        for = λ parent f anc h a. alike (write_some (tags_to_skip (skip_of c.args.skip)) c.args.levels anc (unpacked c.args.bits) f (take c.args.len c.args.text.now) (omega (arith, c.if-levels-eq0.false)))
+            (turn_stop c.loop-at.invariant.5 (λ anc f. write_nodes (self_at c.args.skip (c.args.levels - 1)) anc (unpacked c.args.bits) f) (λ anc f. write_nodes (self_at c.args.skip (c.args.levels - 1)) anc (unpacked c.args.bits) f) (λ parent anc g h u. nodes_first (self_at c.args.skip (c.args.levels - 1)) anc (unpacked c.args.bits) g u) c.loop-at-test.true (wrote_here) c.in_err-end.was parent f anc h a);
       });
     }
 
@@ -1362,7 +1362,7 @@ write-loop-at-smaller t c =
 pub write-loop-at-preserved : goal.write-loop-at-preserved
 write-loop-at-preserved t c =
     let kept_here : Kept c.args.from c.args.to c.args.nodes.now c.node.new.nodes = let l = c.loop-at in let lt = c.loop-at-test.true in kept_then l.invariant.2 (kept_in l.invariant.3 (omega (arith, end_kept l.invariant.2 l.at, placeds_within l.invariant.4 lt)) c.node.ensures.kept) in
-    let wrote_here : WritesForest c.args.sheet.now c.args.nodes.now c.loop-at.at (end_at c.args.nodes.now c.loop-at.at) (λ anc f. write_nodes (self_at c.args.own c.args.run.now (c.args.levels - 1)) anc (unpacked c.args.bits) f) (take c.loop-at.end c.loop-at.text) (length c.loop-at.text) c.node.new.text c.node.result = writes_before c.loop-at.invariant.2 c.node.ensures.writes_forest in
+    let wrote_here : WritesForest c.args.sheet.now c.args.nodes.now c.loop-at.at (end_at c.args.nodes.now c.loop-at.at) (λ anc f. write_nodes (self_at c.args.skip (c.args.levels - 1)) anc (unpacked c.args.bits) f) (take c.loop-at.end c.loop-at.text) (length c.loop-at.text) c.node.new.text c.node.result = writes_before c.loop-at.invariant.2 c.node.ensures.writes_forest in
     let l = c.loop-at in
     let lt = c.loop-at-test.true in
     let K = kept_here in
@@ -1373,7 +1373,7 @@ write-loop-at-preserved t c =
       K,
       omega (arith, placeds_later l.invariant.4 lt, l.invariant.3, q),
       subst (λ (k : ℕ). Placeds c.args.sheet.now c.args.nodes.now k c.args.to) (sym q) (placeds_on l.invariant.4 lt),
-      turn_on l.invariant.5 (λ anc f. write_nodes (self_at c.args.own c.args.run.now (c.args.levels - 1)) anc (unpacked c.args.bits) f) (λ anc f. write_nodes (self_at c.args.own c.args.run.now (c.args.levels - 1)) anc (unpacked c.args.bits) f) (λ parent anc g h u. nodes_first (self_at c.args.own c.args.run.now (c.args.levels - 1)) anc (unpacked c.args.bits) g u) lt (wrote_here) q c.in_ok-end.was,
+      turn_on l.invariant.5 (λ anc f. write_nodes (self_at c.args.skip (c.args.levels - 1)) anc (unpacked c.args.bits) f) (λ anc f. write_nodes (self_at c.args.skip (c.args.levels - 1)) anc (unpacked c.args.bits) f) (λ parent anc g h u. nodes_first (self_at c.args.skip (c.args.levels - 1)) anc (unpacked c.args.bits) g u) lt (wrote_here) q c.in_ok-end.was,
     )
 
 pub write-returns : goal.write-returns
@@ -1381,8 +1381,8 @@ write-returns t c =
     let l = c.loop-at in record {
       kept = l.invariant.2;
       writes_forest = record {
-        for = λ parent f anc h a. alike (write_some (tags_to_skip (skip_list c.args.own c.args.run.now)) c.args.levels anc (unpacked c.args.bits) f (take c.args.len c.args.text.now) (omega (arith, c.if-levels-eq0.false)))
-            (turn_last l.invariant.5 c.loop-at-test.false (λ anc u. nodes_none (self_at c.args.own c.args.run.now (c.args.levels - 1)) anc (unpacked c.args.bits) u) parent f anc h a);
+        for = λ parent f anc h a. alike (write_some (tags_to_skip (skip_of c.args.skip)) c.args.levels anc (unpacked c.args.bits) f (take c.args.len c.args.text.now) (omega (arith, c.if-levels-eq0.false)))
+            (turn_last l.invariant.5 c.loop-at-test.false (λ anc u. nodes_none (self_at c.args.skip (c.args.levels - 1)) anc (unpacked c.args.bits) u) parent f anc h a);
       };
     }
 
@@ -1399,7 +1399,7 @@ write_element-returns-then-is_list t c =
       kept = c.write_list.ensures.kept;
       writes_element = record {
         for = λ name attrs kids anc x h.
-            alike (ap (λ (o : FormatOpts). write_element (self_at a.own a.run.now a.levels) anc o name attrs kids (take a.len a.text.now)) (sym u.ensures) ∙ by_list (self_at a.own a.run.now a.levels) anc u.result name attrs kids (take a.len a.text.now) (named_here _ _ _ x) (sym c.is_list.ensures ∙ c.if-is_list.true)) (c.write_list.ensures.writes_element.for name attrs kids anc x h);
+            alike (ap (λ (o : FormatOpts). write_element (self_at a.skip a.levels) anc o name attrs kids (take a.len a.text.now)) (sym u.ensures) ∙ by_list (self_at a.skip a.levels) anc u.result name attrs kids (take a.len a.text.now) (named_here _ _ _ x) (sym c.is_list.ensures ∙ c.if-is_list.true)) (c.write_list.ensures.writes_element.for name attrs kids anc x h);
       };
     }
 
@@ -1421,7 +1421,7 @@ write_element-returns-then-name-eq21 t c =
       kept = c.write_link.ensures.kept;
       writes_element = record {
         for = λ name attrs kids anc x h.
-            alike (ap (λ (o : FormatOpts). write_element (self_at a.own a.run.now a.levels) anc o name attrs kids (take a.len a.text.now)) (sym u.ensures) ∙ by_link (self_at a.own a.run.now a.levels) anc u.result name attrs kids (take a.len a.text.now) (named_here _ _ _ x) (sym c.is_list.ensures ∙ c.if-is_list.false) c.if-name-eq21.true) (c.write_link.ensures.writes_element.for name attrs kids anc x h);
+            alike (ap (λ (o : FormatOpts). write_element (self_at a.skip a.levels) anc o name attrs kids (take a.len a.text.now)) (sym u.ensures) ∙ by_link (self_at a.skip a.levels) anc u.result name attrs kids (take a.len a.text.now) (named_here _ _ _ x) (sym c.is_list.ensures ∙ c.if-is_list.false) c.if-name-eq21.true) (c.write_link.ensures.writes_element.for name attrs kids anc x h);
       };
     }
 
@@ -1441,7 +1441,7 @@ write_element-returns-then-name-eq22 t c =
       kept = kept_none a.nodes.now;
       writes_element = record {
         for = λ name attrs kids anc x h.
-            alike (ap (λ (o : FormatOpts). write_element (self_at a.own a.run.now a.levels) anc o name attrs kids (take a.len a.text.now)) (sym u.ensures) ∙ by_img (self_at a.own a.run.now a.levels) anc u.result name attrs kids (take a.len a.text.now) (named_here _ _ _ x) (sym c.is_list.ensures ∙ c.if-is_list.false) c.if-name-eq22.true
+            alike (ap (λ (o : FormatOpts). write_element (self_at a.skip a.levels) anc o name attrs kids (take a.len a.text.now)) (sym u.ensures) ∙ by_img (self_at a.skip a.levels) anc u.result name attrs kids (take a.len a.text.now) (named_here _ _ _ x) (sym c.is_list.ensures ∙ c.if-is_list.false) c.if-name-eq22.true
             ∙ ap (λ (l : List Attr). write_img l (take a.len a.text.now)) (x.attrs_are ∙ ap (attrs_behind a.sheet.now) (sym c.node_place-place.ensures))) c.write_img.ensures;
       };
     }
@@ -1458,7 +1458,7 @@ write_element-returns-then-name-eq23 t c =
       kept = kept_none a.nodes.now;
       writes_element = record {
         for = λ name attrs kids anc x h.
-            alike (ap (λ (o : FormatOpts). write_element (self_at a.own a.run.now a.levels) anc o name attrs kids (take a.len a.text.now)) (sym u.ensures) ∙ by_pre (self_at a.own a.run.now a.levels) anc u.result name attrs kids (take a.len a.text.now) (named_here _ _ _ x) (sym c.is_list.ensures ∙ c.if-is_list.false) c.if-name-eq23.true) (c.write_pre.ensures name attrs kids anc x h);
+            alike (ap (λ (o : FormatOpts). write_element (self_at a.skip a.levels) anc o name attrs kids (take a.len a.text.now)) (sym u.ensures) ∙ by_pre (self_at a.skip a.levels) anc u.result name attrs kids (take a.len a.text.now) (named_here _ _ _ x) (sym c.is_list.ensures ∙ c.if-is_list.false) c.if-name-eq23.true) (c.write_pre.ensures name attrs kids anc x h);
       };
     }
 
@@ -1470,7 +1470,7 @@ write_element-returns-then-name-eq14 t c =
       kept = c.write_table.ensures.kept;
       writes_element = record {
         for = λ name attrs kids anc x h.
-            alike (ap (λ (o : FormatOpts). write_element (self_at a.own a.run.now a.levels) anc o name attrs kids (take a.len a.text.now)) (sym u.ensures) ∙ by_table (self_at a.own a.run.now a.levels) anc u.result name attrs kids (take a.len a.text.now) (named_here _ _ _ x) (sym c.is_list.ensures ∙ c.if-is_list.false) c.if-name-eq14.true) (c.write_table.ensures.writes_element.for name attrs kids anc x h);
+            alike (ap (λ (o : FormatOpts). write_element (self_at a.skip a.levels) anc o name attrs kids (take a.len a.text.now)) (sym u.ensures) ∙ by_table (self_at a.skip a.levels) anc u.result name attrs kids (take a.len a.text.now) (named_here _ _ _ x) (sym c.is_list.ensures ∙ c.if-is_list.false) c.if-name-eq14.true) (c.write_table.ensures.writes_element.for name attrs kids anc x h);
       };
     }
 
@@ -1486,7 +1486,7 @@ write_element-returns-then-name-eq24 t c =
       kept = kept_none a.nodes.now;
       writes_element = record {
         for = λ name attrs kids anc x h.
-            alike (ap (λ (o : FormatOpts). write_element (self_at a.own a.run.now a.levels) anc o name attrs kids (take a.len a.text.now)) (sym u.ensures) ∙ by_code (self_at a.own a.run.now a.levels) anc u.result name attrs kids (take a.len a.text.now) (named_here _ _ _ x) (sym c.is_list.ensures ∙ c.if-is_list.false) c.if-name-eq24.true) (c.write_code.ensures a.levels name attrs kids anc x h);
+            alike (ap (λ (o : FormatOpts). write_element (self_at a.skip a.levels) anc o name attrs kids (take a.len a.text.now)) (sym u.ensures) ∙ by_code (self_at a.skip a.levels) anc u.result name attrs kids (take a.len a.text.now) (named_here _ _ _ x) (sym c.is_list.ensures ∙ c.if-is_list.false) c.if-name-eq24.true) (c.write_code.ensures a.levels name attrs kids anc x h);
       };
     }
 
@@ -1503,7 +1503,7 @@ write_element-returns t c =
       kept = c.write_emphasis.ensures.kept;
       writes_element = record {
         for = λ name attrs kids anc x h.
-            alike (ap (λ (o : FormatOpts). write_element (self_at a.own a.run.now a.levels) anc o name attrs kids (take a.len a.text.now)) (sym u.ensures) ∙ by_emphasis (self_at a.own a.run.now a.levels) anc u.result name attrs kids (take a.len a.text.now) (named_here _ _ _ x) (sym c.is_list.ensures ∙ c.if-is_list.false) c.if-name-eq21.false c.if-name-eq22.false c.if-name-eq23.false c.if-name-eq14.false c.if-name-eq24.false) (c.write_emphasis.ensures.writes_element.for name attrs kids anc x h);
+            alike (ap (λ (o : FormatOpts). write_element (self_at a.skip a.levels) anc o name attrs kids (take a.len a.text.now)) (sym u.ensures) ∙ by_emphasis (self_at a.skip a.levels) anc u.result name attrs kids (take a.len a.text.now) (named_here _ _ _ x) (sym c.is_list.ensures ∙ c.if-is_list.false) c.if-name-eq21.false c.if-name-eq22.false c.if-name-eq23.false c.if-name-eq14.false c.if-name-eq24.false) (c.write_emphasis.ensures.writes_element.for name attrs kids anc x h);
       };
     }
 
@@ -1531,17 +1531,17 @@ write_emphasis-write-requires t c = (
 
 pub write_emphasis-push_emphasis_by-requires : goal.write_emphasis-push_emphasis_by-requires
 write_emphasis-push_emphasis_by-requires t c =
-    let wrote_here : (name : Bytes) (attrs : List Attr) (kids : Forest) (anc : Ancestors) → ElementAt c.args.sheet.now c.args.nodes.now c.args.at name attrs kids → Around c.args.sheet.now c.args.nodes.now (parent_at c.args.nodes.now c.args.at) anc → Writes (length (lent c.args.text.now c.args.len)) c.write.new.text c.write.result ((self_at c.args.own c.args.run.now c.args.levels).below (attrs ∷ anc) (emphasis_scope (scope_of (md_emphasis (tag_of name))) (inline (include_node c.args.opts))) kids []) = λ name attrs kids anc x h. let a = c.args in subst (λ (o : FormatOpts). Writes (length (lent a.text.now a.len)) c.write.new.text c.write.result ((self_at a.own a.run.now a.levels).below (attrs ∷ anc) o kids [])) (c.packed.ensures ∙ c.emphasis_opts-inner.ensures ∙ ap (λ (k : ℕ). emphasis_scope (scope_of (md_emphasis k)) (inline (include_node a.opts))) (c.requires.1 ∙ element_name x)) (below-wrote a.own a.run.now a.levels (unpacked c.packed.result) anc x h c.node_end-to.ensures c.write.ensures.writes_forest) in
+    let wrote_here : (name : Bytes) (attrs : List Attr) (kids : Forest) (anc : Ancestors) → ElementAt c.args.sheet.now c.args.nodes.now c.args.at name attrs kids → Around c.args.sheet.now c.args.nodes.now (parent_at c.args.nodes.now c.args.at) anc → Writes (length (lent c.args.text.now c.args.len)) c.write.new.text c.write.result ((self_at c.args.skip c.args.levels).below (attrs ∷ anc) (emphasis_scope (scope_of (md_emphasis (tag_of name))) (inline (include_node c.args.opts))) kids []) = λ name attrs kids anc x h. let a = c.args in subst (λ (o : FormatOpts). Writes (length (lent a.text.now a.len)) c.write.new.text c.write.result ((self_at a.skip a.levels).below (attrs ∷ anc) o kids [])) (c.packed.ensures ∙ c.emphasis_opts-inner.ensures ∙ ap (λ (k : ℕ). emphasis_scope (scope_of (md_emphasis k)) (inline (include_node a.opts))) (c.requires.1 ∙ element_name x)) (below-wrote a.skip a.levels (unpacked c.packed.result) anc x h c.node_end-to.ensures c.write.ensures.writes_forest) in
     let p = c.requires.0 in
     nest-fits c.args.text.now c.args.len c.requires.2.0 (wrote_here _ _ _ p.1.0 p.0.3 p.1.1) c.in_ok-n.was
 
 pub write_emphasis-returns : goal.write_emphasis-returns
 write_emphasis-returns t c =
-    let wrote_here : (name : Bytes) (attrs : List Attr) (kids : Forest) (anc : Ancestors) → ElementAt c.args.sheet.now c.args.nodes.now c.args.at name attrs kids → Around c.args.sheet.now c.args.nodes.now (parent_at c.args.nodes.now c.args.at) anc → Writes (length (lent c.args.text.now c.args.len)) c.write.new.text c.write.result ((self_at c.args.own c.args.run.now c.args.levels).below (attrs ∷ anc) (emphasis_scope (scope_of (md_emphasis (tag_of name))) (inline (include_node c.args.opts))) kids []) = λ name attrs kids anc x h. let a = c.args in subst (λ (o : FormatOpts). Writes (length (lent a.text.now a.len)) c.write.new.text c.write.result ((self_at a.own a.run.now a.levels).below (attrs ∷ anc) o kids [])) (c.packed.ensures ∙ c.emphasis_opts-inner.ensures ∙ ap (λ (k : ℕ). emphasis_scope (scope_of (md_emphasis k)) (inline (include_node a.opts))) (c.requires.1 ∙ element_name x)) (below-wrote a.own a.run.now a.levels (unpacked c.packed.result) anc x h c.node_end-to.ensures c.write.ensures.writes_forest) in
+    let wrote_here : (name : Bytes) (attrs : List Attr) (kids : Forest) (anc : Ancestors) → ElementAt c.args.sheet.now c.args.nodes.now c.args.at name attrs kids → Around c.args.sheet.now c.args.nodes.now (parent_at c.args.nodes.now c.args.at) anc → Writes (length (lent c.args.text.now c.args.len)) c.write.new.text c.write.result ((self_at c.args.skip c.args.levels).below (attrs ∷ anc) (emphasis_scope (scope_of (md_emphasis (tag_of name))) (inline (include_node c.args.opts))) kids []) = λ name attrs kids anc x h. let a = c.args in subst (λ (o : FormatOpts). Writes (length (lent a.text.now a.len)) c.write.new.text c.write.result ((self_at a.skip a.levels).below (attrs ∷ anc) o kids [])) (c.packed.ensures ∙ c.emphasis_opts-inner.ensures ∙ ap (λ (k : ℕ). emphasis_scope (scope_of (md_emphasis k)) (inline (include_node a.opts))) (c.requires.1 ∙ element_name x)) (below-wrote a.skip a.levels (unpacked c.packed.result) anc x h c.node_end-to.ensures c.write.ensures.writes_forest) in
     let a = c.args in record {
       kept = kept_in (omega arith) (omega (arith, c.node_end-to.ensures)) c.write.ensures.kept;
       writes_element = record {
-        for = λ name attrs kids anc x h. alike (ap (λ (f : Step). f (take a.len a.text.now)) (emphasis_is (self_at a.own a.run.now a.levels) anc a.opts (tag_of name) attrs kids))
+        for = λ name attrs kids anc x h. alike (ap (λ (f : Step). f (take a.len a.text.now)) (emphasis_is (self_at a.skip a.levels) anc a.opts (tag_of name) attrs kids))
             (nest-done a.text.now a.len c.requires.2.0 (wrote_here _ _ _ anc x h) (λ z. emphasis_step a.opts (tag_of name) z) c.in_ok-n.was
             (subst (λ (k : ℕ). Writes (length (back a.text.now a.len c.write.new.text)) c.push_emphasis_by.new.text c.push_emphasis_by.result (emphasis_step a.opts k (take c.in_ok-n.n (drop a.len (back a.text.now a.len c.write.new.text))) (take a.len (back a.text.now a.len c.write.new.text)))) (c.requires.1 ∙ element_name x) c.push_emphasis_by.ensures));
       };
@@ -1549,12 +1549,12 @@ write_emphasis-returns t c =
 
 pub write_emphasis-returns-in_err-n : goal.write_emphasis-returns-in_err-n
 write_emphasis-returns-in_err-n t c =
-    let wrote_here : (name : Bytes) (attrs : List Attr) (kids : Forest) (anc : Ancestors) → ElementAt c.args.sheet.now c.args.nodes.now c.args.at name attrs kids → Around c.args.sheet.now c.args.nodes.now (parent_at c.args.nodes.now c.args.at) anc → Writes (length (lent c.args.text.now c.args.len)) c.write.new.text c.write.result ((self_at c.args.own c.args.run.now c.args.levels).below (attrs ∷ anc) (emphasis_scope (scope_of (md_emphasis (tag_of name))) (inline (include_node c.args.opts))) kids []) = λ name attrs kids anc x h. let a = c.args in subst (λ (o : FormatOpts). Writes (length (lent a.text.now a.len)) c.write.new.text c.write.result ((self_at a.own a.run.now a.levels).below (attrs ∷ anc) o kids [])) (c.packed.ensures ∙ c.emphasis_opts-inner.ensures ∙ ap (λ (k : ℕ). emphasis_scope (scope_of (md_emphasis k)) (inline (include_node a.opts))) (c.requires.1 ∙ element_name x)) (below-wrote a.own a.run.now a.levels (unpacked c.packed.result) anc x h c.node_end-to.ensures c.write.ensures.writes_forest) in
+    let wrote_here : (name : Bytes) (attrs : List Attr) (kids : Forest) (anc : Ancestors) → ElementAt c.args.sheet.now c.args.nodes.now c.args.at name attrs kids → Around c.args.sheet.now c.args.nodes.now (parent_at c.args.nodes.now c.args.at) anc → Writes (length (lent c.args.text.now c.args.len)) c.write.new.text c.write.result ((self_at c.args.skip c.args.levels).below (attrs ∷ anc) (emphasis_scope (scope_of (md_emphasis (tag_of name))) (inline (include_node c.args.opts))) kids []) = λ name attrs kids anc x h. let a = c.args in subst (λ (o : FormatOpts). Writes (length (lent a.text.now a.len)) c.write.new.text c.write.result ((self_at a.skip a.levels).below (attrs ∷ anc) o kids [])) (c.packed.ensures ∙ c.emphasis_opts-inner.ensures ∙ ap (λ (k : ℕ). emphasis_scope (scope_of (md_emphasis k)) (inline (include_node a.opts))) (c.requires.1 ∙ element_name x)) (below-wrote a.skip a.levels (unpacked c.packed.result) anc x h c.node_end-to.ensures c.write.ensures.writes_forest) in
     let a = c.args in record {
       kept = kept_in (omega arith) (omega (arith, c.node_end-to.ensures)) c.write.ensures.kept;
       writes_element = stops_element c.from_residual.ensures.0 (record {
-        for = λ name attrs kids anc x h. alike (ap (λ (f : Step). f (take a.len a.text.now)) (emphasis_is (self_at a.own a.run.now a.levels) anc a.opts (tag_of name) attrs kids))
-            (nest-full a.text.now a.len c.requires.2.0 (wrote_here _ _ _ anc x h) (emphasis_step a.opts (tag_of name) ((self_at a.own a.run.now a.levels).below (attrs ∷ anc) (emphasis_scope (scope_of (md_emphasis (tag_of name))) (inline (include_node a.opts))) kids []).text) c.in_err-n.was);
+        for = λ name attrs kids anc x h. alike (ap (λ (f : Step). f (take a.len a.text.now)) (emphasis_is (self_at a.skip a.levels) anc a.opts (tag_of name) attrs kids))
+            (nest-full a.text.now a.len c.requires.2.0 (wrote_here _ _ _ anc x h) (emphasis_step a.opts (tag_of name) ((self_at a.skip a.levels).below (attrs ∷ anc) (emphasis_scope (scope_of (md_emphasis (tag_of name))) (inline (include_node a.opts))) kids []).text) c.in_err-n.was);
       });
     }
 
@@ -1578,7 +1578,7 @@ write_link-returns-in-Some t c =
       kept = c.link.ensures.kept;
       writes_element = record {
         for = λ name attrs kids anc x h.
-            alike (link_some (self_at a.own a.run.now a.levels) anc a.opts c.in-Some.dest.now name attrs kids (take a.len a.text.now)
+            alike (link_some (self_at a.skip a.levels) anc a.opts c.in-Some.dest.now name attrs kids (take a.len a.text.now)
             (ap (attr (ascii "href")) (x.attrs_are ∙ ap (attrs_behind a.sheet.now) (sym c.node_place-place.ensures)) ∙ k.value_is)) (c.link.ensures.writes_element.for name attrs kids anc x h);
       };
     }
@@ -1597,9 +1597,9 @@ write_link-returns-in-None t c =
       kept = c.kids.ensures.kept;
       writes_element = record {
         for = λ name attrs kids anc x h.
-            alike (link_none (self_at a.own a.run.now a.levels) anc a.opts name attrs kids (take a.len a.text.now)
+            alike (link_none (self_at a.skip a.levels) anc a.opts name attrs kids (take a.len a.text.now)
             (ap (attr (ascii "href")) (x.attrs_are ∙ ap (attrs_behind a.sheet.now) (sym c.node_place-place.ensures)) ∙ (c.in-None.ensures).value_is))
-            (subst (λ (o : FormatOpts). Writes (length a.text.now) c.kids.new.text c.kids.result (write_kids (self_at a.own a.run.now a.levels) anc o (element name attrs kids nothing) (take a.len a.text.now))) (c.packed-bits.ensures ∙ c.fresh-fresh.ensures) (c.kids.ensures.writes_element.for name attrs kids anc x h));
+            (subst (λ (o : FormatOpts). Writes (length a.text.now) c.kids.new.text c.kids.result (write_kids (self_at a.skip a.levels) anc o (element name attrs kids nothing) (take a.len a.text.now))) (c.packed-bits.ensures ∙ c.fresh-fresh.ensures) (c.kids.ensures.writes_element.for name attrs kids anc x h));
       };
     }
 
@@ -1638,7 +1638,7 @@ write_list-end_list-requires t c =
 pub write_list-returns : goal.write_list-returns
 write_list-returns t c =
     let a = c.args in
-    let self = self_at a.own a.run.now a.levels in record {
+    let self = self_at a.skip a.levels in record {
       kept = kept_in (omega arith) (omega (arith, c.node_end-to.ensures)) c.items.ensures.kept;
       writes_element = record {
         for = λ name attrs kids anc x h.
@@ -1651,7 +1651,7 @@ write_list-returns t c =
 pub write_list-returns-in_err-n : goal.write_list-returns-in_err-n
 write_list-returns-in_err-n t c =
     let a = c.args in
-    let self = self_at a.own a.run.now a.levels in record {
+    let self = self_at a.skip a.levels in record {
       kept = kept_in (omega arith) (omega (arith, c.node_end-to.ensures)) c.items.ensures.kept;
       writes_element = stops_element c.from_residual.ensures.0 (record {
         for = λ name attrs kids anc x h.
@@ -1704,8 +1704,8 @@ write_table-returns-then-not-is_table_node_writable t c =
       kept = c.kids.ensures.kept;
       writes_element = record {
         for = λ name attrs kids anc x h.
-            alike (table_flat (self_at a.own a.run.now a.levels) anc a.opts name attrs kids (take a.len a.text.now) (sym (writable_here _ _ _ anc x h) ∙ c.if-not-is_table_node_writable.true))
-            (subst (λ (o : FormatOpts). Writes (length a.text.now) c.kids.new.text c.kids.result (write_kids (self_at a.own a.run.now a.levels) anc o (element name attrs kids nothing) (take a.len a.text.now))) (c.packed-bits.ensures ∙ c.fresh-fresh.ensures) (c.kids.ensures.writes_element.for name attrs kids anc x h));
+            alike (table_flat (self_at a.skip a.levels) anc a.opts name attrs kids (take a.len a.text.now) (sym (writable_here _ _ _ anc x h) ∙ c.if-not-is_table_node_writable.true))
+            (subst (λ (o : FormatOpts). Writes (length a.text.now) c.kids.new.text c.kids.result (write_kids (self_at a.skip a.levels) anc o (element name attrs kids nothing) (take a.len a.text.now))) (c.packed-bits.ensures ∙ c.fresh-fresh.ensures) (c.kids.ensures.writes_element.for name attrs kids anc x h));
       };
     }
 
@@ -1728,16 +1728,16 @@ pub write_table-overflow_sub-end : goal.write_table-overflow_sub-end
 write_table-overflow_sub-end t c =
     let rows_here : (name : Bytes) (attrs : List Attr) (kids : Forest) (anc : Ancestors) → ElementAt c.args.sheet.now c.args.nodes.now c.args.at name attrs kids → Around c.args.sheet.now c.args.nodes.now (parent_at c.args.nodes.now c.args.at) anc → Rows c.args.sheet.now c.args.nodes.now (c.args.at + 1) c.node_end-to.result (rows_of (attrs ∷ anc) kids) = λ name attrs kids anc x h. let a = c.args in rows_of_lem a.sheet.now a.nodes.now a.at (a.at + 1) c.node_end-to.result kids (attrs ∷ anc) (element_kids x c.node_end-to.ensures) (around_it anc x h) (omega arith) in
     let filled_here : (name : Bytes) (attrs : List Attr) (kids : Forest) (anc : Ancestors) → ElementAt c.args.sheet.now c.args.nodes.now c.args.at name attrs kids → Around c.args.sheet.now c.args.nodes.now (parent_at c.args.nodes.now c.args.at) anc → RowsAt c.args.sheet.now c.args.nodes.now c.next_filled_row-first.result c.node_end-to.result (from_cells (rows_of (attrs ∷ anc) kids)) = λ name attrs kids anc x h. c.next_filled_row-first.ensures.rows (rows_of (attrs ∷ anc) kids) (rows_here _ _ _ anc x h) in
-    let wrote_here : (name : Bytes) (attrs : List Attr) (kids : Forest) (anc : Ancestors) → ElementAt c.args.sheet.now c.args.nodes.now c.args.at name attrs kids → Around c.args.sheet.now c.args.nodes.now (parent_at c.args.nodes.now c.args.at) anc → RowsWrites (length c.args.text.now) c.cells.new.text (table_lengths c.args.sheet.now c.cells.new.nodes c.next_filled_row-first.result c.node_end-to.result) c.cells.result (rows_texts (self_at c.args.own c.args.run.now c.args.levels) c.args.opts (from_cells (rows_of (attrs ∷ anc) kids))) (take c.args.len c.args.text.now) = λ name attrs kids anc x h. let a = c.args in c.cells.ensures.rows_writes (from_cells (rows_of (attrs ∷ anc) kids)) (rows_at a.sheet.now a.nodes.now c.next_filled_row-first.result c.node_end-to.result (from_cells (rows_of (attrs ∷ anc) kids)) (filled_here _ _ _ anc x h)) in
+    let wrote_here : (name : Bytes) (attrs : List Attr) (kids : Forest) (anc : Ancestors) → ElementAt c.args.sheet.now c.args.nodes.now c.args.at name attrs kids → Around c.args.sheet.now c.args.nodes.now (parent_at c.args.nodes.now c.args.at) anc → RowsWrites (length c.args.text.now) c.cells.new.text (table_lengths c.args.sheet.now c.cells.new.nodes c.next_filled_row-first.result c.node_end-to.result) c.cells.result (rows_texts (self_at c.args.skip c.args.levels) c.args.opts (from_cells (rows_of (attrs ∷ anc) kids))) (take c.args.len c.args.text.now) = λ name attrs kids anc x h. let a = c.args in c.cells.ensures.rows_writes (from_cells (rows_of (attrs ∷ anc) kids)) (rows_at a.sheet.now a.nodes.now c.next_filled_row-first.result c.node_end-to.result (from_cells (rows_of (attrs ∷ anc) kids)) (filled_here _ _ _ anc x h)) in
     let a = c.args in
     let p = c.requires.0 in
-    omega (arith, behind_count a.text.now a.len (concat (rows_texts (self_at a.own a.run.now a.levels) a.opts (from_cells (rows_of (p.0.1 ∷ p.1.0) p.0.2)))) c.requires.1.0 (done c.in_ok-end.was (wrote_here _ _ _ p.1.0 p.0.3 p.1.1).writes))
+    omega (arith, behind_count a.text.now a.len (concat (rows_texts (self_at a.skip a.levels) a.opts (from_cells (rows_of (p.0.1 ∷ p.1.0) p.0.2)))) c.requires.1.0 (done c.in_ok-end.was (wrote_here _ _ _ p.1.0 p.0.3 p.1.1).writes))
 
 pub write_table-push_table-requires : goal.write_table-push_table-requires
 write_table-push_table-requires t c =
     let rows_here : (name : Bytes) (attrs : List Attr) (kids : Forest) (anc : Ancestors) → ElementAt c.args.sheet.now c.args.nodes.now c.args.at name attrs kids → Around c.args.sheet.now c.args.nodes.now (parent_at c.args.nodes.now c.args.at) anc → Rows c.args.sheet.now c.args.nodes.now (c.args.at + 1) c.node_end-to.result (rows_of (attrs ∷ anc) kids) = λ name attrs kids anc x h. let a = c.args in rows_of_lem a.sheet.now a.nodes.now a.at (a.at + 1) c.node_end-to.result kids (attrs ∷ anc) (element_kids x c.node_end-to.ensures) (around_it anc x h) (omega arith) in
     let filled_here : (name : Bytes) (attrs : List Attr) (kids : Forest) (anc : Ancestors) → ElementAt c.args.sheet.now c.args.nodes.now c.args.at name attrs kids → Around c.args.sheet.now c.args.nodes.now (parent_at c.args.nodes.now c.args.at) anc → RowsAt c.args.sheet.now c.args.nodes.now c.next_filled_row-first.result c.node_end-to.result (from_cells (rows_of (attrs ∷ anc) kids)) = λ name attrs kids anc x h. c.next_filled_row-first.ensures.rows (rows_of (attrs ∷ anc) kids) (rows_here _ _ _ anc x h) in
-    let wrote_here : (name : Bytes) (attrs : List Attr) (kids : Forest) (anc : Ancestors) → ElementAt c.args.sheet.now c.args.nodes.now c.args.at name attrs kids → Around c.args.sheet.now c.args.nodes.now (parent_at c.args.nodes.now c.args.at) anc → RowsWrites (length c.args.text.now) c.cells.new.text (table_lengths c.args.sheet.now c.cells.new.nodes c.next_filled_row-first.result c.node_end-to.result) c.cells.result (rows_texts (self_at c.args.own c.args.run.now c.args.levels) c.args.opts (from_cells (rows_of (attrs ∷ anc) kids))) (take c.args.len c.args.text.now) = λ name attrs kids anc x h. let a = c.args in c.cells.ensures.rows_writes (from_cells (rows_of (attrs ∷ anc) kids)) (rows_at a.sheet.now a.nodes.now c.next_filled_row-first.result c.node_end-to.result (from_cells (rows_of (attrs ∷ anc) kids)) (filled_here _ _ _ anc x h)) in
+    let wrote_here : (name : Bytes) (attrs : List Attr) (kids : Forest) (anc : Ancestors) → ElementAt c.args.sheet.now c.args.nodes.now c.args.at name attrs kids → Around c.args.sheet.now c.args.nodes.now (parent_at c.args.nodes.now c.args.at) anc → RowsWrites (length c.args.text.now) c.cells.new.text (table_lengths c.args.sheet.now c.cells.new.nodes c.next_filled_row-first.result c.node_end-to.result) c.cells.result (rows_texts (self_at c.args.skip c.args.levels) c.args.opts (from_cells (rows_of (attrs ∷ anc) kids))) (take c.args.len c.args.text.now) = λ name attrs kids anc x h. let a = c.args in c.cells.ensures.rows_writes (from_cells (rows_of (attrs ∷ anc) kids)) (rows_at a.sheet.now a.nodes.now c.next_filled_row-first.result c.node_end-to.result (from_cells (rows_of (attrs ∷ anc) kids)) (filled_here _ _ _ anc x h)) in
     let rows_here_2 : (name : Bytes) (attrs : List Attr) (kids : Forest) (anc : Ancestors) → ElementAt c.args.sheet.now c.args.nodes.now c.args.at name attrs kids → Around c.args.sheet.now c.args.nodes.now (parent_at c.args.nodes.now c.args.at) anc → Rows c.args.sheet.now c.args.nodes.now (c.args.at + 1) c.node_end-to.result (rows_of (attrs ∷ anc) kids) = λ name attrs kids anc x h. let a = c.args in rows_of_lem a.sheet.now a.nodes.now a.at (a.at + 1) c.node_end-to.result kids (attrs ∷ anc) (element_kids x c.node_end-to.ensures) (around_it anc x h) (omega arith) in
     let filled_here_2 : (name : Bytes) (attrs : List Attr) (kids : Forest) (anc : Ancestors) → ElementAt c.args.sheet.now c.args.nodes.now c.args.at name attrs kids → Around c.args.sheet.now c.args.nodes.now (parent_at c.args.nodes.now c.args.at) anc → RowsAt c.args.sheet.now c.args.nodes.now c.next_filled_row-first.result c.node_end-to.result (from_cells (rows_of (attrs ∷ anc) kids)) = λ name attrs kids anc x h. c.next_filled_row-first.ensures.rows (rows_of (attrs ∷ anc) kids) (rows_here_2 _ _ _ anc x h) in
     let writable_here : (name : Bytes) (attrs : List Attr) (kids : Forest) (anc : Ancestors) → ElementAt c.args.sheet.now c.args.nodes.now c.args.at name attrs kids → Around c.args.sheet.now c.args.nodes.now (parent_at c.args.nodes.now c.args.at) anc → c.is_table_node_writable.result ≡ is_table_node_writable kids (from_cells (rows_of (attrs ∷ anc) kids)) = λ name attrs kids anc x h. c.is_table_node_writable.ensures c.args.at kids (from_cells (rows_of (attrs ∷ anc) kids)) (element_kids x c.node_end-to.ensures) (filled_here_2 _ _ _ anc x h) in
@@ -1755,15 +1755,15 @@ write_table-push_table-requires t c =
       table_at a.sheet.now c.cells.new.nodes a.at (a.at + 1) c.next_filled_row-first.result c.node_end-to.result p.0.2 (p.0.1 ∷ p.1.0)
           (rep_kept k a.sheet.now a.at (a.at + 1) c.node_end-to.result p.0.2 (element_kids p.0.3 c.node_end-to.ensures)) (omega arith) c.next_filled_row-first.ensures.later (some_here)
           (rows_at_kept k a.sheet.now c.next_filled_row-first.result c.node_end-to.result R (filled_here_4 _ _ _ p.1.0 p.0.3 p.1.1)),
-      omega (arith, reaches d, behind_count a.text.now a.len (concat (rows_texts (self_at a.own a.run.now a.levels) a.opts R)) c.requires.1.0 d),
-      table_sum (self_at a.own a.run.now a.levels) a.opts R a.text.now a.len c.requires.1.0 d (w.lengths_are c.in_ok-end.end c.in_ok-end.was),
+      omega (arith, reaches d, behind_count a.text.now a.len (concat (rows_texts (self_at a.skip a.levels) a.opts R)) c.requires.1.0 d),
+      table_sum (self_at a.skip a.levels) a.opts R a.text.now a.len c.requires.1.0 d (w.lengths_are c.in_ok-end.end c.in_ok-end.was),
     )
 
 pub write_table-returns : goal.write_table-returns
 write_table-returns t c =
     let rows_here : (name : Bytes) (attrs : List Attr) (kids : Forest) (anc : Ancestors) → ElementAt c.args.sheet.now c.args.nodes.now c.args.at name attrs kids → Around c.args.sheet.now c.args.nodes.now (parent_at c.args.nodes.now c.args.at) anc → Rows c.args.sheet.now c.args.nodes.now (c.args.at + 1) c.node_end-to.result (rows_of (attrs ∷ anc) kids) = λ name attrs kids anc x h. let a = c.args in rows_of_lem a.sheet.now a.nodes.now a.at (a.at + 1) c.node_end-to.result kids (attrs ∷ anc) (element_kids x c.node_end-to.ensures) (around_it anc x h) (omega arith) in
     let filled_here : (name : Bytes) (attrs : List Attr) (kids : Forest) (anc : Ancestors) → ElementAt c.args.sheet.now c.args.nodes.now c.args.at name attrs kids → Around c.args.sheet.now c.args.nodes.now (parent_at c.args.nodes.now c.args.at) anc → RowsAt c.args.sheet.now c.args.nodes.now c.next_filled_row-first.result c.node_end-to.result (from_cells (rows_of (attrs ∷ anc) kids)) = λ name attrs kids anc x h. c.next_filled_row-first.ensures.rows (rows_of (attrs ∷ anc) kids) (rows_here _ _ _ anc x h) in
-    let wrote_here : (name : Bytes) (attrs : List Attr) (kids : Forest) (anc : Ancestors) → ElementAt c.args.sheet.now c.args.nodes.now c.args.at name attrs kids → Around c.args.sheet.now c.args.nodes.now (parent_at c.args.nodes.now c.args.at) anc → RowsWrites (length c.args.text.now) c.cells.new.text (table_lengths c.args.sheet.now c.cells.new.nodes c.next_filled_row-first.result c.node_end-to.result) c.cells.result (rows_texts (self_at c.args.own c.args.run.now c.args.levels) c.args.opts (from_cells (rows_of (attrs ∷ anc) kids))) (take c.args.len c.args.text.now) = λ name attrs kids anc x h. let a = c.args in c.cells.ensures.rows_writes (from_cells (rows_of (attrs ∷ anc) kids)) (rows_at a.sheet.now a.nodes.now c.next_filled_row-first.result c.node_end-to.result (from_cells (rows_of (attrs ∷ anc) kids)) (filled_here _ _ _ anc x h)) in
+    let wrote_here : (name : Bytes) (attrs : List Attr) (kids : Forest) (anc : Ancestors) → ElementAt c.args.sheet.now c.args.nodes.now c.args.at name attrs kids → Around c.args.sheet.now c.args.nodes.now (parent_at c.args.nodes.now c.args.at) anc → RowsWrites (length c.args.text.now) c.cells.new.text (table_lengths c.args.sheet.now c.cells.new.nodes c.next_filled_row-first.result c.node_end-to.result) c.cells.result (rows_texts (self_at c.args.skip c.args.levels) c.args.opts (from_cells (rows_of (attrs ∷ anc) kids))) (take c.args.len c.args.text.now) = λ name attrs kids anc x h. let a = c.args in c.cells.ensures.rows_writes (from_cells (rows_of (attrs ∷ anc) kids)) (rows_at a.sheet.now a.nodes.now c.next_filled_row-first.result c.node_end-to.result (from_cells (rows_of (attrs ∷ anc) kids)) (filled_here _ _ _ anc x h)) in
     let rows_here_2 : (name : Bytes) (attrs : List Attr) (kids : Forest) (anc : Ancestors) → ElementAt c.args.sheet.now c.args.nodes.now c.args.at name attrs kids → Around c.args.sheet.now c.args.nodes.now (parent_at c.args.nodes.now c.args.at) anc → Rows c.args.sheet.now c.args.nodes.now (c.args.at + 1) c.node_end-to.result (rows_of (attrs ∷ anc) kids) = λ name attrs kids anc x h. let a = c.args in rows_of_lem a.sheet.now a.nodes.now a.at (a.at + 1) c.node_end-to.result kids (attrs ∷ anc) (element_kids x c.node_end-to.ensures) (around_it anc x h) (omega arith) in
     let filled_here_2 : (name : Bytes) (attrs : List Attr) (kids : Forest) (anc : Ancestors) → ElementAt c.args.sheet.now c.args.nodes.now c.args.at name attrs kids → Around c.args.sheet.now c.args.nodes.now (parent_at c.args.nodes.now c.args.at) anc → RowsAt c.args.sheet.now c.args.nodes.now c.next_filled_row-first.result c.node_end-to.result (from_cells (rows_of (attrs ∷ anc) kids)) = λ name attrs kids anc x h. c.next_filled_row-first.ensures.rows (rows_of (attrs ∷ anc) kids) (rows_here_2 _ _ _ anc x h) in
     let writable_here : (name : Bytes) (attrs : List Attr) (kids : Forest) (anc : Ancestors) → ElementAt c.args.sheet.now c.args.nodes.now c.args.at name attrs kids → Around c.args.sheet.now c.args.nodes.now (parent_at c.args.nodes.now c.args.at) anc → c.is_table_node_writable.result ≡ is_table_node_writable kids (from_cells (rows_of (attrs ∷ anc) kids)) = λ name attrs kids anc x h. c.is_table_node_writable.ensures c.args.at kids (from_cells (rows_of (attrs ∷ anc) kids)) (element_kids x c.node_end-to.ensures) (filled_here_2 _ _ _ anc x h) in
@@ -1776,10 +1776,10 @@ write_table-returns t c =
             let R = from_cells (rows_of (attrs ∷ anc) kids) in
             let w = wrote_here _ _ _ anc x h in
             let d = done c.in_ok-end.was w.writes in
-            alike (table_written (self_at a.own a.run.now a.levels) anc a.opts name attrs kids (take a.len a.text.now) (sym (writable_here _ _ _ anc x h) ∙ c.if-not-is_table_node_writable.false))
-            (table_done (self_at a.own a.run.now a.levels) a.opts R a.text.now a.len c.requires.1.0 d
-            (c.push_table.ensures (self_at a.own a.run.now a.levels) a.opts R (rows_at_kept c.cells.ensures.kept a.sheet.now c.next_filled_row-first.result c.node_end-to.result R (filled_here_3 _ _ _ anc x h)) (w.lengths_are c.in_ok-end.end c.in_ok-end.was)
-            (behind_bytes a.text.now a.len (concat (rows_texts (self_at a.own a.run.now a.levels) a.opts R)) c.requires.1.0 d)));
+            alike (table_written (self_at a.skip a.levels) anc a.opts name attrs kids (take a.len a.text.now) (sym (writable_here _ _ _ anc x h) ∙ c.if-not-is_table_node_writable.false))
+            (table_done (self_at a.skip a.levels) a.opts R a.text.now a.len c.requires.1.0 d
+            (c.push_table.ensures (self_at a.skip a.levels) a.opts R (rows_at_kept c.cells.ensures.kept a.sheet.now c.next_filled_row-first.result c.node_end-to.result R (filled_here_3 _ _ _ anc x h)) (w.lengths_are c.in_ok-end.end c.in_ok-end.was)
+            (behind_bytes a.text.now a.len (concat (rows_texts (self_at a.skip a.levels) a.opts R)) c.requires.1.0 d)));
       };
     }
 
@@ -1790,13 +1790,13 @@ write_table-returns-in_err-end t c =
     let writable_here : (name : Bytes) (attrs : List Attr) (kids : Forest) (anc : Ancestors) → ElementAt c.args.sheet.now c.args.nodes.now c.args.at name attrs kids → Around c.args.sheet.now c.args.nodes.now (parent_at c.args.nodes.now c.args.at) anc → c.is_table_node_writable.result ≡ is_table_node_writable kids (from_cells (rows_of (attrs ∷ anc) kids)) = λ name attrs kids anc x h. c.is_table_node_writable.ensures c.args.at kids (from_cells (rows_of (attrs ∷ anc) kids)) (element_kids x c.node_end-to.ensures) (filled_here _ _ _ anc x h) in
     let rows_here_2 : (name : Bytes) (attrs : List Attr) (kids : Forest) (anc : Ancestors) → ElementAt c.args.sheet.now c.args.nodes.now c.args.at name attrs kids → Around c.args.sheet.now c.args.nodes.now (parent_at c.args.nodes.now c.args.at) anc → Rows c.args.sheet.now c.args.nodes.now (c.args.at + 1) c.node_end-to.result (rows_of (attrs ∷ anc) kids) = λ name attrs kids anc x h. let a = c.args in rows_of_lem a.sheet.now a.nodes.now a.at (a.at + 1) c.node_end-to.result kids (attrs ∷ anc) (element_kids x c.node_end-to.ensures) (around_it anc x h) (omega arith) in
     let filled_here_2 : (name : Bytes) (attrs : List Attr) (kids : Forest) (anc : Ancestors) → ElementAt c.args.sheet.now c.args.nodes.now c.args.at name attrs kids → Around c.args.sheet.now c.args.nodes.now (parent_at c.args.nodes.now c.args.at) anc → RowsAt c.args.sheet.now c.args.nodes.now c.next_filled_row-first.result c.node_end-to.result (from_cells (rows_of (attrs ∷ anc) kids)) = λ name attrs kids anc x h. c.next_filled_row-first.ensures.rows (rows_of (attrs ∷ anc) kids) (rows_here_2 _ _ _ anc x h) in
-    let wrote_here : (name : Bytes) (attrs : List Attr) (kids : Forest) (anc : Ancestors) → ElementAt c.args.sheet.now c.args.nodes.now c.args.at name attrs kids → Around c.args.sheet.now c.args.nodes.now (parent_at c.args.nodes.now c.args.at) anc → RowsWrites (length c.args.text.now) c.cells.new.text (table_lengths c.args.sheet.now c.cells.new.nodes c.next_filled_row-first.result c.node_end-to.result) c.cells.result (rows_texts (self_at c.args.own c.args.run.now c.args.levels) c.args.opts (from_cells (rows_of (attrs ∷ anc) kids))) (take c.args.len c.args.text.now) = λ name attrs kids anc x h. let a = c.args in c.cells.ensures.rows_writes (from_cells (rows_of (attrs ∷ anc) kids)) (rows_at a.sheet.now a.nodes.now c.next_filled_row-first.result c.node_end-to.result (from_cells (rows_of (attrs ∷ anc) kids)) (filled_here_2 _ _ _ anc x h)) in
+    let wrote_here : (name : Bytes) (attrs : List Attr) (kids : Forest) (anc : Ancestors) → ElementAt c.args.sheet.now c.args.nodes.now c.args.at name attrs kids → Around c.args.sheet.now c.args.nodes.now (parent_at c.args.nodes.now c.args.at) anc → RowsWrites (length c.args.text.now) c.cells.new.text (table_lengths c.args.sheet.now c.cells.new.nodes c.next_filled_row-first.result c.node_end-to.result) c.cells.result (rows_texts (self_at c.args.skip c.args.levels) c.args.opts (from_cells (rows_of (attrs ∷ anc) kids))) (take c.args.len c.args.text.now) = λ name attrs kids anc x h. let a = c.args in c.cells.ensures.rows_writes (from_cells (rows_of (attrs ∷ anc) kids)) (rows_at a.sheet.now a.nodes.now c.next_filled_row-first.result c.node_end-to.result (from_cells (rows_of (attrs ∷ anc) kids)) (filled_here_2 _ _ _ anc x h)) in
     let a = c.args in record {
       kept = kept_in (omega (arith, c.next_filled_row-first.ensures.later)) (omega (arith, c.node_end-to.ensures)) c.cells.ensures.kept;
       writes_element = stops_element c.from_residual.ensures.0 (record {
         for = λ name attrs kids anc x h.
             let R = from_cells (rows_of (attrs ∷ anc) kids) in
-            alike (table_written (self_at a.own a.run.now a.levels) anc a.opts name attrs kids (take a.len a.text.now) (sym (writable_here _ _ _ anc x h) ∙ c.if-not-is_table_node_writable.false))
-            (record { says = table_full (self_at a.own a.run.now a.levels) a.opts R a.text.now a.len (full c.in_err-end.was (wrote_here _ _ _ anc x h).writes) });
+            alike (table_written (self_at a.skip a.levels) anc a.opts name attrs kids (take a.len a.text.now) (sym (writable_here _ _ _ anc x h) ∙ c.if-not-is_table_node_writable.false))
+            (record { says = table_full (self_at a.skip a.levels) a.opts R a.text.now a.len (full c.in_err-end.was (wrote_here _ _ _ anc x h).writes) });
       });
     }

@@ -7,7 +7,7 @@ use Rattle.spec.specs.Tree.{nothing, element, text_of}
 use Rattle.spec.specs.Md.Serializer.{serializer}
 use Rattle.spec.specs.Md.Elements.Code.{code_opts, write_skip_md, trim_edges, inline_code, push_code_text}
 use Rattle.spec.specs.declared.ctx.FormatOpts.{FormatOpts}
-use Rattle.input.specs.Scans.{skip_list}
+use Rattle.input.specs.Scans.{skip_of}
 use Rattle.text.proofs.Writing.{alike, done, full, stops}
 use Rattle.text.proofs.Temporary.{temp_full, temp_fits}
 use Rattle.elements.proofs.Nesting.{nest_writes}
@@ -16,13 +16,13 @@ use Rattle.elements.proofs.code.inline_code.Goals as goal
 pub push_trimmed_code-requires : goal.push_trimmed_code-requires
 push_trimmed_code-requires c =
     let x = c.requires.0 in
-    let o = write_skip_md (tags_to_skip (skip_list c.args.own c.args.run.now)) c.code_opts-inner.result (element x.0 x.1 x.2 nothing) [] in
+    let o = write_skip_md (tags_to_skip (skip_of c.args.skip)) c.code_opts-inner.result (element x.0 x.1 x.2 nothing) [] in
     (x, temp_fits c.args.text.now c.args.len c.requires.1 o (done c.in_ok-n.was (c.write_skip_md.ensures x.0 x.1 x.2 x.3)))
 
 pub returns : goal.returns
 unfolding inline_code serializer
 returns c =
-    let skips = tags_to_skip (skip_list c.args.own c.args.run.now) in
+    let skips = tags_to_skip (skip_of c.args.skip) in
     λ levels name attrs kids x.
     let o = write_skip_md skips (code_opts c.args.opts) (element name attrs kids nothing) [] in
     let v = alike (sym (ap (λ (q : FormatOpts). write_skip_md skips q (element name attrs kids nothing) []) c.code_opts-inner.ensures)) (c.write_skip_md.ensures name attrs kids x) in
@@ -33,7 +33,7 @@ returns c =
 pub returns-in_err-n : goal.returns-in_err-n
 unfolding inline_code serializer
 returns-in_err-n c =
-    let skips = tags_to_skip (skip_list c.args.own c.args.run.now) in
+    let skips = tags_to_skip (skip_of c.args.skip) in
     λ levels name attrs kids x. stops c.from_residual.ensures.0 (let o = write_skip_md skips (code_opts c.args.opts) (element name attrs kids nothing) [] in
     let v = alike (sym (ap (λ (q : FormatOpts). write_skip_md skips q (element name attrs kids nothing) []) c.code_opts-inner.ensures)) (c.write_skip_md.ensures name attrs kids x) in
     let code = trim_edges (text_of kids) o.text in

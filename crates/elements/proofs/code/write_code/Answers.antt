@@ -2,7 +2,7 @@ use mathlib.Core.Path.{sym, ◌∙◌}
 use lib.ListN.{take}
 use Rattle.spec.specs.Call.{tags_to_skip}
 use Rattle.spec.specs.Md.Serializer.{serializer}
-use Rattle.input.specs.Scans.{skip_list}
+use Rattle.input.specs.Scans.{skip_of}
 use Rattle.text.proofs.Writing.{alike}
 use Rattle.nodes.proofs.Interrupts.{element_kids}
 use Rattle.elements.proofs.Multilines.{code_block, code_line}
@@ -25,7 +25,7 @@ pub returns-then-is_multiline : goal.returns-then-is_multiline
 returns-then-is_multiline c =
     λ levels name attrs kids anc x a.
     alike
-    (code_block (serializer (tags_to_skip (skip_list c.args.own c.args.run.now)) levels) anc c.args.opts name attrs kids (take c.args.len c.args.text.now)
+    (code_block (serializer (tags_to_skip (skip_of c.args.skip)) levels) anc c.args.opts name attrs kids (take c.args.len c.args.text.now)
     (sym (c.is_multiline.ensures c.args.i kids (element_kids x c.node_end-to.ensures)) ∙ c.if-is_multiline.true))
     (c.write_pre.ensures name attrs kids anc x a)
 
@@ -33,6 +33,6 @@ pub returns : goal.returns
 returns c =
     λ levels name attrs kids anc x a.
     alike
-    (code_line (serializer (tags_to_skip (skip_list c.args.own c.args.run.now)) levels) anc c.args.opts name attrs kids (take c.args.len c.args.text.now)
+    (code_line (serializer (tags_to_skip (skip_of c.args.skip)) levels) anc c.args.opts name attrs kids (take c.args.len c.args.text.now)
     (sym (c.is_multiline.ensures c.args.i kids (element_kids x c.node_end-to.ensures)) ∙ c.if-is_multiline.false))
     (c.inline_code.ensures levels name attrs kids x)

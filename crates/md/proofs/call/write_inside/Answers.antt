@@ -4,7 +4,7 @@ use mathlib.Core.Path.{sym, subst, ◌∙◌}
 use lib.Dec.{lit<}
 use native.Mathlib.Omega.{arith}
 use Rattle.spec.specs.declared.ctx.FormatOpts.{FormatOpts}
-use Rattle.input.specs.Scans.{skip_list}
+use Rattle.input.specs.Scans.{skip_of}
 use Rattle.serializer.specs.Writers.{Fits}
 use Rattle.md.proofs.Starting.{without, inside_reaches, inside_done, inside_full}
 use Rattle.md.proofs.call.write_inside.Goals as goal
@@ -12,12 +12,12 @@ use Rattle.md.proofs.call.write_inside.Goals as goal
 pub returns : goal.returns
 returns c =
     let a = c.args in
-    inside_done (skip_list a.own a.run.now) a.sheet.now a.nodes.now a.start _ c.requires c.node_end-end.ensures a.text.now (c.packed.ensures ∙ c.new-opts.ensures) c.write.ensures.writes_forest c.in_ok-n.was c.trim_space.ensures
+    inside_done (skip_of a.skip) a.sheet.now a.nodes.now a.start _ c.requires c.node_end-end.ensures a.text.now (c.packed.ensures ∙ c.new-opts.ensures) c.write.ensures.writes_forest c.in_ok-n.was c.trim_space.ensures
 
 pub returns-in_err-n : goal.returns-in_err-n
 returns-in_err-n c =
     stops c.from_residual.ensures.0 (let a = c.args in
-    inside_full (skip_list a.own a.run.now) a.sheet.now a.nodes.now a.start _ c.requires c.node_end-end.ensures a.text.now (c.packed.ensures ∙ c.new-opts.ensures) c.write.ensures.writes_forest c.in_err-n.was)
+    inside_full (skip_of a.skip) a.sheet.now a.nodes.now a.start _ c.requires c.node_end-end.ensures a.text.now (c.packed.ensures ∙ c.new-opts.ensures) c.write.ensures.writes_forest c.in_err-n.was)
 
 pub packed-requires : goal.packed-requires
 packed-requires c =
@@ -26,7 +26,7 @@ packed-requires c =
 pub write-requires : goal.write-requires
 write-requires c =
     let a = c.args in (
-      (without (skip_list a.own a.run.now) a.sheet.now a.nodes.now a.start _ c.requires c.node_end-end.ensures).at,
+      (without (skip_of a.skip) a.sheet.now a.nodes.now a.start _ c.requires c.node_end-end.ensures).at,
       (omega arith, c.requires.short),
       subst (λ (o : FormatOpts). Fits o 101) (sym (c.packed.ensures ∙ c.new-opts.ensures)) (lit< tt),
     )
@@ -34,4 +34,4 @@ write-requires c =
 pub trim_space-requires : goal.trim_space-requires
 trim_space-requires c =
     let a = c.args in
-    inside_reaches (skip_list a.own a.run.now) a.sheet.now a.nodes.now a.start _ c.requires c.node_end-end.ensures a.text.now (c.packed.ensures ∙ c.new-opts.ensures) c.write.ensures.writes_forest c.in_ok-n.was
+    inside_reaches (skip_of a.skip) a.sheet.now a.nodes.now a.start _ c.requires c.node_end-end.ensures a.text.now (c.packed.ensures ∙ c.new-opts.ensures) c.write.ensures.writes_forest c.in_ok-n.was

@@ -5,7 +5,7 @@ use native.Mathlib.Nat.{pos_of_ne-zero}
 use native.Mathlib.Omega.{arith}
 use Rattle.spec.specs.Md.Ctx.{include_node}
 use Rattle.spec.specs.declared.ctx.FormatOpts.{FormatOpts}
-use Rattle.input.specs.Scans.{skip_list}
+use Rattle.input.specs.Scans.{skip_of}
 use Rattle.text.proofs.Writing.{alike, keeps}
 use Rattle.serializer.specs.Writers.{Fits}
 use Rattle.md.proofs.Starting.{with_node, fragment, whole_wrote}
@@ -14,7 +14,7 @@ use Rattle.md.proofs.call.write_whole.Goals as goal
 pub returns-then-start-eq0 : goal.returns-then-start-eq0
 returns-then-start-eq0 c =
     let a = c.args in
-    alike (fragment (skip_list a.own a.run.now) a.sheet.now a.start c.if-start-eq0.true) (record { says = keeps a.text.now 0 (omega arith) })
+    alike (fragment (skip_of a.skip) a.sheet.now a.start c.if-start-eq0.true) (record { says = keeps a.text.now 0 (omega arith) })
 
 pub packed-bits-requires : goal.packed-bits-requires
 packed-bits-requires c =
@@ -23,7 +23,7 @@ packed-bits-requires c =
 pub write-requires : goal.write-requires
 write-requires c =
     let a = c.args in (
-      (with_node (skip_list a.own a.run.now) a.sheet.now a.nodes.now a.start _ c.requires (pos_of_ne-zero c.if-start-eq0.false) c.node_end-to.ensures).at,
+      (with_node (skip_of a.skip) a.sheet.now a.nodes.now a.start _ c.requires (pos_of_ne-zero c.if-start-eq0.false) c.node_end-to.ensures).at,
       (omega arith, c.requires.short),
       subst (λ (o : FormatOpts). Fits o 101) (sym (c.packed-bits.ensures ∙ c.include_node-opts.ensures ∙ ap include_node c.new.ensures)) (lit< tt),
     )
@@ -31,5 +31,5 @@ write-requires c =
 pub returns : goal.returns
 returns c =
     let a = c.args in
-    whole_wrote (skip_list a.own a.run.now) a.sheet.now a.nodes.now a.start _ c.requires (pos_of_ne-zero c.if-start-eq0.false) c.node_end-to.ensures
+    whole_wrote (skip_of a.skip) a.sheet.now a.nodes.now a.start _ c.requires (pos_of_ne-zero c.if-start-eq0.false) c.node_end-to.ensures
     (c.packed-bits.ensures ∙ c.include_node-opts.ensures ∙ ap include_node c.new.ensures) refl c.write.ensures.writes_forest

@@ -4,7 +4,7 @@ use lib.ListN.{take}
 use Rattle.spec.specs.Call.{tags_to_skip}
 use Rattle.spec.specs.Out.{and_then}
 use Rattle.spec.specs.Md.Elements.Code.{write_skip_md, close_skip_md}
-use Rattle.input.specs.Scans.{skip_list}
+use Rattle.input.specs.Scans.{skip_of}
 use Rattle.text.proofs.Writing.{alike, stops}
 use Rattle.nodes.proofs.Interrupts.{element_name}
 use Rattle.nodes.proofs.Spots.{inside_node, going_start, going_inside, going_on, going_stop, going_end, going_less}
@@ -12,7 +12,7 @@ use Rattle.nodes.proofs.skip_md.write_open_skip_md.Goals as goal
 
 pub loop-open-init : goal.loop-open-init
 loop-open-init c =
-    λ kids h. going_start (tags_to_skip (skip_list c.args.own c.args.run.now)) c.args.opts c.args.text.now c.args.len c.requires.0.3 kids h c.requires.1
+    λ kids h. going_start (tags_to_skip (skip_of c.args.skip)) c.args.opts c.args.text.now c.args.len c.requires.0.3 kids h c.requires.1
 
 pub write_spot-requires : goal.write_spot-requires
 write_spot-requires c =
@@ -30,7 +30,7 @@ next_spot-next-requires c =
 pub returns-in_err-n : goal.returns-in_err-n
 returns-in_err-n c =
     let t = take c.args.len c.args.text.now in
-    λ name attrs kids x. stops c.from_residual.ensures.0 (alike (ap (λ (k : ℕ). and_then (write_skip_md (tags_to_skip (skip_list c.args.own c.args.run.now)) c.args.opts kids t) (close_skip_md k)) (sym (element_name x)))
+    λ name attrs kids x. stops c.from_residual.ensures.0 (alike (ap (λ (k : ℕ). and_then (write_skip_md (tags_to_skip (skip_of c.args.skip)) c.args.opts kids t) (close_skip_md k)) (sym (element_name x)))
     (going_stop (c.loop-open.invariant kids x.kids_are) c.loop-open-test.true c.write_spot.ensures c.in_err-n.was))
 
 pub loop-open-smaller : goal.loop-open-smaller
@@ -45,5 +45,5 @@ loop-open-preserved c =
 pub returns : goal.returns
 returns c =
     let t = take c.args.len c.args.text.now in
-    λ name attrs kids x. alike (ap (λ (k : ℕ). and_then (write_skip_md (tags_to_skip (skip_list c.args.own c.args.run.now)) c.args.opts kids t) (close_skip_md k)) (sym (element_name x)))
+    λ name attrs kids x. alike (ap (λ (k : ℕ). and_then (write_skip_md (tags_to_skip (skip_of c.args.skip)) c.args.opts kids t) (close_skip_md k)) (sym (element_name x)))
     (going_end (c.loop-open.invariant kids x.kids_are) c.loop-open-test.false)
