@@ -21,36 +21,34 @@ use spec::ctx::FormatOpts;
 use text::buffer::Wrote;
 use text::by_len::push_all;
 use tree::names::is_skipped;
-use tree::nodes::{node_number, node_place, tag_at, text_at};
+use tree::nodes::{Tree, tag_at, text_at};
 
 // The number of the name of node i; 0 where it is no element. It stands in node memory as the sheet says it.
-pub fn node_name(sheet: &[u8], nodes: &[u8], i: usize) -> usize
-    requires { NodeAt sheet.now nodes.now i }
-    ensures { result ≡ name_at sheet.now (place_at nodes.now i) }
+pub fn node_name(tree: &Tree, i: usize) -> usize
+    requires { NodeAt tree.now.sheet.now tree.now.nodes.now i }
+    ensures { result ≡ name_at tree.now.sheet.now (place_at tree.now.nodes.now i) }
 {
-    node_number(nodes, i)
+    tree.node_number(i)
 }
 
 // Whether node i is an element that the skip list leaves out. The default list has no name that has a number.
-pub fn node_is_skipped(sheet: &[u8], skip: Option<&[u8]>, nodes: &[u8], i: usize) -> bool
-    requires { NodeAt sheet.now nodes.now i }
-    ensures { result ≡ skipped_at (tags_to_skip (skip_of skip.entry)) sheet.now (place_at nodes.now i) }
+pub fn node_is_skipped(tree: &Tree, skip: Option<&[u8]>, i: usize) -> bool
+    requires { NodeAt tree.now.sheet.now tree.now.nodes.now i }
+    ensures { result ≡ skipped_at (tags_to_skip (skip_of skip.entry)) tree.now.sheet.now (place_at tree.now.nodes.now i) }
 {
-    let number = node_number(nodes, i);
-    if skip.is_none() && number != 0 {
-        return false;
+    match skip {
+        None if tree.node_number(i) != 0 => false,
+        _ => is_skipped(tree.sheet, tree.node_place(i), skip),
     }
-    let place = node_place(nodes, i);
-    is_skipped(sheet, place, skip)
 }
 
 // Whether one of the nodes from number `from` up to `to` is an element of this name.
-pub fn has_element(sheet: &[u8], nodes: &[u8], from: usize, to: usize, name: usize) -> bool
-    requires { Siblings sheet.now nodes.now from to × (0 < name) }
-    ensures { (parent : ℕ) (f : Forest) → Rep sheet.now nodes.now parent from to f → result ≡ has_element name f }
+pub fn has_element(tree: &Tree, from: usize, to: usize, name: usize) -> bool
+    requires { Siblings tree.now.sheet.now tree.now.nodes.now from to × (0 < name) }
+    ensures { (parent : ℕ) (f : Forest) → Rep tree.now.sheet.now tree.now.nodes.now parent from to f → result ≡ has_element name f }
 {
     for i in from..to {
-        if node_name(sheet, nodes, i) == name {
+        if node_name(tree, i) == name {
             return true;
         }
     }
@@ -59,45 +57,43 @@ pub fn has_element(sheet: &[u8], nodes: &[u8], from: usize, to: usize, name: usi
 
 // Appends the texts of the nodes from number `from` up to `to`, as they stand in the sheet.
 pub fn push_text_of(
-    sheet: &[u8],
-    nodes: &[u8],
+    tree: &Tree,
     text: &mut [u8],
     len: usize,
     from: usize,
     to: usize,
 ) -> Wrote
-    requires { Siblings sheet.now nodes.now from to × (len ≤ length text.old) }
-    ensures { (parent : ℕ) (f : Forest) → Rep sheet.now nodes.now parent from to f → Writes (length text.old) text.new result (push (text_of f) (take len text.old)) }
+    requires { Siblings tree.now.sheet.now tree.now.nodes.now from to × (len ≤ length text.old) }
+    ensures { (parent : ℕ) (f : Forest) → Rep tree.now.sheet.now tree.now.nodes.now parent from to f → Writes (length text.old) text.new result (push (text_of f) (take len text.old)) }
 {
     let mut n = len;
     for i in from..to {
-        let place = node_place(nodes, i);
-        n = push_all(text, n, &sheet[text_at(sheet, place)])?;
+        let place = tree.node_place(i);
+        n = push_all(text, n, &tree.sheet[text_at(tree.sheet, place)])?;
     }
     Ok(n)
 }
 
 // Appends the text of node i, if it is one.
 pub fn write_text_node(
-    sheet: &[u8],
-    nodes: &[u8],
+    tree: &Tree,
     text: &mut [u8],
     len: usize,
     i: usize,
     opts: FormatOpts,
 ) -> Wrote
-    requires { NodeAt sheet.now nodes.now i × (len ≤ length text.old) }
-    ensures { Writes (length text.old) text.new result (text_step opts sheet.now (place_at nodes.now i) (take len text.old)) }
+    requires { NodeAt tree.now.sheet.now tree.now.nodes.now i × (len ≤ length text.old) }
+    ensures { Writes (length text.old) text.new result (text_step opts tree.now.sheet.now (place_at tree.now.nodes.now i) (take len text.old)) }
 {
-    let place = node_place(nodes, i);
-    if tag_at(sheet, place) != TEXT {
+    let place = tree.node_place(i);
+    if tag_at(tree.sheet, place) != TEXT {
         return Ok(len);
     }
-    let part = text_at(sheet, place);
+    let part = text_at(tree.sheet, place);
     push_text_part(
         text,
         len,
-        sheet,
+        tree.sheet,
         part.start,
         part.end,
         opts.inline,
@@ -108,33 +104,32 @@ pub fn write_text_node(
 
 // write_text of the nodes from number `from` up to `to`: it knows no skip list.
 pub fn write_text(
-    sheet: &[u8],
-    nodes: &[u8],
+    tree: &Tree,
     text: &mut [u8],
     len: usize,
     from: usize,
     to: usize,
     opts: FormatOpts,
 ) -> Wrote
-    requires { Siblings sheet.now nodes.now from to × (len ≤ length text.old) }
-    ensures { (parent : ℕ) (f : Forest) → Rep sheet.now nodes.now parent from to f → Writes (length text.old) text.new result (link.write_text opts f (take len text.old)) }
+    requires { Siblings tree.now.sheet.now tree.now.nodes.now from to × (len ≤ length text.old) }
+    ensures { (parent : ℕ) (f : Forest) → Rep tree.now.sheet.now tree.now.nodes.now parent from to f → Writes (length text.old) text.new result (link.write_text opts f (take len text.old)) }
 {
     let mut n = len;
     for i in from..to {
-        n = write_text_node(sheet, nodes, text, n, i, opts)?;
+        n = write_text_node(tree, text, n, i, opts)?;
     }
     Ok(n)
 }
 
 // Whether the texts of the nodes from number `from` up to `to` together are White_Space.
-pub fn is_white_space(sheet: &[u8], nodes: &[u8], from: usize, to: usize) -> bool
-    requires { Siblings sheet.now nodes.now from to }
-    ensures { (parent : ℕ) (f : Forest) → Rep sheet.now nodes.now parent from to f → result ≡ null (trim_end (text_of f)) }
+pub fn is_white_space(tree: &Tree, from: usize, to: usize) -> bool
+    requires { Siblings tree.now.sheet.now tree.now.nodes.now from to }
+    ensures { (parent : ℕ) (f : Forest) → Rep tree.now.sheet.now tree.now.nodes.now parent from to f → result ≡ null (trim_end (text_of f)) }
 {
     let mut state = Begun::Nothing;
     for i in from..to {
-        let place = node_place(nodes, i);
-        state = white_state(&sheet[text_at(sheet, place)], state);
+        let place = tree.node_place(i);
+        state = white_state(&tree.sheet[text_at(tree.sheet, place)], state);
     }
     has_ended(state)
 }

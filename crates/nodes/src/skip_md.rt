@@ -18,7 +18,7 @@ use spec::ctx::FormatOpts;
 use text::buffer::{Wrote, ends_with, ends_with_byte};
 use text::by_len::push_byte;
 use tree::names::is_skipped;
-use tree::nodes::{node_end, node_parent, node_place, tag_at};
+use tree::nodes::{Tree, tag_at};
 
 // The number of the name `br`.
 const BR: usize = 20;
@@ -56,37 +56,36 @@ fn close_skip_md(text: &mut [u8], len: usize, name: usize) -> Wrote
 
 // The text of the node that follows, or the close of the open element where none follows in it.
 fn write_spot(
-    sheet: &[u8],
-    nodes: &[u8],
+    tree: &Tree,
     text: &mut [u8],
     len: usize,
     open: usize,
     at: usize,
     opts: FormatOpts,
 ) -> Wrote
-    requires { NodeAt sheet.now nodes.now «open» × (at < end_at nodes.now «open» → NodeAt sheet.now nodes.now at) × (len ≤ length text.old) }
-    ensures { Writes (length text.old) text.new result (spot_step opts sheet.now nodes.now «open» at (take len text.old)) }
+    requires { NodeAt tree.now.sheet.now tree.now.nodes.now «open» × (at < end_at tree.now.nodes.now «open» → NodeAt tree.now.sheet.now tree.now.nodes.now at) × (len ≤ length text.old) }
+    ensures { Writes (length text.old) text.new result (spot_step opts tree.now.sheet.now tree.now.nodes.now «open» at (take len text.old)) }
 {
-    if at < node_end(nodes, open) {
-        return write_text_node(sheet, nodes, text, len, at, opts);
+    if at < tree.node_end(open) {
+        return write_text_node(tree, text, len, at, opts);
     }
-    let name = node_name(sheet, nodes, open);
+    let name = node_name(tree, open);
     close_skip_md(text, len, name)
 }
 
 // The place behind a node that follows in the open element: in it, if it is an element that is not left out.
-fn below_spot(sheet: &[u8], skip: Option<&[u8]>, nodes: &[u8], open: usize, at: usize) -> Spot
-    requires { NodeAt sheet.now nodes.now at }
-    ensures { result ≡ below_spot (tags_to_skip (skip_of skip.entry)) sheet.now nodes.now «open» at }
+fn below_spot(tree: &Tree, skip: Option<&[u8]>, open: usize, at: usize) -> Spot
+    requires { NodeAt tree.now.sheet.now tree.now.nodes.now at }
+    ensures { result ≡ below_spot (tags_to_skip (skip_of skip.entry)) tree.now.sheet.now tree.now.nodes.now «open» at }
 {
-    let place = node_place(nodes, at);
-    if is_skipped(sheet, place, skip) {
+    let place = tree.node_place(at);
+    if is_skipped(tree.sheet, place, skip) {
         return Spot {
             open,
-            at: node_end(nodes, at),
+            at: tree.node_end(at),
         };
     }
-    if tag_at(sheet, place) == OPEN {
+    if tag_at(tree.sheet, place) == OPEN {
         return Spot {
             open: at,
             at: at + 1,
@@ -97,47 +96,45 @@ fn below_spot(sheet: &[u8], skip: Option<&[u8]>, nodes: &[u8], open: usize, at: 
 
 // The next place. Behind the end of node `top` no element is open, which is node 0.
 fn next_spot(
-    sheet: &[u8],
+    tree: &Tree,
     skip: Option<&[u8]>,
-    nodes: &[u8],
     top: usize,
     open: usize,
     at: usize,
 ) -> Spot
-    requires { NodeAt sheet.now nodes.now «open» × (at < end_at nodes.now «open» → NodeAt sheet.now nodes.now at) }
-    ensures { result ≡ next_spot (tags_to_skip (skip_of skip.entry)) sheet.now nodes.now top «open» at }
+    requires { NodeAt tree.now.sheet.now tree.now.nodes.now «open» × (at < end_at tree.now.nodes.now «open» → NodeAt tree.now.sheet.now tree.now.nodes.now at) }
+    ensures { result ≡ next_spot (tags_to_skip (skip_of skip.entry)) tree.now.sheet.now tree.now.nodes.now top «open» at }
 {
-    if at < node_end(nodes, open) {
-        return below_spot(sheet, skip, nodes, open, at);
+    if at < tree.node_end(open) {
+        return below_spot(tree, skip, open, at);
     }
     if open == top {
         return Spot { open: 0, at };
     }
     Spot {
-        open: node_parent(nodes, open),
+        open: tree.node_parent(open),
         at,
     }
 }
 
 // What stands in the element at node i, and its close.
 fn write_open_skip_md(
-    sheet: &[u8],
+    tree: &Tree,
     skip: Option<&[u8]>,
-    nodes: &[u8],
     text: &mut [u8],
     len: usize,
     i: usize,
     opts: FormatOpts,
 ) -> Wrote
-    requires { SomeElement sheet.now nodes.now i × (len ≤ length text.old) }
-    ensures { (name : Bytes) (attrs : List Attr) (kids : Forest) → ElementAt sheet.now nodes.now i name attrs kids → Writes (length text.old) text.new result (and_then (def.write_skip_md (tags_to_skip (skip_of skip.entry)) opts kids (take len text.old)) (def.close_skip_md (tag_of name))) }
+    requires { SomeElement tree.now.sheet.now tree.now.nodes.now i × (len ≤ length text.old) }
+    ensures { (name : Bytes) (attrs : List Attr) (kids : Forest) → ElementAt tree.now.sheet.now tree.now.nodes.now i name attrs kids → Writes (length text.old) text.new result (and_then (def.write_skip_md (tags_to_skip (skip_of skip.entry)) opts kids (take len text.old)) (def.close_skip_md (tag_of name))) }
 {
     let mut n = len;
     let mut open = i;
     let mut at = i + 1;
     while open != 0 {
-        n = write_spot(sheet, nodes, text, n, open, at, opts)?;
-        let next = next_spot(sheet, skip, nodes, i, open, at);
+        n = write_spot(tree, text, n, open, at, opts)?;
+        let next = next_spot(tree, skip, i, open, at);
         open = next.open;
         at = next.at;
     }
@@ -146,20 +143,19 @@ fn write_open_skip_md(
 
 // The element at node i under skip_md.
 pub fn write_skip_md(
-    sheet: &[u8],
+    tree: &Tree,
     skip: Option<&[u8]>,
-    nodes: &[u8],
     text: &mut [u8],
     len: usize,
     i: usize,
     opts: FormatOpts,
 ) -> Wrote
-    requires { SomeElement sheet.now nodes.now i × (len ≤ length text.old) }
-    ensures { (name : Bytes) (attrs : List Attr) (kids : Forest) → ElementAt sheet.now nodes.now i name attrs kids → Writes (length text.old) text.new result (def.write_skip_md (tags_to_skip (skip_of skip.entry)) opts (element name attrs kids nothing) (take len text.old)) }
+    requires { SomeElement tree.now.sheet.now tree.now.nodes.now i × (len ≤ length text.old) }
+    ensures { (name : Bytes) (attrs : List Attr) (kids : Forest) → ElementAt tree.now.sheet.now tree.now.nodes.now i name attrs kids → Writes (length text.old) text.new result (def.write_skip_md (tags_to_skip (skip_of skip.entry)) opts (element name attrs kids nothing) (take len text.old)) }
 {
-    let place = node_place(nodes, i);
-    if is_skipped(sheet, place, skip) {
+    let place = tree.node_place(i);
+    if is_skipped(tree.sheet, place, skip) {
         return Ok(len);
     }
-    write_open_skip_md(sheet, skip, nodes, text, len, i, opts)
+    write_open_skip_md(tree, skip, text, len, i, opts)
 }

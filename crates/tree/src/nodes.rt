@@ -8,60 +8,69 @@ use crate::tags::TEXT;
 use input::fields::span_at;
 use std::ops::Range;
 
-// Where in the sheet the field of node i stands.
-#[tactic(auto, using(crate::proofs::Numbers::quad_is))]
-pub fn node_place(ns: &[u8], i: usize) -> usize
-    requires { i * 24 + 24 ≤ length ns.now }
-    ensures { result ≡ place_at ns.now i }
-{
-    read::<4>(ns, i * 24) / 256
+// A sheet, and the nodes of its tree in node memory.
+#[derive(Clone, Copy)]
+pub struct Tree<'a> {
+    pub sheet: &'a [u8],
+    pub nodes: &'a [u8],
 }
 
-// The number of its name; 0 where it is no element.
-#[tactic(auto, using(crate::proofs::Numbers::quad_is))]
-pub fn node_number(ns: &[u8], i: usize) -> usize
-    requires { i * 24 + 24 ≤ length ns.now }
-    ensures { result ≡ number_at ns.now i }
-{
-    read::<4>(ns, i * 24) % 256
-}
+impl<'a> Tree<'a> {
+    // Where in the sheet the field of node i stands.
+    #[tactic(auto, using(crate::proofs::Numbers::quad_is))]
+    pub fn node_place(&self, i: usize) -> usize
+        requires { i * 24 + 24 ≤ length self.now.nodes.now }
+        ensures { result ≡ place_at self.now.nodes.now i }
+    {
+        read::<4>(self.nodes, i * 24) / 256
+    }
 
-// The number of the node behind the last descendant of node i. The children of node i are i + 1, the end of that, and so
-// on up to the end of i.
-#[tactic(auto, using(crate::proofs::Numbers::word_is))]
-pub fn node_end(ns: &[u8], i: usize) -> usize
-    requires { i * 24 + 24 ≤ length ns.now }
-    ensures { result ≡ end_at ns.now i }
-{
-    read::<2>(ns, i * 24 + 4)
-}
+    // The number of its name; 0 where it is no element.
+    #[tactic(auto, using(crate::proofs::Numbers::quad_is))]
+    pub fn node_number(&self, i: usize) -> usize
+        requires { i * 24 + 24 ≤ length self.now.nodes.now }
+        ensures { result ≡ number_at self.now.nodes.now i }
+    {
+        read::<4>(self.nodes, i * 24) % 256
+    }
 
-// The number of the node in which node i stands; 0 for node 0 itself.
-#[tactic(auto, using(crate::proofs::Numbers::word_is))]
-pub fn node_parent(ns: &[u8], i: usize) -> usize
-    requires { i * 24 + 24 ≤ length ns.now }
-    ensures { result ≡ parent_at ns.now i }
-{
-    read::<2>(ns, i * 24 + 6)
-}
+    // The number of the node behind the last descendant of node i. The children of node i are i + 1, the end of that, and so
+    // on up to the end of i.
+    #[tactic(auto, using(crate::proofs::Numbers::word_is))]
+    pub fn node_end(&self, i: usize) -> usize
+        requires { i * 24 + 24 ≤ length self.now.nodes.now }
+        ensures { result ≡ end_at self.now.nodes.now i }
+    {
+        read::<2>(self.nodes, i * 24 + 4)
+    }
 
-// The first child of node i, if it has one.
-pub fn first_child(ns: &[u8], i: usize) -> Option<usize>
-    requires { i * 24 + 24 ≤ length ns.now }
-    ensures { result ≡ first_child ns.now i }
-{
-    let next = i + 1;
-    (next < node_end(ns, i)).then_some(next)
-}
+    // The number of the node in which node i stands; 0 for node 0 itself.
+    #[tactic(auto, using(crate::proofs::Numbers::word_is))]
+    pub fn node_parent(&self, i: usize) -> usize
+        requires { i * 24 + 24 ≤ length self.now.nodes.now }
+        ensures { result ≡ parent_at self.now.nodes.now i }
+    {
+        read::<2>(self.nodes, i * 24 + 6)
+    }
 
-// The node that follows node i among its siblings, if it is not the last.
-pub fn next_sibling(ns: &[u8], i: usize) -> Option<usize>
-    requires { (i * 24 + 24 ≤ length ns.now) × (parent_at ns.now i * 24 + 24 ≤ length ns.now) }
-    ensures { result ≡ next_sibling ns.now i }
-{
-    let next = node_end(ns, i);
-    let up = node_parent(ns, i);
-    (next < node_end(ns, up)).then_some(next)
+    // The first child of node i, if it has one.
+    pub fn first_child(&self, i: usize) -> Option<usize>
+        requires { i * 24 + 24 ≤ length self.now.nodes.now }
+        ensures { result ≡ first_child self.now.nodes.now i }
+    {
+        let next = i + 1;
+        (next < self.node_end(i)).then_some(next)
+    }
+
+    // The node that follows node i among its siblings, if it is not the last.
+    pub fn next_sibling(&self, i: usize) -> Option<usize>
+        requires { (i * 24 + 24 ≤ length self.now.nodes.now) × (parent_at self.now.nodes.now i * 24 + 24 ≤ length self.now.nodes.now) }
+        ensures { result ≡ next_sibling self.now.nodes.now i }
+    {
+        let next = self.node_end(i);
+        let up = self.node_parent(i);
+        (next < self.node_end(up)).then_some(next)
+    }
 }
 
 // What kind of node has its field at `place`: the tag of that field.

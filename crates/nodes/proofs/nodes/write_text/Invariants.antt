@@ -5,4 +5,4 @@ use Rattle.nodes.proofs.Numbers.{steps}
 use Rattle.nodes.proofs.nodes.write_text.Given as goal
 
 abbrev pub invariant-loop-i : goal.invariant-loop-i
-invariant-loop-i l = (l.from ≤ l.i) × Owes (length l.initial.text) l.text l.n (steps l.opts l.sheet l.nodes l.to l.i) (steps l.opts l.sheet l.nodes l.to l.from (take l.len l.initial.text))
+invariant-loop-i l = (l.from ≤ l.i) × Owes (length l.initial.text) l.text l.n (steps l.opts l.tree.sheet.now l.tree.nodes.now l.to l.i) (steps l.opts l.tree.sheet.now l.tree.nodes.now l.to l.from (take l.len l.initial.text))

@@ -15,16 +15,16 @@ pub returns-then-is_skipped : goal.returns-then-is_skipped
 returns-then-is_skipped c =
     let skips = tags_to_skip (skip_of c.args.skip) in
     ap (at_end c.args.«open») c.node_end.ensures
-    ∙ sym (below_skipped skips c.args.sheet.now c.args.nodes.now c.args.«open» c.args.at (sym (ap (skipped_at skips c.args.sheet.now) c.node_place-place.ensures) ∙ (sym c.is_skipped.ensures ∙ c.if-is_skipped.true)))
+    ∙ sym (below_skipped skips c.args.tree.now.sheet.now c.args.tree.now.nodes.now c.args.«open» c.args.at (sym (ap (skipped_at skips c.args.tree.now.sheet.now) c.node_place-place.ensures) ∙ (sym c.is_skipped.ensures ∙ c.if-is_skipped.true)))
 
 pub returns-then-tag_at-eq-OPEN : goal.returns-then-tag_at-eq-OPEN
 returns-then-tag_at-eq-OPEN c =
     let skips = tags_to_skip (skip_of c.args.skip) in
-    sym (below_in skips c.args.sheet.now c.args.nodes.now c.args.«open» c.args.at (sym (ap (skipped_at skips c.args.sheet.now) c.node_place-place.ensures) ∙ (sym c.is_skipped.ensures ∙ c.if-is_skipped.false))
-    (sym (ap (λ (k : ℕ). get_or c.args.sheet.now k 0) c.node_place-place.ensures) ∙ (sym c.tag_at.ensures ∙ c.if-tag_at-eq-OPEN.true)))
+    sym (below_in skips c.args.tree.now.sheet.now c.args.tree.now.nodes.now c.args.«open» c.args.at (sym (ap (skipped_at skips c.args.tree.now.sheet.now) c.node_place-place.ensures) ∙ (sym c.is_skipped.ensures ∙ c.if-is_skipped.false))
+    (sym (ap (λ (k : ℕ). get_or c.args.tree.now.sheet.now k 0) c.node_place-place.ensures) ∙ (sym c.tag_at.ensures ∙ c.if-tag_at-eq-OPEN.true)))
 
 pub returns : goal.returns
 returns c =
     let skips = tags_to_skip (skip_of c.args.skip) in
-    sym (below_other skips c.args.sheet.now c.args.nodes.now c.args.«open» c.args.at (sym (ap (skipped_at skips c.args.sheet.now) c.node_place-place.ensures) ∙ (sym c.is_skipped.ensures ∙ c.if-is_skipped.false))
-    (λ q. c.if-tag_at-eq-OPEN.false (c.tag_at.ensures ∙ (ap (λ (k : ℕ). get_or c.args.sheet.now k 0) c.node_place-place.ensures ∙ q))))
+    sym (below_other skips c.args.tree.now.sheet.now c.args.tree.now.nodes.now c.args.«open» c.args.at (sym (ap (skipped_at skips c.args.tree.now.sheet.now) c.node_place-place.ensures) ∙ (sym c.is_skipped.ensures ∙ c.if-is_skipped.false))
+    (λ q. c.if-tag_at-eq-OPEN.false (c.tag_at.ensures ∙ (ap (λ (k : ℕ). get_or c.args.tree.now.sheet.now k 0) c.node_place-place.ensures ∙ q))))

@@ -12,13 +12,13 @@ up_to at k = record { «open» = k; at = at }
 
 pub returns-then-at-node_end : goal.returns-then-at-node_end
 returns-then-at-node_end c =
-    c.below_spot.ensures ∙ sym (next_below (tags_to_skip (skip_of c.args.skip)) c.args.sheet.now c.args.nodes.now c.args.«open» c.args.at c.args.top (omega (arith, c.if-at-node_end.true, c.node_end.ensures)))
+    c.below_spot.ensures ∙ sym (next_below (tags_to_skip (skip_of c.args.skip)) c.args.tree.now.sheet.now c.args.tree.now.nodes.now c.args.«open» c.args.at c.args.top (omega (arith, c.if-at-node_end.true, c.node_end.ensures)))
 
 pub returns-then-open-top : goal.returns-then-open-top
 returns-then-open-top c =
-    sym (next_none (tags_to_skip (skip_of c.args.skip)) c.args.sheet.now c.args.nodes.now c.args.«open» c.args.at c.args.top (omega (arith, c.if-at-node_end.false, c.node_end.ensures)) c.if-open-top.true)
+    sym (next_none (tags_to_skip (skip_of c.args.skip)) c.args.tree.now.sheet.now c.args.tree.now.nodes.now c.args.«open» c.args.at c.args.top (omega (arith, c.if-at-node_end.false, c.node_end.ensures)) c.if-open-top.true)
 
 pub returns : goal.returns
 returns c =
     ap (up_to c.args.at) c.node_parent.ensures
-    ∙ sym (next_up (tags_to_skip (skip_of c.args.skip)) c.args.sheet.now c.args.nodes.now c.args.«open» c.args.at c.args.top (omega (arith, c.if-at-node_end.false, c.node_end.ensures)) c.if-open-top.false)
+    ∙ sym (next_up (tags_to_skip (skip_of c.args.skip)) c.args.tree.now.sheet.now c.args.tree.now.nodes.now c.args.«open» c.args.at c.args.top (omega (arith, c.if-at-node_end.false, c.node_end.ensures)) c.if-open-top.false)

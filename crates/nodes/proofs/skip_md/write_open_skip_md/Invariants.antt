@@ -11,8 +11,8 @@ use Rattle.nodes.proofs.Spots.{Going, closes, fall}
 use Rattle.nodes.proofs.skip_md.write_open_skip_md.Given as goal
 
 abbrev pub invariant-loop-open : goal.invariant-loop-open
-invariant-loop-open l = (kids : Forest) → Rep l.sheet l.nodes l.i (l.i + 1) (end_at l.nodes l.i) kids
-    → Going (tags_to_skip (skip_of l.skip)) l.opts l.sheet l.nodes l.i l.open l.at (length l.initial.text) l.text l.n (and_then (write_skip_md (tags_to_skip (skip_of l.skip)) l.opts kids (take l.len l.initial.text)) (closes l.sheet l.nodes l.i))
+invariant-loop-open l = (kids : Forest) → Rep l.tree.sheet.now l.tree.nodes.now l.i (l.i + 1) (end_at l.tree.nodes.now l.i) kids
+    → Going (tags_to_skip (skip_of l.skip)) l.opts l.tree.sheet.now l.tree.nodes.now l.i l.open l.at (length l.initial.text) l.text l.n (and_then (write_skip_md (tags_to_skip (skip_of l.skip)) l.opts kids (take l.len l.initial.text)) (closes l.tree.sheet.now l.tree.nodes.now l.i))
 
 abbrev pub decreases-loop-open : goal.decreases-loop-open
-decreases-loop-open l = fall l.nodes l.i l.open l.at
+decreases-loop-open l = fall l.tree.nodes.now l.i l.open l.at
