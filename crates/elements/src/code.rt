@@ -22,7 +22,7 @@ use spec::ctx::FormatOpts;
 use text::buffer::{Wrote, contains_byte, ends_with_byte, reread, trim_end_matches, trim_start_matches};
 use text::class::{Blank, TabOrBlank};
 use text::white_space::{is_white_space_1, is_white_space_2, is_white_space_3, trim_end};
-use tree::nodes::{node_end, node_place, text_at};
+use tree::nodes::{Tree, text_at};
 
 // How many bytes the White_Space character has that begins s; 0 where none does.
 fn white_width(s: &[u8]) -> usize
@@ -74,17 +74,17 @@ fn is_multiline_text(s: &[u8]) -> bool
 }
 
 // Whether some text of the nodes from number `from` up to `to` does.
-fn is_multiline(sheet: &[u8], nodes: &[u8], from: usize, to: usize) -> bool
-    requires { Siblings sheet.now nodes.now from to }
-    ensures { (parent : ℕ) (f : Forest) → Rep sheet.now nodes.now parent from to f → result ≡ def.is_multiline f }
+fn is_multiline(tree: &Tree, from: usize, to: usize) -> bool
+    requires { Siblings tree.now.sheet.now tree.now.nodes.now from to }
+    ensures { (parent : ℕ) (f : Forest) → Rep tree.now.sheet.now tree.now.nodes.now parent from to f → result ≡ def.is_multiline f }
 {
     let mut i = from;
     while i < to {
-        let place = node_place(nodes, i);
-        let part = text_at(sheet, place);
+        let place = tree.node_place(i);
+        let part = text_at(tree.sheet, place);
         let start = part.start;
         let end = part.end;
-        if is_multiline_text(&sheet[start..end]) {
+        if is_multiline_text(&tree.sheet[start..end]) {
             return true;
         }
         i += 1;
@@ -93,19 +93,19 @@ fn is_multiline(sheet: &[u8], nodes: &[u8], from: usize, to: usize) -> bool
 }
 
 // Whether the texts of those nodes begin with LF, but for tabs and blanks.
-fn begins_line(sheet: &[u8], nodes: &[u8], from: usize, to: usize) -> bool
-    requires { Siblings sheet.now nodes.now from to }
-    ensures { (parent : ℕ) (f : Forest) → Rep sheet.now nodes.now parent from to f → result ≡ starts_with (ascii "\n") (trim_start_matches def.is_tab_or_blank (text_of f)) }
+fn begins_line(tree: &Tree, from: usize, to: usize) -> bool
+    requires { Siblings tree.now.sheet.now tree.now.nodes.now from to }
+    ensures { (parent : ℕ) (f : Forest) → Rep tree.now.sheet.now tree.now.nodes.now parent from to f → result ≡ starts_with (ascii "\n") (trim_start_matches def.is_tab_or_blank (text_of f)) }
 {
     let mut i = from;
     while i < to {
-        let place = node_place(nodes, i);
-        let part = text_at(sheet, place);
+        let place = tree.node_place(i);
+        let part = text_at(tree.sheet, place);
         let start = part.start;
         let end = part.end;
-        let n = start + trim_start_matches::<TabOrBlank>(&sheet[start..end]);
+        let n = start + trim_start_matches::<TabOrBlank>(&tree.sheet[start..end]);
         if n < end {
-            return sheet[n] == 10;
+            return tree.sheet[n] == 10;
         }
         i += 1;
     }
@@ -124,18 +124,18 @@ fn ended_by(s: &[u8], before: bool) -> bool
 }
 
 // Whether the texts of those nodes end so.
-fn ends_line(sheet: &[u8], nodes: &[u8], from: usize, to: usize) -> bool
-    requires { Siblings sheet.now nodes.now from to }
-    ensures { (parent : ℕ) (f : Forest) → Rep sheet.now nodes.now parent from to f → result ≡ ends_with (ascii "\n") (trim_end_matches (one def.is_tab_or_blank) (text_of f)) }
+fn ends_line(tree: &Tree, from: usize, to: usize) -> bool
+    requires { Siblings tree.now.sheet.now tree.now.nodes.now from to }
+    ensures { (parent : ℕ) (f : Forest) → Rep tree.now.sheet.now tree.now.nodes.now parent from to f → result ≡ ends_with (ascii "\n") (trim_end_matches (one def.is_tab_or_blank) (text_of f)) }
 {
     let mut ended = false;
     let mut i = from;
     while i < to {
-        let place = node_place(nodes, i);
-        let part = text_at(sheet, place);
+        let place = tree.node_place(i);
+        let part = text_at(tree.sheet, place);
         let start = part.start;
         let end = part.end;
-        ended = ended_by(&sheet[start..end], ended);
+        ended = ended_by(&tree.sheet[start..end], ended);
         i += 1;
     }
     ended
@@ -163,19 +163,18 @@ fn code_start(s: &[u8], begun: bool) -> usize
 
 // The code is the n bytes behind the text.
 fn push_trimmed_code(
-    sheet: &[u8],
-    nodes: &[u8],
+    tree: &Tree,
     text: &mut [u8],
     len: usize,
     n: usize,
     i: usize,
 ) -> Wrote
-    requires { SomeElement sheet.now nodes.now i × (len + n ≤ length text.old) }
-    ensures { (name : Bytes) (attrs : List Attr) (kids : Forest) → ElementAt sheet.now nodes.now i name attrs kids → Writes (length text.old) text.new result (def.push_code_text (length (def.trim_edges (text_of kids) (take n (drop len text.old)))) (def.trim_edges (text_of kids) (take n (drop len text.old))) (take len text.old)) }
+    requires { SomeElement tree.now.sheet.now tree.now.nodes.now i × (len + n ≤ length text.old) }
+    ensures { (name : Bytes) (attrs : List Attr) (kids : Forest) → ElementAt tree.now.sheet.now tree.now.nodes.now i name attrs kids → Writes (length text.old) text.new result (def.push_code_text (length (def.trim_edges (text_of kids) (take n (drop len text.old)))) (def.trim_edges (text_of kids) (take n (drop len text.old))) (take len text.old)) }
 {
-    let to = node_end(nodes, i);
-    let ended = ends_line(sheet, nodes, i + 1, to);
-    let begun = begins_line(sheet, nodes, i + 1, to);
+    let to = tree.node_end(i);
+    let ended = ends_line(tree, i + 1, to);
+    let begun = begins_line(tree, i + 1, to);
     let end = len + n;
     let k = code_end(&text[len..end], ended);
     let last = len + k;
@@ -192,37 +191,35 @@ fn code_opts(opts: FormatOpts) -> FormatOpts
 
 // One line of code.
 fn inline_code(
-    sheet: &[u8],
+    tree: &Tree,
     skip: Option<&[u8]>,
-    nodes: &[u8],
     text: &mut [u8],
     len: usize,
     i: usize,
     opts: FormatOpts,
 ) -> Wrote
-    requires { SomeElement sheet.now nodes.now i × (len ≤ length text.old) }
-    ensures { (levels : ℕ) (name : Bytes) (attrs : List Attr) (kids : Forest) → ElementAt sheet.now nodes.now i name attrs kids → Writes (length text.old) text.new result (def.inline_code (serializer (tags_to_skip (skip_of skip.entry)) levels) opts name attrs kids (take len text.old)) }
+    requires { SomeElement tree.now.sheet.now tree.now.nodes.now i × (len ≤ length text.old) }
+    ensures { (levels : ℕ) (name : Bytes) (attrs : List Attr) (kids : Forest) → ElementAt tree.now.sheet.now tree.now.nodes.now i name attrs kids → Writes (length text.old) text.new result (def.inline_code (serializer (tags_to_skip (skip_of skip.entry)) levels) opts name attrs kids (take len text.old)) }
 {
     let inner = code_opts(opts);
-    let n = write_skip_md(sheet, skip, nodes, &mut text[len..], 0, i, inner)?;
-    push_trimmed_code(sheet, nodes, text, len, n, i)
+    let n = write_skip_md(tree, skip, &mut text[len..], 0, i, inner)?;
+    push_trimmed_code(tree, text, len, n, i)
 }
 
 pub fn write_code(
-    sheet: &[u8],
+    tree: &Tree,
     skip: Option<&[u8]>,
-    nodes: &[u8],
     text: &mut [u8],
     len: usize,
     i: usize,
     opts: FormatOpts,
 ) -> Wrote
-    requires { Placed sheet.now nodes.now i × (len ≤ length text.old) }
-    ensures { (levels : ℕ) (name : Bytes) (attrs : List Attr) (kids : Forest) (anc : Ancestors) → ElementAt sheet.now nodes.now i name attrs kids → Around sheet.now nodes.now (parent_at nodes.now i) anc → Writes (length text.old) text.new result (def.write_code (serializer (tags_to_skip (skip_of skip.entry)) levels) anc opts name attrs kids (take len text.old)) }
+    requires { Placed tree.now.sheet.now tree.now.nodes.now i × (len ≤ length text.old) }
+    ensures { (levels : ℕ) (name : Bytes) (attrs : List Attr) (kids : Forest) (anc : Ancestors) → ElementAt tree.now.sheet.now tree.now.nodes.now i name attrs kids → Around tree.now.sheet.now tree.now.nodes.now (parent_at tree.now.nodes.now i) anc → Writes (length text.old) text.new result (def.write_code (serializer (tags_to_skip (skip_of skip.entry)) levels) anc opts name attrs kids (take len text.old)) }
 {
-    let to = node_end(nodes, i);
-    if is_multiline(sheet, nodes, i + 1, to) {
-        return write_pre(sheet, nodes, text, len, i, opts);
+    let to = tree.node_end(i);
+    if is_multiline(tree, i + 1, to) {
+        return write_pre(tree, text, len, i, opts);
     }
-    inline_code(sheet, skip, nodes, text, len, i, opts)
+    inline_code(tree, skip, text, len, i, opts)
 }

@@ -18,7 +18,7 @@ use spec::ctx::ListKind;
 use text::buffer::all_in;
 use text::class::White;
 use tree::attributes::attribute;
-use tree::nodes::{node_end, node_place, tag_at, text_at};
+use tree::nodes::{Tree, tag_at, text_at};
 
 // The number of the attribute of that name of the element at `place`.
 pub fn number_of(sheet: &[u8], place: usize, name: &[u8]) -> Option<u32>
@@ -77,84 +77,84 @@ pub fn node_is_list_item_block(name: usize) -> bool
 }
 
 // Whether one of the siblings from number `from` up to `to` is a block of its own.
-pub fn has_blocks(sheet: &[u8], nodes: &[u8], from: usize, to: usize) -> bool
-    requires { Siblings sheet.now nodes.now from to }
-    ensures { (parent : ℕ) (f : Forest) → Rep sheet.now nodes.now parent from to f → result ≡ def.has_blocks f }
+pub fn has_blocks(tree: &Tree, from: usize, to: usize) -> bool
+    requires { Siblings tree.now.sheet.now tree.now.nodes.now from to }
+    ensures { (parent : ℕ) (f : Forest) → Rep tree.now.sheet.now tree.now.nodes.now parent from to f → result ≡ def.has_blocks f }
 {
     let mut i = from;
     while i < to {
-        let name = node_name(sheet, nodes, i);
+        let name = node_name(tree, i);
         if node_is_list_item_block(name) {
             return true;
         }
-        i = node_end(nodes, i);
+        i = tree.node_end(i);
     }
     false
 }
 
 // Whether node i is a list, a block but a table or a rule, a comment or a blank text.
-fn is_only_block(sheet: &[u8], nodes: &[u8], i: usize) -> bool
-    requires { NodeAt sheet.now nodes.now i }
-    ensures { (parent e : ℕ) (f : Forest) → Rep sheet.now nodes.now parent i e f → i < e → def.only_blocks f ≡ (result && def.only_blocks (rest_of f)) }
+fn is_only_block(tree: &Tree, i: usize) -> bool
+    requires { NodeAt tree.now.sheet.now tree.now.nodes.now i }
+    ensures { (parent e : ℕ) (f : Forest) → Rep tree.now.sheet.now tree.now.nodes.now parent i e f → i < e → def.only_blocks f ≡ (result && def.only_blocks (rest_of f)) }
 {
-    let place = node_place(nodes, i);
-    let tag = tag_at(sheet, place);
+    let place = tree.node_place(i);
+    let tag = tag_at(tree.sheet, place);
     if tag == 4 {
-        let part = text_at(sheet, place);
+        let part = text_at(tree.sheet, place);
         let start = part.start;
         let end = part.end;
-        return all_in::<White>(&sheet[start..end]);
+        return all_in::<White>(&tree.sheet[start..end]);
     }
     if tag != 1 {
         return true;
     }
-    let name = node_name(sheet, nodes, i);
+    let name = node_name(tree, i);
     is_list(name) | (node_is_list_item_block(name) & ((name != 14) & (name != 15)))
 }
 
-fn only_blocks(sheet: &[u8], nodes: &[u8], from: usize, to: usize) -> bool
-    requires { Siblings sheet.now nodes.now from to }
-    ensures { (parent : ℕ) (f : Forest) → Rep sheet.now nodes.now parent from to f → result ≡ def.only_blocks f }
+fn only_blocks(tree: &Tree, from: usize, to: usize) -> bool
+    requires { Siblings tree.now.sheet.now tree.now.nodes.now from to }
+    ensures { (parent : ℕ) (f : Forest) → Rep tree.now.sheet.now tree.now.nodes.now parent from to f → result ≡ def.only_blocks f }
 {
     let mut i = from;
     while i < to {
-        if !is_only_block(sheet, nodes, i) {
+        if !is_only_block(tree, i) {
             return false;
         }
-        i = node_end(nodes, i);
+        i = tree.node_end(i);
     }
     true
 }
 
 // Whether node i is an element that holds blocks and nothing else.
-pub fn node_is_block_wrapper(sheet: &[u8], nodes: &[u8], i: usize) -> bool
-    requires { SomeNode sheet.now nodes.now i }
-    ensures { (parent e : ℕ) (f : Forest) → Rep sheet.now nodes.now parent i e f → i < e → result ≡ def.node_is_block_wrapper (def.name_of f) (kids_of f) }
+pub fn node_is_block_wrapper(tree: &Tree, i: usize) -> bool
+    requires { SomeNode tree.now.sheet.now tree.now.nodes.now i }
+    ensures { (parent e : ℕ) (f : Forest) → Rep tree.now.sheet.now tree.now.nodes.now parent i e f → i < e → result ≡ def.node_is_block_wrapper (def.name_of f) (kids_of f) }
 {
-    let name = node_name(sheet, nodes, i);
+    let name = node_name(tree, i);
     if !((1 <= name) & (name <= 3)) {
         return false;
     }
-    let to = node_end(nodes, i);
-    if !has_blocks(sheet, nodes, i + 1, to) {
+    let to = tree.node_end(i);
+    if !has_blocks(tree, i + 1, to) {
         return false;
     }
-    only_blocks(sheet, nodes, i + 1, to)
+    only_blocks(tree, i + 1, to)
 }
 
 // Whether before the first list of the siblings some node holds more than White_Space.
-fn has_text_before_list(sheet: &[u8], nodes: &[u8], from: usize, to: usize) -> bool
-    requires { Siblings sheet.now nodes.now from to }
-    ensures { (parent : ℕ) (f : Forest) → Rep sheet.now nodes.now parent from to f → result ≡ def.has_text_before_list f }
+fn has_text_before_list(tree: &Tree, from: usize, to: usize) -> bool
+    requires { Siblings tree.now.sheet.now tree.now.nodes.now from to }
+    ensures { (parent : ℕ) (f : Forest) → Rep tree.now.sheet.now tree.now.nodes.now parent from to f → result ≡ def.has_text_before_list f }
 {
     let mut i = from;
     while i < to {
-        let name = node_name(sheet, nodes, i);
+        let name = node_name(tree, i);
         if is_list(name) {
             return false;
         }
-        let next = node_end(nodes, i);
-        if !is_white_space(sheet, nodes, i, next) {
+        let next = tree.node_end(i);
+        if !is_white_space(tree, i, next) {
             return true;
         }
         i = next;
@@ -163,53 +163,53 @@ fn has_text_before_list(sheet: &[u8], nodes: &[u8], from: usize, to: usize) -> b
 }
 
 // The number of the first element among the siblings, or `to`.
-fn first_element(sheet: &[u8], nodes: &[u8], from: usize, to: usize) -> usize
-    requires { Siblings sheet.now nodes.now from to }
-    ensures elements { (parent : ℕ) (f : Forest) → Rep sheet.now nodes.now parent from to f → Rep sheet.now nodes.now parent result to (first_element f) }
-    ensures tagged { result < to → get_or sheet.now (place_at nodes.now result) 0 ≡ 1 }
+fn first_element(tree: &Tree, from: usize, to: usize) -> usize
+    requires { Siblings tree.now.sheet.now tree.now.nodes.now from to }
+    ensures elements { (parent : ℕ) (f : Forest) → Rep tree.now.sheet.now tree.now.nodes.now parent from to f → Rep tree.now.sheet.now tree.now.nodes.now parent result to (first_element f) }
+    ensures tagged { result < to → get_or tree.now.sheet.now (place_at tree.now.nodes.now result) 0 ≡ 1 }
 {
     let mut i = from;
     while i < to {
-        let place = node_place(nodes, i);
-        if tag_at(sheet, place) == 1 {
+        let place = tree.node_place(i);
+        if tag_at(tree.sheet, place) == 1 {
             return i;
         }
-        i = node_end(nodes, i);
+        i = tree.node_end(i);
     }
     to
 }
 
 // Whether the item at node `li`, the first of the list at node i, begins with 1.
-fn begins_with_one(sheet: &[u8], nodes: &[u8], i: usize, li: usize) -> bool
-    requires { NodeAt sheet.now nodes.now i × NodeAt sheet.now nodes.now li }
-    ensures { result ≡ eqb (def.number_or (def.number_of (attr (ascii "value") (attrs_behind sheet.now (place_at nodes.now li)))) (def.start_of (attrs_behind sheet.now (place_at nodes.now i)))) 1 }
+fn begins_with_one(tree: &Tree, i: usize, li: usize) -> bool
+    requires { NodeAt tree.now.sheet.now tree.now.nodes.now i × NodeAt tree.now.sheet.now tree.now.nodes.now li }
+    ensures { result ≡ eqb (def.number_or (def.number_of (attr (ascii "value") (attrs_behind tree.now.sheet.now (place_at tree.now.nodes.now li)))) (def.start_of (attrs_behind tree.now.sheet.now (place_at tree.now.nodes.now i)))) 1 }
 {
-    let item = node_place(nodes, li);
-    let list = node_place(nodes, i);
-    let value = number_of(sheet, item, b"value");
-    let start = start_of(sheet, list);
+    let item = tree.node_place(li);
+    let list = tree.node_place(i);
+    let value = number_of(tree.sheet, item, b"value");
+    let start = start_of(tree.sheet, list);
     number_or(value, start) == 1
 }
 
 // Whether the list at node i can interrupt a paragraph.
-pub fn can_interrupt_paragraph(sheet: &[u8], nodes: &[u8], i: usize) -> bool
-    requires { SomeElement sheet.now nodes.now i }
-    ensures { (name : Bytes) (attrs : List Attr) (kids : Forest) → ElementAt sheet.now nodes.now i name attrs kids → result ≡ def.can_interrupt_paragraph (tag_of name) attrs kids }
+pub fn can_interrupt_paragraph(tree: &Tree, i: usize) -> bool
+    requires { SomeElement tree.now.sheet.now tree.now.nodes.now i }
+    ensures { (name : Bytes) (attrs : List Attr) (kids : Forest) → ElementAt tree.now.sheet.now tree.now.nodes.now i name attrs kids → result ≡ def.can_interrupt_paragraph (tag_of name) attrs kids }
 {
-    let to = node_end(nodes, i);
-    let li = first_element(sheet, nodes, i + 1, to);
+    let to = tree.node_end(i);
+    let li = first_element(tree, i + 1, to);
     if to <= li {
         return false;
     }
-    if node_name(sheet, nodes, li) != 16 {
+    if node_name(tree, li) != 16 {
         return false;
     }
-    let end = node_end(nodes, li);
-    if !has_text_before_list(sheet, nodes, li + 1, end) {
+    let end = tree.node_end(li);
+    if !has_text_before_list(tree, li + 1, end) {
         return false;
     }
-    if node_name(sheet, nodes, i) != 12 {
+    if node_name(tree, i) != 12 {
         return true;
     }
-    begins_with_one(sheet, nodes, i, li)
+    begins_with_one(tree, i, li)
 }

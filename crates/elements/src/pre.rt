@@ -19,7 +19,7 @@ use spec::ctx::FormatOpts;
 use text::buffer::{Full, Wrote};
 use text::by_len::{push_byte, push_byte_if};
 use text::class::{ByteClass, White};
-use tree::nodes::{node_end, node_place, text_at};
+use tree::nodes::{Tree, text_at};
 
 // How long a text is behind the words of a piece, whether a word stands there, and whether a white byte came last.
 #[derive(Clone, Copy)]
@@ -63,15 +63,14 @@ fn join_words(text: &mut [u8], from: Joined, s: &[u8]) -> Result<Joined, Full>
 
 // Appends the words of the texts of the nodes from number `from` up to `to`: no more than they is held.
 fn push_words(
-    sheet: &[u8],
-    nodes: &[u8],
+    tree: &Tree,
     text: &mut [u8],
     len: usize,
     from: usize,
     to: usize,
 ) -> Wrote
-    requires { Siblings sheet.now nodes.now from to × (len ≤ length text.old) }
-    ensures { (parent : ℕ) (f : Forest) → Rep sheet.now nodes.now parent from to f → Writes (length text.old) text.new result (push (join (ascii " ") (words (text_of f))) (take len text.old)) }
+    requires { Siblings tree.now.sheet.now tree.now.nodes.now from to × (len ≤ length text.old) }
+    ensures { (parent : ℕ) (f : Forest) → Rep tree.now.sheet.now tree.now.nodes.now parent from to f → Writes (length text.old) text.new result (push (join (ascii " ") (words (text_of f))) (take len text.old)) }
 {
     let mut state = Joined {
         len: len,
@@ -79,81 +78,78 @@ fn push_words(
         gap: false,
     };
     for i in from..to {
-        let place = node_place(nodes, i);
-        let part = text_at(sheet, place);
-        state = join_words(text, state, &sheet[part.start..part.end])?;
+        let place = tree.node_place(i);
+        let part = text_at(tree.sheet, place);
+        state = join_words(text, state, &tree.sheet[part.start..part.end])?;
     }
     Ok(state.len)
 }
 
 // The words as a code span.
 fn push_word_span(
-    sheet: &[u8],
-    nodes: &[u8],
+    tree: &Tree,
     text: &mut [u8],
     len: usize,
     from: usize,
     to: usize,
 ) -> Wrote
-    requires { Siblings sheet.now nodes.now from to × (len ≤ length text.old) }
-    ensures { (parent : ℕ) (f : Forest) → Rep sheet.now nodes.now parent from to f → Writes (length text.old) text.new result (def.push_code_text 0 (join (ascii " ") (words (text_of f))) (take len text.old)) }
+    requires { Siblings tree.now.sheet.now tree.now.nodes.now from to × (len ≤ length text.old) }
+    ensures { (parent : ℕ) (f : Forest) → Rep tree.now.sheet.now tree.now.nodes.now parent from to f → Writes (length text.old) text.new result (def.push_code_text 0 (join (ascii " ") (words (text_of f))) (take len text.old)) }
 {
-    let m = push_words(sheet, nodes, text, len, from, to)?;
+    let m = push_words(tree, text, len, from, to)?;
     push_code_text(text, len, len, m - len, 0)
 }
 
 // In a link's text.
 fn pre_in_link(
-    sheet: &[u8],
-    nodes: &[u8],
+    tree: &Tree,
     text: &mut [u8],
     len: usize,
     from: usize,
     to: usize,
 ) -> Wrote
-    requires { Siblings sheet.now nodes.now from to × (len ≤ length text.old) }
-    ensures { (parent : ℕ) (f : Forest) → Rep sheet.now nodes.now parent from to f → Writes (length text.old) text.new result (def.pre_in_link (text_of f) (take len text.old)) }
+    requires { Siblings tree.now.sheet.now tree.now.nodes.now from to × (len ≤ length text.old) }
+    ensures { (parent : ℕ) (f : Forest) → Rep tree.now.sheet.now tree.now.nodes.now parent from to f → Writes (length text.old) text.new result (def.pre_in_link (text_of f) (take len text.old)) }
 {
     let n = push_block_space(text, len)?;
-    let m = push_word_span(sheet, nodes, text, n, from, to)?;
+    let m = push_word_span(tree, text, n, from, to)?;
     push_block_space(text, m)
 }
 
 // The block of the n bytes behind the text.
-fn push_pre(sheet: &[u8], nodes: &[u8], text: &mut [u8], len: usize, n: usize, i: usize) -> Wrote
-    requires { Placed sheet.now nodes.now i × (len + n ≤ length text.old) }
-    ensures { (name : Bytes) (attrs : List Attr) (kids : Forest) (anc : Ancestors) → ElementAt sheet.now nodes.now i name attrs kids → Around sheet.now nodes.now (parent_at nodes.now i) anc → Writes (length text.old) text.new result (push (cond (ends_with (ascii "\n\n") (take len text.old)) [] (ascii "\n") ++ def.fenced_block (or_nothing (def.find_code_language anc attrs kids)) (take n (drop len text.old))) (take len text.old)) }
+fn push_pre(tree: &Tree, text: &mut [u8], len: usize, n: usize, i: usize) -> Wrote
+    requires { Placed tree.now.sheet.now tree.now.nodes.now i × (len + n ≤ length text.old) }
+    ensures { (name : Bytes) (attrs : List Attr) (kids : Forest) (anc : Ancestors) → ElementAt tree.now.sheet.now tree.now.nodes.now i name attrs kids → Around tree.now.sheet.now tree.now.nodes.now (parent_at tree.now.nodes.now i) anc → Writes (length text.old) text.new result (push (cond (ends_with (ascii "\n\n") (take len text.old)) [] (ascii "\n") ++ def.fenced_block (or_nothing (def.find_code_language anc attrs kids)) (take n (drop len text.old))) (take len text.old)) }
 {
-    match find_code_language(sheet, nodes, i) {
+    match find_code_language(tree, i) {
         Some(language) => push_fenced_block(text, len, len, n, language),
         None => push_fenced_block(text, len, len, n, b""),
     }
 }
 
 // A fenced block, which is longer than its content.
-fn pre_block(sheet: &[u8], nodes: &[u8], text: &mut [u8], len: usize, i: usize) -> Wrote
-    requires { Placed sheet.now nodes.now i × (len ≤ length text.old) }
-    ensures { (name : Bytes) (attrs : List Attr) (kids : Forest) (anc : Ancestors) → ElementAt sheet.now nodes.now i name attrs kids → Around sheet.now nodes.now (parent_at nodes.now i) anc → Writes (length text.old) text.new result (push (cond (ends_with (ascii "\n\n") (take len text.old)) [] (ascii "\n") ++ def.fenced_block (or_nothing (def.find_code_language anc attrs kids)) (text_of kids)) (take len text.old)) }
+fn pre_block(tree: &Tree, text: &mut [u8], len: usize, i: usize) -> Wrote
+    requires { Placed tree.now.sheet.now tree.now.nodes.now i × (len ≤ length text.old) }
+    ensures { (name : Bytes) (attrs : List Attr) (kids : Forest) (anc : Ancestors) → ElementAt tree.now.sheet.now tree.now.nodes.now i name attrs kids → Around tree.now.sheet.now tree.now.nodes.now (parent_at tree.now.nodes.now i) anc → Writes (length text.old) text.new result (push (cond (ends_with (ascii "\n\n") (take len text.old)) [] (ascii "\n") ++ def.fenced_block (or_nothing (def.find_code_language anc attrs kids)) (text_of kids)) (take len text.old)) }
 {
-    let to = node_end(nodes, i);
-    let m = push_text_of(sheet, nodes, text, len, i + 1, to)?;
-    push_pre(sheet, nodes, text, len, m - len, i)
+    let to = tree.node_end(i);
+    let m = push_text_of(tree, text, len, i + 1, to)?;
+    push_pre(tree, text, len, m - len, i)
 }
 
 pub fn write_pre(
-    sheet: &[u8],
-    nodes: &[u8],
+    tree: &Tree,
     text: &mut [u8],
     len: usize,
     i: usize,
     opts: FormatOpts,
 ) -> Wrote
-    requires { Placed sheet.now nodes.now i × (len ≤ length text.old) }
-    ensures { (name : Bytes) (attrs : List Attr) (kids : Forest) (anc : Ancestors) → ElementAt sheet.now nodes.now i name attrs kids → Around sheet.now nodes.now (parent_at nodes.now i) anc → Writes (length text.old) text.new result (def.write_pre anc opts attrs kids (take len text.old)) }
+    requires { Placed tree.now.sheet.now tree.now.nodes.now i × (len ≤ length text.old) }
+    ensures { (name : Bytes) (attrs : List Attr) (kids : Forest) (anc : Ancestors) → ElementAt tree.now.sheet.now tree.now.nodes.now i name attrs kids → Around tree.now.sheet.now tree.now.nodes.now (parent_at tree.now.nodes.now i) anc → Writes (length text.old) text.new result (def.write_pre anc opts attrs kids (take len text.old)) }
 {
     if opts.link_body {
-        let to = node_end(nodes, i);
-        return pre_in_link(sheet, nodes, text, len, i + 1, to);
+        let to = tree.node_end(i);
+        return pre_in_link(tree, text, len, i + 1, to);
     }
-    pre_block(sheet, nodes, text, len, i)
+    pre_block(tree, text, len, i)
 }

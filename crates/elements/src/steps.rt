@@ -29,6 +29,7 @@ use normalized::text_utils::{ends_with_double_linebreak, trim_trailing_space};
 use spec::ctx::{EmphasisScope, FormatOpts};
 use text::buffer::{Wrote, reread};
 use text::by_len::push_all;
+use tree::nodes::Tree;
 
 fn is_link_block(name: usize) -> bool
     ensures { result ≡ blocks.is_link_block name }
@@ -49,14 +50,14 @@ pub fn has_writer(name: usize, opts: FormatOpts) -> bool
 }
 
 // Whether node i is a list that one line break parts from the item text before it.
-fn is_tight(sheet: &[u8], nodes: &[u8], i: usize, name: usize, opts: FormatOpts) -> bool
-    requires { SomeElement sheet.now nodes.now i × (name ≡ name_at sheet.now (place_at nodes.now i)) }
-    ensures { (name : Bytes) (attrs : List Attr) (kids : Forest) → ElementAt sheet.now nodes.now i name attrs kids → result ≡ def.is_tight opts (tag_of name) attrs kids }
+fn is_tight(tree: &Tree, i: usize, name: usize, opts: FormatOpts) -> bool
+    requires { SomeElement tree.now.sheet.now tree.now.nodes.now i × (name ≡ name_at tree.now.sheet.now (place_at tree.now.nodes.now i)) }
+    ensures { (name : Bytes) (attrs : List Attr) (kids : Forest) → ElementAt tree.now.sheet.now tree.now.nodes.now i name attrs kids → result ≡ def.is_tight opts (tag_of name) attrs kids }
 {
     if !(opts.list_item & is_list(name)) {
         return false;
     }
-    can_interrupt_paragraph(sheet, nodes, i)
+    can_interrupt_paragraph(tree, i)
 }
 
 // Line breaks until the text ends with one, or with two.
@@ -72,16 +73,15 @@ fn add_breaks(text: &mut [u8], len: usize, tight: bool) -> Wrote
 
 // The break before a block.
 fn open_break(
-    sheet: &[u8],
-    nodes: &[u8],
+    tree: &Tree,
     text: &mut [u8],
     len: usize,
     i: usize,
     name: usize,
     opts: FormatOpts,
 ) -> Wrote
-    requires { SomeElement sheet.now nodes.now i × (len ≤ length text.old) × (name ≡ name_at sheet.now (place_at nodes.now i)) }
-    ensures { (name : Bytes) (attrs : List Attr) (kids : Forest) → ElementAt sheet.now nodes.now i name attrs kids → Writes (length text.old) text.new result (def.open_break opts (tag_of name) attrs kids (take len text.old)) }
+    requires { SomeElement tree.now.sheet.now tree.now.nodes.now i × (len ≤ length text.old) × (name ≡ name_at tree.now.sheet.now (place_at tree.now.nodes.now i)) }
+    ensures { (name : Bytes) (attrs : List Attr) (kids : Forest) → ElementAt tree.now.sheet.now tree.now.nodes.now i name attrs kids → Writes (length text.old) text.new result (def.open_break opts (tag_of name) attrs kids (take len text.old)) }
 {
     if opts.link_body {
         if is_link_block(name) {
@@ -95,7 +95,7 @@ fn open_break(
     if opts.table_cell {
         return add_cell_block_break(text, len, b"<br>");
     }
-    let tight = is_tight(sheet, nodes, i, name, opts);
+    let tight = is_tight(tree, i, name, opts);
     add_breaks(text, len, tight)
 }
 
@@ -116,21 +116,20 @@ fn push_opening(text: &mut [u8], len: usize, name: usize, opts: FormatOpts) -> W
 
 // SerializeOp::Open of an element, before its writer or its children.
 pub fn opened(
-    sheet: &[u8],
-    nodes: &[u8],
+    tree: &Tree,
     text: &mut [u8],
     len: usize,
     i: usize,
     opts: FormatOpts,
 ) -> Wrote
-    requires { SomeElement sheet.now nodes.now i × (len ≤ length text.old) }
-    ensures { (name : Bytes) (attrs : List Attr) (kids : Forest) → ElementAt sheet.now nodes.now i name attrs kids → Writes (length text.old) text.new result (def.opened opts (tag_of name) attrs kids (take len text.old)) }
+    requires { SomeElement tree.now.sheet.now tree.now.nodes.now i × (len ≤ length text.old) }
+    ensures { (name : Bytes) (attrs : List Attr) (kids : Forest) → ElementAt tree.now.sheet.now tree.now.nodes.now i name attrs kids → Writes (length text.old) text.new result (def.opened opts (tag_of name) attrs kids (take len text.old)) }
 {
     if opts.skip_md {
         return Ok(len);
     }
-    let name = node_name(sheet, nodes, i);
-    let n = open_break(sheet, nodes, text, len, i, name, opts)?;
+    let name = node_name(tree, i);
+    let n = open_break(tree, text, len, i, name, opts)?;
     push_opening(text, n, name, opts)
 }
 

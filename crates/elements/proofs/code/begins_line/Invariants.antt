@@ -5,7 +5,7 @@ use Rattle.elements.proofs.Edges.{begins}
 use Rattle.elements.proofs.code.begins_line.Given as goal
 
 abbrev pub invariant-loop-i : goal.invariant-loop-i
-invariant-loop-i l = (l.from ≤ l.i) × (begins (pieces l.sheet l.nodes l.to l.from) ≡ begins (pieces l.sheet l.nodes l.to l.i))
+invariant-loop-i l = (l.from ≤ l.i) × (begins (pieces l.tree.sheet.now l.tree.nodes.now l.to l.from) ≡ begins (pieces l.tree.sheet.now l.tree.nodes.now l.to l.i))
 
 abbrev pub decreases-loop-i : goal.decreases-loop-i
 decreases-loop-i l = l.to - l.i

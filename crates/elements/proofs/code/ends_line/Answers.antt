@@ -10,7 +10,7 @@ use Rattle.elements.proofs.code.ends_line.Goals as goal
 pub loop-i-init : goal.loop-i-init
 loop-i-init c =
     let a = c.args in
-    carried_all ended_by a.sheet.now a.nodes.now a.from a.to false
+    carried_all ended_by a.tree.now.sheet.now a.tree.now.nodes.now a.from a.to false
 
 pub node_place-place-requires : goal.node_place-place-requires
 node_place-place-requires c =

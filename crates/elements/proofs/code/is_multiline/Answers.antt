@@ -10,21 +10,21 @@ loop-i-init c =
 
 pub node_place-place-requires : goal.node_place-place-requires
 node_place-place-requires c =
-    (node_in c.args.sheet.now c.args.nodes.now c.loop-i.i c.args.from c.args.to c.requires c.loop-i.invariant.0 c.loop-i-test.true).inside
+    (node_in c.args.tree.now.sheet.now c.args.tree.now.nodes.now c.loop-i.i c.args.from c.args.to c.requires c.loop-i.invariant.0 c.loop-i-test.true).inside
 
 pub text_at-part-requires : goal.text_at-part-requires
 text_at-part-requires c =
-    omega (arith, (node_in c.args.sheet.now c.args.nodes.now c.loop-i.i c.args.from c.args.to c.requires c.loop-i.invariant.0 c.loop-i-test.true).placed, c.node_place-place.ensures)
+    omega (arith, (node_in c.args.tree.now.sheet.now c.args.tree.now.nodes.now c.loop-i.i c.args.from c.args.to c.requires c.loop-i.invariant.0 c.loop-i-test.true).placed, c.node_place-place.ensures)
 
 pub returns-then-is_multiline_text : goal.returns-then-is_multiline_text
 returns-then-is_multiline_text c =
-    λ parent f h. sym (line_numbers c.args.sheet.now c.args.nodes.now parent c.args.from c.args.to f h ∙ (c.loop-i.invariant.1
-    ∙ line_here c.args.sheet.now c.args.nodes.now c.args.to c.loop-i.i c.loop-i-test.true c.node_place-place.ensures c.text_at-part.ensures.bytes_are (sym c.is_multiline_text.ensures ∙ c.if-is_multiline_text.true)))
+    λ parent f h. sym (line_numbers c.args.tree.now.sheet.now c.args.tree.now.nodes.now parent c.args.from c.args.to f h ∙ (c.loop-i.invariant.1
+    ∙ line_here c.args.tree.now.sheet.now c.args.tree.now.nodes.now c.args.to c.loop-i.i c.loop-i-test.true c.node_place-place.ensures c.text_at-part.ensures.bytes_are (sym c.is_multiline_text.ensures ∙ c.if-is_multiline_text.true)))
 
 pub loop-i-preserved : goal.loop-i-preserved
 loop-i-preserved c =
-    (omega arith, c.loop-i.invariant.1 ∙ line_on c.args.sheet.now c.args.nodes.now c.args.to c.loop-i.i c.loop-i-test.true c.node_place-place.ensures c.text_at-part.ensures.bytes_are (sym c.is_multiline_text.ensures ∙ c.if-is_multiline_text.false))
+    (omega arith, c.loop-i.invariant.1 ∙ line_on c.args.tree.now.sheet.now c.args.tree.now.nodes.now c.args.to c.loop-i.i c.loop-i-test.true c.node_place-place.ensures c.text_at-part.ensures.bytes_are (sym c.is_multiline_text.ensures ∙ c.if-is_multiline_text.false))
 
 pub returns : goal.returns
 returns c =
-    λ parent f h. sym (line_numbers c.args.sheet.now c.args.nodes.now parent c.args.from c.args.to f h ∙ (c.loop-i.invariant.1 ∙ line_none c.args.sheet.now c.args.nodes.now c.args.to c.loop-i.i c.loop-i-test.false))
+    λ parent f h. sym (line_numbers c.args.tree.now.sheet.now c.args.tree.now.nodes.now parent c.args.from c.args.to f h ∙ (c.loop-i.invariant.1 ∙ line_none c.args.tree.now.sheet.now c.args.tree.now.nodes.now c.args.to c.loop-i.i c.loop-i-test.false))

@@ -27,5 +27,5 @@ start_of-start-requires c =
 pub returns : goal.returns
 returns c =
     ap (λ (k : ℕ). eqb k 1) (c.number_or.ensures _ c.number_of-value.ensures
-    ∙ (ap (number_or (number_of (attr (ascii "value") (attrs_behind c.args.sheet.now c.node_place-item.result)))) c.start_of-start.ensures
-    ∙ ap₂ (λ (p q : ℕ). number_or (number_of (attr (ascii "value") (attrs_behind c.args.sheet.now p))) (start_of (attrs_behind c.args.sheet.now q))) c.node_place-item.ensures c.node_place-list.ensures))
+    ∙ (ap (number_or (number_of (attr (ascii "value") (attrs_behind c.args.tree.now.sheet.now c.node_place-item.result)))) c.start_of-start.ensures
+    ∙ ap₂ (λ (p q : ℕ). number_or (number_of (attr (ascii "value") (attrs_behind c.args.tree.now.sheet.now p))) (start_of (attrs_behind c.args.tree.now.sheet.now q))) c.node_place-item.ensures c.node_place-list.ensures))

@@ -21,7 +21,7 @@ node_end-to-requires c =
 
 pub overflow_add-i : goal.overflow_add-i
 overflow_add-i c =
-    omega (arith, rep_le c.args.sheet.now c.args.nodes.now _ _ _ _ (element_kids c.requires.3 c.node_end-to.ensures))
+    omega (arith, rep_le c.args.tree.now.sheet.now c.args.tree.now.nodes.now _ _ _ _ (element_kids c.requires.3 c.node_end-to.ensures))
 
 pub first_element-li-requires : goal.first_element-li-requires
 first_element-li-requires c =
@@ -29,19 +29,19 @@ first_element-li-requires c =
 
 pub node_name-requires : goal.node_name-requires
 node_name-requires c =
-    its_node c.args.sheet.now c.args.nodes.now c.args.i c.first_element-li.result c.node_end-to.result (first_element c.requires.2)
+    its_node c.args.tree.now.sheet.now c.args.tree.now.nodes.now c.args.i c.first_element-li.result c.node_end-to.result (first_element c.requires.2)
     (c.first_element-li.ensures.elements c.args.i c.requires.2 (element_kids c.requires.3 c.node_end-to.ensures)) (omega arith)
 
 pub node_end-end-requires : goal.node_end-end-requires
 node_end-end-requires c =
-    (its_node c.args.sheet.now c.args.nodes.now c.args.i c.first_element-li.result c.node_end-to.result (first_element c.requires.2)
+    (its_node c.args.tree.now.sheet.now c.args.tree.now.nodes.now c.args.i c.first_element-li.result c.node_end-to.result (first_element c.requires.2)
     (c.first_element-li.ensures.elements c.args.i c.requires.2 (element_kids c.requires.3 c.node_end-to.ensures)) (omega arith)).inside
 
 pub overflow_add-li : goal.overflow_add-li
 overflow_add-li c =
     omega (
       arith,
-      (first c.args.sheet.now c.args.nodes.now c.args.i c.first_element-li.result c.node_end-to.result (first_element c.requires.2)
+      (first c.args.tree.now.sheet.now c.args.tree.now.nodes.now c.args.i c.first_element-li.result c.node_end-to.result (first_element c.requires.2)
           (c.first_element-li.ensures.elements c.args.i c.requires.2 (element_kids c.requires.3 c.node_end-to.ensures)) (omega arith)).later,
       c.node_end-end.ensures,
     )
@@ -50,7 +50,7 @@ pub has_text_before_list-requires : goal.has_text_before_list-requires
 has_text_before_list-requires c = (
   c.first_element-li.result,
   kids_of (first_element c.requires.2),
-  its_kids c.args.sheet.now c.args.nodes.now c.args.i c.first_element-li.result c.node_end-to.result (first_element c.requires.2)
+  its_kids c.args.tree.now.sheet.now c.args.tree.now.nodes.now c.args.i c.first_element-li.result c.node_end-to.result (first_element c.requires.2)
       (c.first_element-li.ensures.elements c.args.i c.requires.2 (element_kids c.requires.3 c.node_end-to.ensures)) (omega arith) c.node_end-end.ensures,
 )
 
@@ -61,19 +61,19 @@ node_name-requires-2 c =
 pub begins_with_one-requires : goal.begins_with_one-requires
 begins_with_one-requires c = (
   element_node c.requires.3,
-  its_node c.args.sheet.now c.args.nodes.now c.args.i c.first_element-li.result c.node_end-to.result (first_element c.requires.2)
+  its_node c.args.tree.now.sheet.now c.args.tree.now.nodes.now c.args.i c.first_element-li.result c.node_end-to.result (first_element c.requires.2)
       (c.first_element-li.ensures.elements c.args.i c.requires.2 (element_kids c.requires.3 c.node_end-to.ensures)) (omega arith),
 )
 
 pub returns-then-to-li : goal.returns-then-to-li
 returns-then-to-li c =
-    λ name attrs kids x. sym (can_none c.args.sheet.now c.args.nodes.now (tag_of name) attrs c.args.i c.first_element-li.result c.node_end-to.result kids
+    λ name attrs kids x. sym (can_none c.args.tree.now.sheet.now c.args.tree.now.nodes.now (tag_of name) attrs c.args.i c.first_element-li.result c.node_end-to.result kids
     (c.first_element-li.ensures.elements c.args.i kids (element_kids x c.node_end-to.ensures)) c.if-to-li.true)
 
 pub returns-then-node_name-ne16 : goal.returns-then-node_name-ne16
 returns-then-node_name-ne16 c =
     let l : c.first_element-li.result < c.node_end-to.result = omega arith in
-    λ name attrs kids x. sym (can_other c.args.sheet.now c.args.nodes.now (tag_of name) attrs c.args.i c.first_element-li.result c.node_end-to.result kids
+    λ name attrs kids x. sym (can_other c.args.tree.now.sheet.now c.args.tree.now.nodes.now (tag_of name) attrs c.args.i c.first_element-li.result c.node_end-to.result kids
     (c.first_element-li.ensures.elements c.args.i kids (element_kids x c.node_end-to.ensures)) l (c.first_element-li.ensures.tagged l) (λ q. c.if-node_name-ne16.true (c.node_name.ensures ∙ q)))
 
 pub returns-then-not-has_text_before_list : goal.returns-then-not-has_text_before_list
@@ -81,16 +81,16 @@ returns-then-not-has_text_before_list c =
     let l : c.first_element-li.result < c.node_end-to.result = omega arith in
     λ name attrs kids x.
     let h = c.first_element-li.ensures.elements c.args.i kids (element_kids x c.node_end-to.ensures) in
-    sym (can_blank c.args.sheet.now c.args.nodes.now (tag_of name) attrs c.args.i c.first_element-li.result c.node_end-to.result kids h l (c.first_element-li.ensures.tagged l) (sym c.node_name.ensures ∙ c.if-node_name-ne16.false)
-    (sym (c.has_text_before_list.ensures c.first_element-li.result (kids_of (first_element kids)) (its_kids c.args.sheet.now c.args.nodes.now c.args.i c.first_element-li.result c.node_end-to.result (first_element kids) h l c.node_end-end.ensures)) ∙ c.if-not-has_text_before_list.true))
+    sym (can_blank c.args.tree.now.sheet.now c.args.tree.now.nodes.now (tag_of name) attrs c.args.i c.first_element-li.result c.node_end-to.result kids h l (c.first_element-li.ensures.tagged l) (sym c.node_name.ensures ∙ c.if-node_name-ne16.false)
+    (sym (c.has_text_before_list.ensures c.first_element-li.result (kids_of (first_element kids)) (its_kids c.args.tree.now.sheet.now c.args.tree.now.nodes.now c.args.i c.first_element-li.result c.node_end-to.result (first_element kids) h l c.node_end-end.ensures)) ∙ c.if-not-has_text_before_list.true))
 
 pub returns-then-node_name-ne12 : goal.returns-then-node_name-ne12
 returns-then-node_name-ne12 c =
     let l : c.first_element-li.result < c.node_end-to.result = omega arith in
     λ name attrs kids x.
     let h = c.first_element-li.ensures.elements c.args.i kids (element_kids x c.node_end-to.ensures) in
-    sym (can_bullet c.args.sheet.now c.args.nodes.now (tag_of name) attrs c.args.i c.first_element-li.result c.node_end-to.result kids h l (c.first_element-li.ensures.tagged l) (sym c.node_name.ensures ∙ c.if-node_name-ne16.false)
-    (sym (c.has_text_before_list.ensures c.first_element-li.result (kids_of (first_element kids)) (its_kids c.args.sheet.now c.args.nodes.now c.args.i c.first_element-li.result c.node_end-to.result (first_element kids) h l c.node_end-end.ensures)) ∙ c.if-not-has_text_before_list.false)
+    sym (can_bullet c.args.tree.now.sheet.now c.args.tree.now.nodes.now (tag_of name) attrs c.args.i c.first_element-li.result c.node_end-to.result kids h l (c.first_element-li.ensures.tagged l) (sym c.node_name.ensures ∙ c.if-node_name-ne16.false)
+    (sym (c.has_text_before_list.ensures c.first_element-li.result (kids_of (first_element kids)) (its_kids c.args.tree.now.sheet.now c.args.tree.now.nodes.now c.args.i c.first_element-li.result c.node_end-to.result (first_element kids) h l c.node_end-end.ensures)) ∙ c.if-not-has_text_before_list.false)
     (λ q. c.if-node_name-ne12.true (c.node_name-2.ensures ∙ (element_name x ∙ q))))
 
 pub returns : goal.returns
@@ -99,7 +99,7 @@ returns c =
     λ name attrs kids x.
     let h = c.first_element-li.ensures.elements c.args.i kids (element_kids x c.node_end-to.ensures) in
     c.begins_with_one.ensures
-    ∙ sym (can_number c.args.sheet.now c.args.nodes.now (tag_of name) attrs c.args.i c.first_element-li.result c.node_end-to.result kids h l (c.first_element-li.ensures.tagged l) (sym c.node_name.ensures ∙ c.if-node_name-ne16.false)
-    (sym (c.has_text_before_list.ensures c.first_element-li.result (kids_of (first_element kids)) (its_kids c.args.sheet.now c.args.nodes.now c.args.i c.first_element-li.result c.node_end-to.result (first_element kids) h l c.node_end-end.ensures)) ∙ c.if-not-has_text_before_list.false)
+    ∙ sym (can_number c.args.tree.now.sheet.now c.args.tree.now.nodes.now (tag_of name) attrs c.args.i c.first_element-li.result c.node_end-to.result kids h l (c.first_element-li.ensures.tagged l) (sym c.node_name.ensures ∙ c.if-node_name-ne16.false)
+    (sym (c.has_text_before_list.ensures c.first_element-li.result (kids_of (first_element kids)) (its_kids c.args.tree.now.sheet.now c.args.tree.now.nodes.now c.args.i c.first_element-li.result c.node_end-to.result (first_element kids) h l c.node_end-end.ensures)) ∙ c.if-not-has_text_before_list.false)
     (sym (c.node_name-2.ensures ∙ element_name x) ∙ c.if-node_name-ne12.false)
-    ∙ ap (λ (a : List Attr). eqb (number_or (number_of (attr (ascii "value") (attrs_behind c.args.sheet.now (place_at c.args.nodes.now c.first_element-li.result)))) (start_of a)) 1) x.attrs_are)
+    ∙ ap (λ (a : List Attr). eqb (number_or (number_of (attr (ascii "value") (attrs_behind c.args.tree.now.sheet.now (place_at c.args.tree.now.nodes.now c.first_element-li.result)))) (start_of a)) 1) x.attrs_are)

@@ -9,7 +9,7 @@ use Rattle.elements.proofs.list_nodes.only_blocks.Goals as goal
 
 pub loop-i-init : goal.loop-i-init
 loop-i-init c =
-    left_all only_blocks c.args.sheet.now c.args.nodes.now c.args.from c.args.to c.requires
+    left_all only_blocks c.args.tree.now.sheet.now c.args.tree.now.nodes.now c.args.from c.args.to c.requires
 
 pub is_only_block-requires : goal.is_only_block-requires
 is_only_block-requires c =
@@ -29,7 +29,7 @@ loop-i-smaller c =
 
 pub loop-i-preserved : goal.loop-i-preserved
 loop-i-preserved c =
-    subst (λ (j : ℕ). Left only_blocks c.args.sheet.now c.args.nodes.now c.args.from c.args.to j) (sym c.node_end-i.ensures)
+    subst (λ (j : ℕ). Left only_blocks c.args.tree.now.sheet.now c.args.tree.now.nodes.now c.args.from c.args.to j) (sym c.node_end-i.ensures)
     (left_on c.loop-i.invariant c.loop-i-test.true (λ parent g h. c.is_only_block.ensures parent c.args.to g h c.loop-i-test.true ∙ ap (λ (t : Bool). t && only_blocks (rest_of g)) (c.if-not-is_only_block.false)))
 
 pub returns : goal.returns

@@ -10,7 +10,7 @@ use Rattle.elements.proofs.pre.push_words.Goals as goal
 pub loop-i-init : goal.loop-i-init
 loop-i-init c =
     let a = c.args in
-    appends_all words_in a.sheet.now a.nodes.now a.from a.to (false, false) a.text.now a.len c.requires.1
+    appends_all words_in a.tree.now.sheet.now a.tree.now.nodes.now a.from a.to (false, false) a.text.now a.len c.requires.1
 
 pub node_place-place-requires : goal.node_place-place-requires
 node_place-place-requires c =

@@ -6,4 +6,4 @@ use Rattle.elements.proofs.pre.push_words.Given as goal
 
 abbrev pub invariant-loop-i : goal.invariant-loop-i
 invariant-loop-i l =
-    Appends words_in l.sheet l.nodes l.from l.to (false, false) (take l.len l.initial.text) (length l.initial.text) l.text l.state.len l.i (l.state.some, l.state.gap)
+    Appends words_in l.tree.sheet.now l.tree.nodes.now l.from l.to (false, false) (take l.len l.initial.text) (length l.initial.text) l.text l.state.len l.i (l.state.some, l.state.gap)

@@ -7,7 +7,7 @@ use Rattle.tables.proofs.TableCells.{CellsAt}
 use Rattle.tables.proofs.rows.all_th.Given as goal
 
 abbrev pub invariant-loop-c : goal.invariant-loop-c
-invariant-loop-c l = (row : List Cell) → RowAt l.sheet l.nodes l.i row → (left : List Cell) × CellsAt l.sheet l.nodes l.i l.c left × (all_th row ≡ all_th left)
+invariant-loop-c l = (row : List Cell) → RowAt l.tree.sheet.now l.tree.nodes.now l.i row → (left : List Cell) × CellsAt l.tree.sheet.now l.tree.nodes.now l.i l.c left × (all_th row ≡ all_th left)
 
 abbrev pub decreases-loop-c : goal.decreases-loop-c
 decreases-loop-c l = l.to - l.c

@@ -29,4 +29,4 @@ pub returns : goal.returns
 unfolding equal_rows
 returns c = λ rows x.
     let q = c.loop-r.invariant rows x in
-    sym (q.2 ∙ ap (equal_rows c.loop-r.common) (no_rows c.args.sheet.now c.args.nodes.now c.loop-r.r c.args.to q.0 q.1 c.loop-r-test.false))
+    sym (q.2 ∙ ap (equal_rows c.loop-r.common) (no_rows c.args.tree.now.sheet.now c.args.tree.now.nodes.now c.loop-r.r c.args.to q.0 q.1 c.loop-r-test.false))

@@ -6,7 +6,7 @@ use Rattle.tables.specs.Rows.{Rows, RowsAt}
 use Rattle.tables.proofs.rows.equal_rows.Given as goal
 
 abbrev pub invariant-loop-r : goal.invariant-loop-r
-invariant-loop-r l = (rows : List (List Cell)) → Rows l.sheet l.nodes l.from l.to rows → (left : List (List Cell)) × RowsAt l.sheet l.nodes l.r l.to left × (equal_rows 0 rows ≡ equal_rows l.common left)
+invariant-loop-r l = (rows : List (List Cell)) → Rows l.tree.sheet.now l.tree.nodes.now l.from l.to rows → (left : List (List Cell)) × RowsAt l.tree.sheet.now l.tree.nodes.now l.r l.to left × (equal_rows 0 rows ≡ equal_rows l.common left)
 
 abbrev pub decreases-loop-r : goal.decreases-loop-r
 decreases-loop-r l = l.to - l.r

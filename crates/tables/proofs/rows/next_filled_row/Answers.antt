@@ -21,7 +21,7 @@ returns-then-count_cells-ne0 c = record {
   later = c.loop-r.invariant.0;
   rows = λ rows x.
       let q = c.loop-r.invariant.1 rows x in
-      subst (RowsAt c.args.sheet.now c.args.nodes.now c.loop-r.r c.args.to) (sym q.2)
+      subst (RowsAt c.args.tree.now.sheet.now c.args.tree.now.nodes.now c.loop-r.r c.args.to) (sym q.2)
       (filled_here c.count_cells.result c.count_cells.ensures q.0 q.1 c.loop-r-test.true c.if-count_cells-ne0.true);
 }
 
@@ -48,8 +48,8 @@ loop-r-preserved c = (
 
 pub returns : goal.returns
 returns c = record {
-  later = rows_le c.args.sheet.now c.args.nodes.now c.args.i c.args.to c.requires.0 c.requires.1;
+  later = rows_le c.args.tree.now.sheet.now c.args.tree.now.nodes.now c.args.i c.args.to c.requires.0 c.requires.1;
   rows = λ rows x.
       let q = c.loop-r.invariant.1 rows x in
-      filled_none c.args.sheet.now c.args.nodes.now c.loop-r.r c.args.to q.0 q.1 c.loop-r-test.false rows q.2;
+      filled_none c.args.tree.now.sheet.now c.args.tree.now.nodes.now c.loop-r.r c.args.to q.0 q.1 c.loop-r-test.false rows q.2;
 }

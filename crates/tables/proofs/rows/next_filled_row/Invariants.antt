@@ -6,7 +6,7 @@ use Rattle.tables.specs.Rows.{Rows, RowsAt}
 use Rattle.tables.proofs.rows.next_filled_row.Given as goal
 
 abbrev pub invariant-loop-r : goal.invariant-loop-r
-invariant-loop-r l = (l.i ≤ l.r) × ((rows : List (List Cell)) → Rows l.sheet l.nodes l.i l.to rows → (left : List (List Cell)) × RowsAt l.sheet l.nodes l.r l.to left × (from_cells rows ≡ from_cells left))
+invariant-loop-r l = (l.i ≤ l.r) × ((rows : List (List Cell)) → Rows l.tree.sheet.now l.tree.nodes.now l.i l.to rows → (left : List (List Cell)) × RowsAt l.tree.sheet.now l.tree.nodes.now l.r l.to left × (from_cells rows ≡ from_cells left))
 
 abbrev pub decreases-loop-r : goal.decreases-loop-r
 decreases-loop-r l = l.to - l.r

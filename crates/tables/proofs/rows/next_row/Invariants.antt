@@ -5,4 +5,4 @@ use Rattle.tables.specs.Rows.{Rows}
 use Rattle.tables.proofs.rows.next_row.Given as goal
 
 abbrev pub invariant-loop-r : goal.invariant-loop-r
-invariant-loop-r l = (l.i ≤ l.r) × ((rows : List (List Cell)) → Rows l.sheet l.nodes l.i l.to rows → Rows l.sheet l.nodes l.r l.to rows)
+invariant-loop-r l = (l.i ≤ l.r) × ((rows : List (List Cell)) → Rows l.tree.sheet.now l.tree.nodes.now l.i l.to rows → Rows l.tree.sheet.now l.tree.nodes.now l.r l.to rows)

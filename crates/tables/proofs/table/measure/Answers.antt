@@ -12,7 +12,7 @@ use Rattle.tables.proofs.table.measure.Goals as goal
 
 pub overflow_add-row : goal.overflow_add-row
 overflow_add-row c =
-    omega (arith, rep_le c.args.sheet.now c.args.nodes.now c.args.row (c.args.row + 1) c.args.to c.requires.0.0 c.requires.0.1)
+    omega (arith, rep_le c.args.tree.now.sheet.now c.args.tree.now.nodes.now c.args.row (c.args.row + 1) c.args.to c.requires.0.0 c.requires.0.1)
 
 pub overflow_mul-c : goal.overflow_mul-c
 overflow_mul-c c =
@@ -28,18 +28,18 @@ read-n-requires c =
 
 pub overflow_add-cells : goal.overflow_add-cells
 overflow_add-cells c =
-    let e = from_turn c.loop-c.invariant.0 c.loop-c-test.true refl (end_at c.args.nodes.now c.loop-c.c) (c.read-n.ensures.0 ∙ long_is _ _) refl in
-    omega (arith, length_first e, c.loop-c.invariant.1, few_cells c.args.sheet.now c.args.nodes.now c.args.row (c.args.row + 1) c.args.to)
+    let e = from_turn c.loop-c.invariant.0 c.loop-c-test.true refl (end_at c.args.tree.now.nodes.now c.loop-c.c) (c.read-n.ensures.0 ∙ long_is _ _) refl in
+    omega (arith, length_first e, c.loop-c.invariant.1, few_cells c.args.tree.now.sheet.now c.args.tree.now.nodes.now c.args.row (c.args.row + 1) c.args.to)
 
 pub overflow_add-bytes : goal.overflow_add-bytes
 overflow_add-bytes c =
-    let e = from_turn c.loop-c.invariant.0 c.loop-c-test.true refl (end_at c.args.nodes.now c.loop-c.c) (c.read-n.ensures.0 ∙ long_is _ _) refl in
+    let e = from_turn c.loop-c.invariant.0 c.loop-c-test.true refl (end_at c.args.tree.now.nodes.now c.loop-c.c) (c.read-n.ensures.0 ∙ long_is _ _) refl in
     omega (arith, sum_first e, c.loop-c.invariant.2, c.requires.1)
 
 pub overflow_add-empty : goal.overflow_add-empty
 overflow_add-empty c =
-    let e = from_turn c.loop-c.invariant.0 c.loop-c-test.true refl (end_at c.args.nodes.now c.loop-c.c) (c.read-n.ensures.0 ∙ long_is _ _) refl in
-    omega (arith, zeros_first e, c.loop-c.invariant.3, c.at_least_one.ensures, zeros_few (cell_lengths c.args.sheet.now c.args.nodes.now c.args.row (c.args.row + 1) c.args.to), few_cells c.args.sheet.now c.args.nodes.now c.args.row (c.args.row + 1) c.args.to)
+    let e = from_turn c.loop-c.invariant.0 c.loop-c-test.true refl (end_at c.args.tree.now.nodes.now c.loop-c.c) (c.read-n.ensures.0 ∙ long_is _ _) refl in
+    omega (arith, zeros_first e, c.loop-c.invariant.3, c.at_least_one.ensures, zeros_few (cell_lengths c.args.tree.now.sheet.now c.args.tree.now.nodes.now c.args.row (c.args.row + 1) c.args.to), few_cells c.args.tree.now.sheet.now c.args.tree.now.nodes.now c.args.row (c.args.row + 1) c.args.to)
 
 pub node_end-requires : goal.node_end-requires
 node_end-requires c =

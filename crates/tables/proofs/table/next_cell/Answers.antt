@@ -8,7 +8,7 @@ use Rattle.tables.proofs.table.next_cell.Goals as goal
 pub loop-c-init : goal.loop-c-init
 loop-c-init c =
     let a = c.args in
-    (omega arith, looking_all a.sheet.now a.nodes.now a.from a.to c.requires)
+    (omega arith, looking_all a.tree.now.sheet.now a.tree.now.nodes.now a.from a.to c.requires)
 
 pub node_name-requires : goal.node_name-requires
 node_name-requires c =
@@ -33,7 +33,7 @@ pub loop-c-preserved : goal.loop-c-preserved
 loop-c-preserved c =
     let a = c.args in (
       omega (arith, (looking_first c.loop-c.invariant.1 c.loop-c-test.true).later, c.node_end-c.ensures, c.loop-c.invariant.0),
-      subst (λ (j : ℕ). Looking a.sheet.now a.nodes.now a.from a.to j) (sym c.node_end-c.ensures)
+      subst (λ (j : ℕ). Looking a.tree.now.sheet.now a.tree.now.nodes.now a.from a.to j) (sym c.node_end-c.ensures)
           (looking_on c.loop-c.invariant.1 c.loop-c-test.true (sym (c.is_table_cell.ensures ∙ ap is_table_cell c.node_name.ensures) ∙ c.if-is_table_cell.false)),
     )
 

@@ -16,36 +16,36 @@ use Rattle.tables.proofs.table.push_sized.Goals as goal
 pub overflow_mul-more-2 : goal.overflow_mul-more-2
 overflow_mul-more-2 c =
     let a = c.args in
-    let rows = table_lengths a.sheet.now a.nodes.now a.from a.to in
+    let rows = table_lengths a.tree.now.sheet.now a.tree.now.nodes.now a.from a.to in
     omega
-    (arith, c.lines_marks-extra.ensures, c.saturating_sub-blanks.ensures, c.first_width-wide.ensures, marks_few rows, width_few rows, zeros_few (cell_lengths a.sheet.now a.nodes.now a.row (a.row + 1) a.end), c.requires.2, c.requires.4, c.requires.7)
+    (arith, c.lines_marks-extra.ensures, c.saturating_sub-blanks.ensures, c.first_width-wide.ensures, marks_few rows, width_few rows, zeros_few (cell_lengths a.tree.now.sheet.now a.tree.now.nodes.now a.row (a.row + 1) a.end), c.requires.2, c.requires.4, c.requires.7)
 
 pub overflow_add-more-2 : goal.overflow_add-more-2
 overflow_add-more-2 c =
     let a = c.args in
-    let rows = table_lengths a.sheet.now a.nodes.now a.from a.to in
+    let rows = table_lengths a.tree.now.sheet.now a.tree.now.nodes.now a.from a.to in
     omega
-    (arith, c.lines_marks-extra.ensures, c.saturating_sub-blanks.ensures, c.first_width-wide.ensures, marks_few rows, width_few rows, zeros_few (cell_lengths a.sheet.now a.nodes.now a.row (a.row + 1) a.end), c.requires.2, c.requires.4, c.requires.7)
+    (arith, c.lines_marks-extra.ensures, c.saturating_sub-blanks.ensures, c.first_width-wide.ensures, marks_few rows, width_few rows, zeros_few (cell_lengths a.tree.now.sheet.now a.tree.now.nodes.now a.row (a.row + 1) a.end), c.requires.2, c.requires.4, c.requires.7)
 
 pub overflow_add-more-3 : goal.overflow_add-more-3
 overflow_add-more-3 c =
     let a = c.args in
-    let rows = table_lengths a.sheet.now a.nodes.now a.from a.to in
+    let rows = table_lengths a.tree.now.sheet.now a.tree.now.nodes.now a.from a.to in
     omega
-    (arith, c.lines_marks-extra.ensures, c.saturating_sub-blanks.ensures, c.first_width-wide.ensures, marks_few rows, width_few rows, zeros_few (cell_lengths a.sheet.now a.nodes.now a.row (a.row + 1) a.end), c.requires.2, c.requires.4, c.requires.7)
+    (arith, c.lines_marks-extra.ensures, c.saturating_sub-blanks.ensures, c.first_width-wide.ensures, marks_few rows, width_few rows, zeros_few (cell_lengths a.tree.now.sheet.now a.tree.now.nodes.now a.row (a.row + 1) a.end), c.requires.2, c.requires.4, c.requires.7)
 
 pub overflow_add-more-4 : goal.overflow_add-more-4
 overflow_add-more-4 c =
     let a = c.args in
-    let rows = table_lengths a.sheet.now a.nodes.now a.from a.to in
+    let rows = table_lengths a.tree.now.sheet.now a.tree.now.nodes.now a.from a.to in
     omega
-    (arith, c.lines_marks-extra.ensures, c.saturating_sub-blanks.ensures, c.first_width-wide.ensures, marks_few rows, width_few rows, zeros_few (cell_lengths a.sheet.now a.nodes.now a.row (a.row + 1) a.end), c.requires.2, c.requires.4, c.requires.7)
+    (arith, c.lines_marks-extra.ensures, c.saturating_sub-blanks.ensures, c.first_width-wide.ensures, marks_few rows, width_few rows, zeros_few (cell_lengths a.tree.now.sheet.now a.tree.now.nodes.now a.row (a.row + 1) a.end), c.requires.2, c.requires.4, c.requires.7)
 
 pub returns-then-not-has_room : goal.returns-then-not-has_room
 returns-then-not-has_room c =
     let a = c.args in
-    let lens : List ℕ = cell_lengths a.sheet.now a.nodes.now a.row (a.row + 1) a.end in
-    let rows : List (List ℕ) = filled (table_lengths a.sheet.now a.nodes.now a.from a.to) in
+    let lens : List ℕ = cell_lengths a.tree.now.sheet.now a.tree.now.nodes.now a.row (a.row + 1) a.end in
+    let rows : List (List ℕ) = filled (table_lengths a.tree.now.sheet.now a.tree.now.nodes.now a.from a.to) in
     let s : Bytes = take a.n (drop a.len a.text.now) in
     let m = part_length a.text.now a.len a.n c.requires.5 in
     let wide : c.first_width-wide.result ≡ width rows = c.first_width-wide.ensures in
@@ -59,8 +59,8 @@ returns-then-not-has_room c =
 pub returns : goal.returns
 returns c =
     let a = c.args in
-    let lens : List ℕ = cell_lengths a.sheet.now a.nodes.now a.row (a.row + 1) a.end in
-    let rows : List (List ℕ) = filled (table_lengths a.sheet.now a.nodes.now a.from a.to) in
+    let lens : List ℕ = cell_lengths a.tree.now.sheet.now a.tree.now.nodes.now a.row (a.row + 1) a.end in
+    let rows : List (List ℕ) = filled (table_lengths a.tree.now.sheet.now a.tree.now.nodes.now a.from a.to) in
     let s : Bytes = take a.n (drop a.len a.text.now) in
     let m = part_length a.text.now a.len a.n c.requires.5 in
     let wide : c.first_width-wide.result ≡ width rows = c.first_width-wide.ensures in

@@ -30,7 +30,7 @@ push_headed-requires-2 c =
     let a = c.args in
     let x = c.requires.0 in (
       plain_kids x c.requires.2,
-      (x.rows, rows_at a.sheet.now a.nodes.now a.first a.to x.rows x.at),
+      (x.rows, rows_at a.tree.now.sheet.now a.tree.now.nodes.now a.first a.to x.rows x.at),
       c.requires.1,
       plain_sum x c.requires.2,
       omega (arith, plain_few x c.requires.2, x.inside),

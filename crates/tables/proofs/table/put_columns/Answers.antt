@@ -13,7 +13,7 @@ use Rattle.tables.proofs.table.put_columns.Goals as goal
 
 pub overflow_add-row : goal.overflow_add-row
 overflow_add-row c =
-    omega (arith, rep_le c.args.sheet.now c.args.nodes.now c.args.row (c.args.row + 1) c.args.to c.requires.0.0 c.requires.0.1)
+    omega (arith, rep_le c.args.tree.now.sheet.now c.args.tree.now.nodes.now c.args.row (c.args.row + 1) c.args.to c.requires.0.0 c.requires.0.1)
 
 pub overflow_mul-c : goal.overflow_mul-c
 overflow_mul-c c =
@@ -32,7 +32,7 @@ put_column-end-requires c =
     let a = c.args in
     let pre = c.requires in
     let l = c.loop-c in
-    let e = from_turn l.invariant.0 c.loop-c-test.true refl (end_at a.nodes.now l.c) (c.read-n.ensures.0 ∙ long_is _ _) refl in
+    let e = from_turn l.invariant.0 c.loop-c-test.true refl (end_at a.tree.now.nodes.now l.c) (c.read-n.ensures.0 ∙ long_is _ _) refl in
     let room = column_room a.under e l.at l.invariant.1 (λ q. omega (arith, pre.3 q, l.invariant.2)) in (
       λ q. omega (arith, room, pre.3 q, l.invariant.2),
       omega (arith, room, l.invariant.1.puts.long, pre.1),
@@ -43,7 +43,7 @@ pub overflow_add-at : goal.overflow_add-at
 overflow_add-at c =
     let a = c.args in
     let l = c.loop-c in
-    let e = from_turn l.invariant.0 c.loop-c-test.true refl (end_at a.nodes.now l.c) (c.read-n.ensures.0 ∙ long_is _ _) refl in
+    let e = from_turn l.invariant.0 c.loop-c-test.true refl (end_at a.tree.now.nodes.now l.c) (c.read-n.ensures.0 ∙ long_is _ _) refl in
     omega (arith, sum_first e, l.invariant.3, c.requires.2)
 
 pub node_end-requires : goal.node_end-requires

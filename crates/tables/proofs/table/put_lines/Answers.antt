@@ -15,10 +15,10 @@ pub loop-r-init : goal.loop-r-init
 loop-r-init c =
     let a = c.args in
     let q = c.next_filled_row-r.ensures.rows c.requires.0.0 c.requires.0.1 in
-    let e = line_next a.sheet.now a.nodes.now a.from c.next_filled_row-r.result a.to c.requires.0.0 c.requires.0.1 c.next_filled_row-r.ensures.later q in (
+    let e = line_next a.tree.now.sheet.now a.tree.now.nodes.now a.from c.next_filled_row-r.result a.to c.requires.0.0 c.requires.0.1 c.next_filled_row-r.ensures.later q in (
       (c.requires.0.0, q),
-      subst (λ (z : List (List ℕ)). Due a.text.now a.text.now a.len a.len (bar_lines (cut_rows z (drop a.src a.text.now))) (bar_lines (cut_rows (filled (table_lengths a.sheet.now a.nodes.now a.from a.to)) (drop a.src a.text.now)))) e
-          (due_all a.text.now a.len (bar_lines (cut_rows (filled (table_lengths a.sheet.now a.nodes.now a.from a.to)) (drop a.src a.text.now)))),
+      subst (λ (z : List (List ℕ)). Due a.text.now a.text.now a.len a.len (bar_lines (cut_rows z (drop a.src a.text.now))) (bar_lines (cut_rows (filled (table_lengths a.tree.now.sheet.now a.tree.now.nodes.now a.from a.to)) (drop a.src a.text.now)))) e
+          (due_all a.text.now a.len (bar_lines (cut_rows (filled (table_lengths a.tree.now.sheet.now a.tree.now.nodes.now a.from a.to)) (drop a.src a.text.now)))),
       omega arith,
       omega (arith, ap (λ (z : List (List ℕ)). sum (concat z)) e),
     )
@@ -26,16 +26,16 @@ loop-r-init c =
 pub node_end-last-requires : goal.node_end-last-requires
 node_end-last-requires c =
     let a = c.args in
-    (line_row a.sheet.now a.nodes.now c.loop-r.r a.to c.loop-r.invariant.0 c.loop-r-test.true).at.is_element.inside
+    (line_row a.tree.now.sheet.now a.tree.now.nodes.now c.loop-r.r a.to c.loop-r.invariant.0 c.loop-r-test.true).at.is_element.inside
 
 pub put_row-end-requires : goal.put_row-end-requires
 put_row-end-requires c =
     let a = c.args in
     let l = c.loop-r in
-    let x = line_row a.sheet.now a.nodes.now l.r a.to l.invariant.0 c.loop-r-test.true in
+    let x = line_row a.tree.now.sheet.now a.tree.now.nodes.now l.r a.to l.invariant.0 c.loop-r-test.true in
     let e = line_turn x c.node_end-last.ensures (l.r + 1) refl in
-    let p = lines_length (filled (table_lengths a.sheet.now a.nodes.now l.r a.to)) (drop l.at a.text.now) (omega (arith, length-drop l.at a.text.now, l.invariant.3, c.requires.2)) in
-    let q = lines_length (filled (table_lengths a.sheet.now a.nodes.now a.from a.to)) (drop a.src a.text.now) (omega (arith, length-drop a.src a.text.now, c.requires.2)) in (
+    let p = lines_length (filled (table_lengths a.tree.now.sheet.now a.tree.now.nodes.now l.r a.to)) (drop l.at a.text.now) (omega (arith, length-drop l.at a.text.now, l.invariant.3, c.requires.2)) in
+    let q = lines_length (filled (table_lengths a.tree.now.sheet.now a.tree.now.nodes.now a.from a.to)) (drop a.src a.text.now) (omega (arith, length-drop a.src a.text.now, c.requires.2)) in (
       line_kids x c.node_end-last.ensures,
       omega (arith, p, q, due_room l.invariant.1, total_first e, marks_first e, c.requires.1, l.invariant.2),
       omega (arith, l.invariant.1.puts.long, total_first e, l.invariant.3, c.requires.2),
@@ -45,33 +45,33 @@ pub row_bytes-at-requires : goal.row_bytes-at-requires
 row_bytes-at-requires c =
     let a = c.args in
     let l = c.loop-r in
-    let x = line_row a.sheet.now a.nodes.now l.r a.to l.invariant.0 c.loop-r-test.true in
+    let x = line_row a.tree.now.sheet.now a.tree.now.nodes.now l.r a.to l.invariant.0 c.loop-r-test.true in
     (line_kids x c.node_end-last.ensures, omega (arith, total_first (line_turn x c.node_end-last.ensures (l.r + 1) refl), l.invariant.3, c.requires.2))
 
 pub overflow_add-at : goal.overflow_add-at
 overflow_add-at c =
     let a = c.args in
     let l = c.loop-r in
-    let x = line_row a.sheet.now a.nodes.now l.r a.to l.invariant.0 c.loop-r-test.true in
+    let x = line_row a.tree.now.sheet.now a.tree.now.nodes.now l.r a.to l.invariant.0 c.loop-r-test.true in
     omega (arith, total_first (line_turn x c.node_end-last.ensures (l.r + 1) refl), c.row_bytes-at.ensures, l.invariant.3, c.requires.2)
 
 pub next_filled_row-r-requires-in-loop-r : goal.next_filled_row-r-requires-in-loop-r
 next_filled_row-r-requires-in-loop-r c =
     let a = c.args in
-    (line_row a.sheet.now a.nodes.now c.loop-r.r a.to c.loop-r.invariant.0 c.loop-r-test.true).behind
+    (line_row a.tree.now.sheet.now a.tree.now.nodes.now c.loop-r.r a.to c.loop-r.invariant.0 c.loop-r-test.true).behind
 
 pub loop-r-preserved : goal.loop-r-preserved
 loop-r-preserved c =
     let a = c.args in
     let l = c.loop-r in
-    let x = line_row a.sheet.now a.nodes.now l.r a.to l.invariant.0 c.loop-r-test.true in
+    let x = line_row a.tree.now.sheet.now a.tree.now.nodes.now l.r a.to l.invariant.0 c.loop-r-test.true in
     let m = c.next_filled_row-r-in-loop-r.ensures.rows x.behind.0 x.behind.1 in
-    let s = line_next a.sheet.now a.nodes.now (l.r + 1) c.next_filled_row-r-in-loop-r.result a.to x.behind.0 x.behind.1 c.next_filled_row-r-in-loop-r.ensures.later m in
-    let lens : List ℕ = cell_lengths a.sheet.now a.nodes.now l.r (l.r + 1) c.node_end-last.result in
-    let more : List (List ℕ) = filled (table_lengths a.sheet.now a.nodes.now c.next_filled_row-r-in-loop-r.result a.to) in
+    let s = line_next a.tree.now.sheet.now a.tree.now.nodes.now (l.r + 1) c.next_filled_row-r-in-loop-r.result a.to x.behind.0 x.behind.1 c.next_filled_row-r-in-loop-r.ensures.later m in
+    let lens : List ℕ = cell_lengths a.tree.now.sheet.now a.tree.now.nodes.now l.r (l.r + 1) c.node_end-last.result in
+    let more : List (List ℕ) = filled (table_lengths a.tree.now.sheet.now a.tree.now.nodes.now c.next_filled_row-r-in-loop-r.result a.to) in
     let e = line_turn x c.node_end-last.ensures c.next_filled_row-r-in-loop-r.result s in
-    let p = lines_length (filled (table_lengths a.sheet.now a.nodes.now l.r a.to)) (drop l.at a.text.now) (omega (arith, length-drop l.at a.text.now, l.invariant.3, c.requires.2)) in
-    let q = lines_length (filled (table_lengths a.sheet.now a.nodes.now a.from a.to)) (drop a.src a.text.now) (omega (arith, length-drop a.src a.text.now, c.requires.2)) in
+    let p = lines_length (filled (table_lengths a.tree.now.sheet.now a.tree.now.nodes.now l.r a.to)) (drop l.at a.text.now) (omega (arith, length-drop l.at a.text.now, l.invariant.3, c.requires.2)) in
+    let q = lines_length (filled (table_lengths a.tree.now.sheet.now a.tree.now.nodes.now a.from a.to)) (drop a.src a.text.now) (omega (arith, length-drop a.src a.text.now, c.requires.2)) in
     let f = puts_behind l.at l.invariant.1.puts (omega (arith, p, q, due_room l.invariant.1, c.requires.1, l.invariant.2)) in (
       (x.behind.0, m),
       due_on l.invariant.1
@@ -84,4 +84,4 @@ loop-r-preserved c =
 pub returns : goal.returns
 returns c =
     let a = c.args in
-    due_done c.loop-r.invariant.1 (lines_none _ (line_none a.sheet.now a.nodes.now c.loop-r.r a.to c.loop-r-test.false))
+    due_done c.loop-r.invariant.1 (lines_none _ (line_none a.tree.now.sheet.now a.tree.now.nodes.now c.loop-r.r a.to c.loop-r-test.false))

@@ -9,4 +9,4 @@ pub put_line-requires : goal.put_line-requires
 put_line-requires c =
     let a = c.args in
     let pre = c.requires in
-    (pre.0, omega (arith, unders_length (cell_lengths a.sheet.now a.nodes.now a.row (a.row + 1) a.to), pre.1), omega (arith, pre.1), λ q. absurd (true≢false q))
+    (pre.0, omega (arith, unders_length (cell_lengths a.tree.now.sheet.now a.tree.now.nodes.now a.row (a.row + 1) a.to), pre.1), omega (arith, pre.1), λ q. absurd (true≢false q))
