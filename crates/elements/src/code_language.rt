@@ -14,12 +14,12 @@ use nodes::nodes::node_name;
 use text::buffer::{starts_with, trim_start_matches};
 use text::class::{Black, White};
 use tree::attributes::{attribute, language_attribute};
-use tree::nodes::{node_end, node_parent, node_place};
+use tree::nodes::Tree;
 
 // The language that node i or one of three elements around it says.
-fn nearest_language<'a>(sheet: &'a [u8], nodes: &[u8], i: usize) -> Option<&'a [u8]>
-    requires { Within sheet.now nodes.now i }
-    ensures { (anc : Ancestors) → Around sheet.now nodes.now i anc → Language sheet.now result (def.nearest_language (take 4 anc)) }
+fn nearest_language<'a>(tree: &Tree<'a, '_>, i: usize) -> Option<&'a [u8]>
+    requires { Within tree.now.sheet.now tree.now.nodes.now i }
+    ensures { (anc : Ancestors) → Around tree.now.sheet.now tree.now.nodes.now i anc → Language tree.now.sheet.now result (def.nearest_language (take 4 anc)) }
 {
     let mut at = i;
     let mut left: usize = 4;
@@ -27,11 +27,11 @@ fn nearest_language<'a>(sheet: &'a [u8], nodes: &[u8], i: usize) -> Option<&'a [
         if at == 0 {
             return None;
         }
-        let place = node_place(nodes, at);
-        if let Some(language) = language_attribute(sheet, place) {
+        let place = tree.node_place(at);
+        if let Some(language) = language_attribute(tree.sheet, place) {
             return Some(language);
         }
-        at = node_parent(nodes, at);
+        at = tree.node_parent(at);
         left -= 1;
     }
     None
@@ -81,34 +81,33 @@ fn class_of(sheet: &[u8], place: usize) -> Option<&[u8]>
 
 // Of the first `code` among the siblings.
 fn find_code_language_css_class<'a>(
-    sheet: &'a [u8],
-    nodes: &[u8],
+    tree: &Tree<'a, '_>,
     from: usize,
     to: usize,
 ) -> Option<&'a [u8]>
-    requires { Siblings sheet.now nodes.now from to }
-    ensures { (parent : ℕ) (f : Forest) → Rep sheet.now nodes.now parent from to f → Language sheet.now result (def.find_code_language_css_class f) }
+    requires { Siblings tree.now.sheet.now tree.now.nodes.now from to }
+    ensures { (parent : ℕ) (f : Forest) → Rep tree.now.sheet.now tree.now.nodes.now parent from to f → Language tree.now.sheet.now result (def.find_code_language_css_class f) }
 {
     let mut i = from;
     while i < to {
-        if node_name(sheet, nodes, i) == 24 {
-            let place = node_place(nodes, i);
-            return class_of(sheet, place);
+        if node_name(tree, i) == 24 {
+            let place = tree.node_place(i);
+            return class_of(tree.sheet, place);
         }
-        i = node_end(nodes, i);
+        i = tree.node_end(i);
     }
     None
 }
 
-pub fn find_code_language<'a>(sheet: &'a [u8], nodes: &[u8], i: usize) -> Option<&'a [u8]>
-    requires { Placed sheet.now nodes.now i }
-    ensures { (name : Bytes) (attrs : List Attr) (kids : Forest) (anc : Ancestors) → ElementAt sheet.now nodes.now i name attrs kids → Around sheet.now nodes.now (parent_at nodes.now i) anc → Language sheet.now result (def.find_code_language anc attrs kids) }
+pub fn find_code_language<'a>(tree: &Tree<'a, '_>, i: usize) -> Option<&'a [u8]>
+    requires { Placed tree.now.sheet.now tree.now.nodes.now i }
+    ensures { (name : Bytes) (attrs : List Attr) (kids : Forest) (anc : Ancestors) → ElementAt tree.now.sheet.now tree.now.nodes.now i name attrs kids → Around tree.now.sheet.now tree.now.nodes.now (parent_at tree.now.nodes.now i) anc → Language tree.now.sheet.now result (def.find_code_language anc attrs kids) }
 {
-    match nearest_language(sheet, nodes, i) {
+    match nearest_language(tree, i) {
         Some(language) => Some(language),
         None => {
-            let to = node_end(nodes, i);
-            find_code_language_css_class(sheet, nodes, i + 1, to)
+            let to = tree.node_end(i);
+            find_code_language_css_class(tree, i + 1, to)
         }
     }
 }

@@ -16,7 +16,7 @@ use serializer::write;
 use spec::ctx::FormatOpts;
 use text::buffer::{Full, Wrote};
 use tree::memory::clear;
-use tree::nodes::node_end;
+use tree::nodes::Tree;
 use tree::store::store_nodes;
 
 // What stands in the start node, and then the trim of the text.
@@ -31,7 +31,7 @@ fn write_inside(
     ensures { Writes (length text.old) text.new result (written sheet.now (skip_of skip.entry) start false) }
 {
     let first = start + 1;
-    let end = node_end(nodes, start);
+    let end = Tree { sheet, nodes }.node_end(start);
     let opts = FormatOpts::new();
     let n = write(
         sheet,
@@ -61,7 +61,7 @@ fn write_whole(
     if start == 0 {
         return Ok(0);
     }
-    let to = node_end(nodes, start);
+    let to = Tree { sheet, nodes }.node_end(start);
     let opts = FormatOpts::new().include_node();
     let bits = packed(opts);
     write(sheet, skip, nodes, text, 0, start, to, bits, 101)

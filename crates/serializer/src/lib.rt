@@ -54,7 +54,7 @@ use tables::table::{next_cell, push_table, store_span};
 use text::buffer::{Full, Wrote};
 use texts::{is_blank_text, is_one_text, trim_behind_text};
 use tree::attributes::attribute;
-use tree::nodes::{node_end, node_place, tag_at};
+use tree::nodes::{Tree, tag_at};
 
 pub mod options;
 pub mod progress;
@@ -84,7 +84,7 @@ pub fn write(
     let mut end = len;
     while at < to {
         end = node(sheet, skip, nodes, text, end, at, bits, levels - 1)?;
-        at = node_end(nodes, at);
+        at = Tree { sheet, nodes }.node_end(at);
     }
     Ok(end)
 }
@@ -106,9 +106,9 @@ fn siblings(
     ensures kept { Kept from to nodes.old nodes.new }
     ensures writes_forest { WritesForest sheet.now nodes.old from to (λ anc f. write_at (tags_to_skip (skip_of skip.entry)) levels anc (def.unpacked bits) f) (take len text.old) (length text.old) text.new result }
 {
-    if (levels != 0) & is_one_text(sheet, nodes, from, to) {
+    if (levels != 0) & is_one_text(&Tree { sheet, nodes }, from, to) {
         let opts = unpacked(bits);
-        return write_text_node(sheet, nodes, text, len, from, opts);
+        return write_text_node(&Tree { sheet, nodes }, text, len, from, opts);
     }
     write(sheet, skip, nodes, text, len, from, to, bits, levels)
 }
@@ -129,16 +129,16 @@ fn node(
     ensures kept { Kept at (end_at nodes.old at) nodes.old nodes.new }
     ensures writes_forest { WritesForest sheet.now nodes.old at (end_at nodes.old at) (λ anc f. write_nodes (self_at skip.entry levels) anc (def.unpacked bits) f) (take len text.old) (length text.old) text.new result }
 {
-    let place = node_place(nodes, at);
+    let place = Tree { sheet, nodes }.node_place(at);
     if tag_at(sheet, place) != 1 {
         let opts = unpacked(bits);
-        return write_text_node(sheet, nodes, text, len, at, opts);
+        return write_text_node(&Tree { sheet, nodes }, text, len, at, opts);
     }
-    if node_is_skipped(sheet, skip, nodes, at) {
+    if node_is_skipped(&Tree { sheet, nodes }, skip, at) {
         return Ok(len);
     }
     let opts = unpacked(bits);
-    let n = opened(sheet, nodes, text, len, at, opts)?;
+    let n = opened(&Tree { sheet, nodes }, text, len, at, opts)?;
     inside(sheet, skip, nodes, text, n, at, bits, levels)
 }
 
@@ -158,7 +158,7 @@ fn inside(
     ensures kept { Kept at (end_at nodes.old at) nodes.old nodes.new }
     ensures writes_element { WritesElement sheet.now nodes.old at (λ anc name attrs kids. in_element (self_at skip.entry levels) anc (def.unpacked bits) name attrs kids) (take len text.old) (length text.old) text.new result }
 {
-    let name = node_name(sheet, nodes, at);
+    let name = node_name(&Tree { sheet, nodes }, at);
     let flags = unpacked(bits);
     if !flags.skip_md & has_writer(name, flags) {
         // lists and tables, and the others: of two calls the compiler takes none into `write`, so that a level without a
@@ -168,7 +168,7 @@ fn inside(
         }
         return write_element(sheet, skip, nodes, text, len, at, name, bits, levels);
     }
-    let to = node_end(nodes, at);
+    let to = Tree { sheet, nodes }.node_end(at);
     let n = siblings(sheet, skip, nodes, text, len, at + 1, to, bits, levels)?;
     closed(text, n, name, unpacked(bits))
 }
@@ -198,17 +198,17 @@ fn write_element(
         return write_link(sheet, skip, nodes, text, len, at, opts, levels);
     }
     if name == 22 {
-        let place = node_place(nodes, at);
+        let place = Tree { sheet, nodes }.node_place(at);
         return write_img(text, len, sheet, place);
     }
     if name == 23 {
-        return write_pre(sheet, nodes, text, len, at, opts);
+        return write_pre(&Tree { sheet, nodes }, text, len, at, opts);
     }
     if name == 14 {
         return write_table(sheet, skip, nodes, text, len, at, opts, levels);
     }
     if name == 24 {
-        return write_code(sheet, skip, nodes, text, len, at, opts);
+        return write_code(&Tree { sheet, nodes }, skip, text, len, at, opts);
     }
     write_emphasis(sheet, skip, nodes, text, len, at, name, opts, levels)
 }
@@ -229,10 +229,10 @@ fn kids(
     ensures kept { Kept at (end_at nodes.old at) nodes.old nodes.new }
     ensures writes_element { WritesElement sheet.now nodes.old at (λ anc name attrs kids. write_kids (self_at skip.entry levels) anc (def.unpacked bits) (element name attrs kids nothing)) (take len text.old) (length text.old) text.new result }
 {
-    let to = node_end(nodes, at);
-    if (levels != 0) & is_one_text(sheet, nodes, at + 1, to) {
+    let to = Tree { sheet, nodes }.node_end(at);
+    if (levels != 0) & is_one_text(&Tree { sheet, nodes }, at + 1, to) {
         let opts = unpacked(bits);
-        return trim_behind_text(sheet, nodes, text, len, at + 1, opts);
+        return trim_behind_text(&Tree { sheet, nodes }, text, len, at + 1, opts);
     }
     let n = write(sheet, skip, nodes, text, len, at + 1, to, bits, levels)?;
     Ok(trim_space(text, n))
@@ -255,7 +255,7 @@ fn write_emphasis(
     ensures kept { Kept at (end_at nodes.old at) nodes.old nodes.new }
     ensures writes_element { WritesElement sheet.now nodes.old at (λ anc name attrs kids. write_emphasis (self_at skip.entry levels) anc opts (tag_of name) attrs kids) (take len text.old) (length text.old) text.new result }
 {
-    let to = node_end(nodes, at);
+    let to = Tree { sheet, nodes }.node_end(at);
     let inner = emphasis_opts(name, opts);
     let n = write(
         sheet,
@@ -287,7 +287,7 @@ fn write_link(
     ensures kept { Kept at (end_at nodes.old at) nodes.old nodes.new }
     ensures writes_element { WritesElement sheet.now nodes.old at (λ anc name attrs kids. write_link (self_at skip.entry levels) anc opts name attrs kids) (take len text.old) (length text.old) text.new result }
 {
-    let place = node_place(nodes, at);
+    let place = Tree { sheet, nodes }.node_place(at);
     let fresh = opts.fresh();
     match attribute(sheet, place, b"href") {
         Some(dest) => link(sheet, skip, nodes, text, len, at, dest, opts, levels),
@@ -315,9 +315,9 @@ fn link(
     ensures kept { Kept at (end_at nodes.old at) nodes.old nodes.new }
     ensures writes_element { WritesElement sheet.now nodes.old at (λ anc name attrs kids. link_to (self_at skip.entry levels) anc opts dest.now name attrs kids) (take len text.old) (length text.old) text.new result }
 {
-    let end = node_end(nodes, at);
+    let end = Tree { sheet, nodes }.node_end(at);
     let fresh = opts.fresh();
-    if has_element(sheet, nodes, at + 1, end, 22) {
+    if has_element(&Tree { sheet, nodes }, at + 1, end, 22) {
         return body(
             sheet,
             skip,
@@ -331,11 +331,11 @@ fn link(
         );
     }
     let plain = fresh.include_node().skip_escape();
-    let n = write_text(sheet, nodes, &mut text[len..], 0, at + 1, end, plain)?;
+    let n = write_text(&Tree { sheet, nodes }, &mut text[len..], 0, at + 1, end, plain)?;
     if n == 0 {
         body(sheet, skip, nodes, text, len, at, dest, fresh, levels)
     } else {
-        let place = node_place(nodes, at);
+        let place = Tree { sheet, nodes }.node_place(at);
         push_text_link(sheet, text, len, n, place, dest, opts)
     }
 }
@@ -357,7 +357,7 @@ fn body(
     ensures kept { Kept at (end_at nodes.old at) nodes.old nodes.new }
     ensures writes_element { WritesElement sheet.now nodes.old at (λ anc name attrs kids. link_of attrs dest.now (write_kids (self_at skip.entry levels) anc opts (element name attrs kids nothing) []) push) (take len text.old) (length text.old) text.new result }
 {
-    let place = node_place(nodes, at);
+    let place = Tree { sheet, nodes }.node_place(at);
     let bits = packed(opts);
     let n = kids(
         sheet,
@@ -389,9 +389,9 @@ fn write_list(
     ensures kept { Kept at (end_at nodes.old at) nodes.old nodes.new }
     ensures writes_element { WritesElement sheet.now nodes.old at (λ anc name attrs kids. write_list (self_at skip.entry levels) anc opts (tag_of name) attrs kids) (take len text.old) (length text.old) text.new result }
 {
-    let place = node_place(nodes, at);
+    let place = Tree { sheet, nodes }.node_place(at);
     let kind = kind_of(sheet, place, name);
-    let to = node_end(nodes, at);
+    let to = Tree { sheet, nodes }.node_end(at);
     let ctx = ListContext::new(opts, kind);
     let n = items(sheet, skip, nodes, text, len, at + 1, to, ctx, levels)?;
     end_list(text, n, opts)
@@ -418,11 +418,11 @@ fn items(
     let mut end = len;
     let mut c = from;
     while c < to {
-        let place = node_place(nodes, c);
-        let li = node_name(sheet, nodes, c) == 16;
+        let place = Tree { sheet, nodes }.node_place(c);
+        let li = node_name(&Tree { sheet, nodes }, c) == 16;
         ctx = renumbered(sheet, place, li, ctx);
         end = item(sheet, skip, nodes, text, end, c, li, &mut ctx, levels)?;
-        c = node_end(nodes, c);
+        c = Tree { sheet, nodes }.node_end(c);
     }
     Ok(end)
 }
@@ -445,7 +445,7 @@ fn item(
     ensures writes_forest { WritesForest sheet.now nodes.old c (end_at nodes.old c) (λ anc f. list_head (self_at skip.entry levels) anc f ctx.old) (take len text.old) (length text.old) text.new result }
     ensures ctx_value { ctx.new ≡ cond li (advance_ol_number ctx.old) ctx.old }
 {
-    let to = node_end(nodes, c);
+    let to = Tree { sheet, nodes }.node_end(c);
     let opts = ctx.opts;
     if !li {
         let inner = opts.fresh().include_node();
@@ -461,7 +461,7 @@ fn item(
             levels,
         );
     }
-    if has_blocks(sheet, nodes, c + 1, to) {
+    if has_blocks(&Tree { sheet, nodes }, c + 1, to) {
         return blocks(sheet, skip, nodes, text, len, c, ctx, levels);
     }
     flat(sheet, skip, nodes, text, len, c, ctx, levels)
@@ -509,7 +509,7 @@ fn blocks(
     ensures writes_element { WritesElement sheet.now nodes.old c (λ anc name attrs kids. write_list_item_blocks (self_at skip.entry levels) anc attrs kids ctx.old) (take len text.old) (length text.old) text.new result }
     ensures ctx_value { ctx.new ≡ advance_ol_number ctx.old }
 {
-    let to = node_end(nodes, c);
+    let to = Tree { sheet, nodes }.node_end(c);
     let first = *ctx;
     let n = write_list_item_blocks(text, len, ctx)?;
     let item = item_from(first, *ctx, n);
@@ -543,7 +543,7 @@ fn children(
     let mut c = from;
     while c < to {
         going = child(sheet, skip, nodes, text, c, to, item, going, levels)?;
-        c = node_end(nodes, c);
+        c = Tree { sheet, nodes }.node_end(c);
     }
     Ok(going)
 }
@@ -565,16 +565,16 @@ fn child(
     ensures kept { Kept c (end_at nodes.old c) nodes.old nodes.new }
     ensures goes_forest { GoesForest sheet.now nodes.old c (end_at nodes.old c) (λ anc f. item_children (self_at skip.entry levels) anc f (item_of item) (progress_of before text.old)) (length text.old) text.new result }
 {
-    let place = node_place(nodes, c);
+    let place = Tree { sheet, nodes }.node_place(c);
     let tag = tag_at(sheet, place);
     if (tag != 4) & (tag != 1) {
         return Ok(before);
     }
-    if node_is_skipped(sheet, skip, nodes, c) {
+    if node_is_skipped(&Tree { sheet, nodes }, skip, c) {
         return Ok(before);
     }
-    if node_is_block_wrapper(sheet, nodes, c) {
-        let end = node_end(nodes, c);
+    if node_is_block_wrapper(&Tree { sheet, nodes }, c) {
+        let end = Tree { sheet, nodes }.node_end(c);
         return children(
             sheet,
             skip,
@@ -608,7 +608,7 @@ fn alone(
     ensures kept { Kept c (end_at nodes.old c) nodes.old nodes.new }
     ensures goes_forest { GoesForest sheet.now nodes.old c (end_at nodes.old c) (λ anc f. item_child (self_at skip.entry levels) anc f blank (item_of item) (progress_of before text.old)) (length text.old) text.new result }
 {
-    let name = node_name(sheet, nodes, c);
+    let name = node_name(&Tree { sheet, nodes }, c);
     let line = before.due & !((name == 23) | blank);
     let n = due_line(text, before.len, line, item)?;
     let going = Going {
@@ -643,7 +643,7 @@ fn inline(
     ensures kept { Kept c (end_at nodes.old c) nodes.old nodes.new }
     ensures writes_forest { WritesForest sheet.now nodes.old c (end_at nodes.old c) (λ anc f. inline_step (self_at skip.entry levels) anc f blank (item_of item)) (take len text.old) (length text.old) text.new result }
 {
-    let to = node_end(nodes, c);
+    let to = Tree { sheet, nodes }.node_end(c);
     let opts = item.ctx.opts;
     let inner = child_opts(name, opts);
     let n = push_inline_lead(text, len, item, blank)?;
@@ -766,7 +766,7 @@ fn indented(
     ensures kept { Kept c (end_at nodes.old c) nodes.old nodes.new }
     ensures writes_element { WritesElement sheet.now nodes.old c (λ anc name attrs kids. write_list_item_indented (self_at skip.entry levels) anc (element name attrs kids nothing) (item_of item)) (take len text.old) (length text.old) text.new result }
 {
-    let to = node_end(nodes, c);
+    let to = Tree { sheet, nodes }.node_end(c);
     let opts = item.ctx.opts;
     let inner = opts.include_node();
     let n = write(
@@ -799,15 +799,15 @@ fn write_table(
     ensures kept { Kept at (end_at nodes.old at) nodes.old nodes.new }
     ensures writes_element { WritesElement sheet.now nodes.old at (λ anc name attrs kids. write_table (self_at skip.entry levels) anc opts name attrs kids) (take len text.old) (length text.old) text.new result }
 {
-    let to = node_end(nodes, at);
-    let first = next_filled_row(sheet, nodes, at + 1, to);
+    let to = Tree { sheet, nodes }.node_end(at);
+    let first = next_filled_row(&Tree { sheet, nodes }, at + 1, to);
     let fresh = opts.fresh();
-    if !is_table_node_writable(sheet, nodes, at + 1, to, first) {
+    if !is_table_node_writable(&Tree { sheet, nodes }, at + 1, to, first) {
         let bits = packed(fresh);
         return kids(sheet, skip, nodes, text, len, at, bits, levels);
     }
     let end = cells(sheet, skip, nodes, text, len, first, to, opts, levels)?;
-    push_table(sheet, nodes, text, len, end - len, first, to)
+    push_table(&Tree { sheet, nodes }, text, len, end - len, first, to)
 }
 
 // The cells of the rows from number `from` on, each a text of its own behind the others.
@@ -828,10 +828,10 @@ fn cells(
     ensures rows_writes { (rows : List (List Cell)) → Rows sheet.now nodes.old from to rows → RowsWrites (length text.old) text.new (table_lengths sheet.now nodes.new from to) result (rows_texts (self_at skip.entry levels) opts rows) (take len text.old) }
 {
     let mut end = len;
-    let mut r = next_row(sheet, nodes, from, to);
+    let mut r = next_row(&Tree { sheet, nodes }, from, to);
     while r < to {
         end = row(sheet, skip, nodes, text, end, r, opts, levels)?;
-        r = next_row(sheet, nodes, r + 1, to);
+        r = next_row(&Tree { sheet, nodes }, r + 1, to);
     }
     Ok(end)
 }
@@ -852,15 +852,15 @@ fn row(
     ensures kept { Kept (tr + 1) (end_at nodes.old tr) nodes.old nodes.new }
     ensures row_writes { (cells : List Cell) → RowAt sheet.now nodes.old tr cells → RowWrites (length text.old) text.new (row_lengths sheet.now nodes.new tr) result (row_texts (self_at skip.entry levels) opts cells) (take len text.old) }
 {
-    let to = node_end(nodes, tr);
+    let to = Tree { sheet, nodes }.node_end(tr);
     let mut end = len;
-    let mut c = next_cell(sheet, nodes, tr + 1, to);
+    let mut c = next_cell(&Tree { sheet, nodes }, tr + 1, to);
     while c < to {
         let n = cell(sheet, skip, nodes, &mut text[end..], c, opts, levels)?;
         store_span(nodes, c, end, n);
         end += n;
-        let after = node_end(nodes, c);
-        c = next_cell(sheet, nodes, after, to);
+        let after = Tree { sheet, nodes }.node_end(c);
+        c = next_cell(&Tree { sheet, nodes }, after, to);
     }
     Ok(end)
 }

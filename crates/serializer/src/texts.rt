@@ -14,33 +14,32 @@ use normalized::by_len::trim_space;
 use spec::ctx::FormatOpts;
 use text::buffer::{Wrote, all_in};
 use text::class::White;
-use tree::nodes::{node_place, tag_at, text_at};
+use tree::nodes::{Tree, tag_at, text_at};
 
 // Whether the nodes from number `from` up to `to` are one text.
-pub fn is_one_text(sheet: &[u8], nodes: &[u8], from: usize, to: usize) -> bool
-    requires { (from ≤ to) × (from < to → NodeAt sheet.now nodes.now from) }
-    ensures { result ≡ true → (from + 1 ≡ to) × (get_or sheet.now (place_at nodes.now from) 0 ≡ 4) }
+pub fn is_one_text(tree: &Tree, from: usize, to: usize) -> bool
+    requires { (from ≤ to) × (from < to → NodeAt tree.now.sheet.now tree.now.nodes.now from) }
+    ensures { result ≡ true → (from + 1 ≡ to) × (get_or tree.now.sheet.now (place_at tree.now.nodes.now from) 0 ≡ 4) }
 {
     if to - from != 1 {
         return false;
     }
-    let place = node_place(nodes, from);
-    tag_at(sheet, place) == 4
+    let place = tree.node_place(from);
+    tag_at(tree.sheet, place) == 4
 }
 
 // Appends the text of node i, if it is one, and trims the whole text.
 pub fn trim_behind_text(
-    sheet: &[u8],
-    nodes: &[u8],
+    tree: &Tree,
     text: &mut [u8],
     len: usize,
     i: usize,
     opts: FormatOpts,
 ) -> Wrote
-    requires { NodeAt sheet.now nodes.now i × (len ≤ length text.old) }
-    ensures { Writes (length text.old) text.new result (and_then (text_step opts sheet.now (place_at nodes.now i) (take len text.old)) trim_space) }
+    requires { NodeAt tree.now.sheet.now tree.now.nodes.now i × (len ≤ length text.old) }
+    ensures { Writes (length text.old) text.new result (and_then (text_step opts tree.now.sheet.now (place_at tree.now.nodes.now i) (take len text.old)) trim_space) }
 {
-    let n = write_text_node(sheet, nodes, text, len, i, opts)?;
+    let n = write_text_node(tree, text, len, i, opts)?;
     Ok(trim_space(text, n))
 }
 

@@ -10,12 +10,12 @@ use std::ops::Range;
 
 // A sheet, and the nodes of its tree in node memory.
 #[derive(Clone, Copy)]
-pub struct Tree<'a> {
-    pub sheet: &'a [u8],
-    pub nodes: &'a [u8],
+pub struct Tree<'s, 'n> {
+    pub sheet: &'s [u8],
+    pub nodes: &'n [u8],
 }
 
-impl<'a> Tree<'a> {
+impl<'s, 'n> Tree<'s, 'n> {
     // Where in the sheet the field of node i stands.
     #[tactic(auto, using(crate::proofs::Numbers::quad_is))]
     pub fn node_place(&self, i: usize) -> usize

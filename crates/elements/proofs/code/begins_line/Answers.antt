@@ -25,8 +25,8 @@ overflow_add-n c =
     let r = c.text_at-part.result in
     omega (arith, a.ordered, a.inside, c.trim_start_matches.ensures.within, length-take-le (r.end - r.start) (drop r.start c.args.tree.now.sheet.now) (omega (arith, length-drop r.start c.args.tree.now.sheet.now, a.inside)))
 
-pub bounds-sheet-n : goal.bounds-sheet-n
-bounds-sheet-n c =
+pub bounds-tree-n : goal.bounds-tree-n
+bounds-tree-n c =
     omega (arith, c.if-n-end.true, c.text_at-part.ensures.inside)
 
 pub returns-then-n-end : goal.returns-then-n-end

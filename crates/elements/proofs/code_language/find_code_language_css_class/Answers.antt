@@ -13,7 +13,7 @@ use Rattle.elements.proofs.code_language.find_code_language_css_class.Goals as g
 pub loop-i-init : goal.loop-i-init
 loop-i-init c =
     let a = c.args in
-    left_all find_code_language_css_class a.sheet.now a.nodes.now a.from a.to c.requires
+    left_all find_code_language_css_class a.tree.now.sheet.now a.tree.now.nodes.now a.from a.to c.requires
 
 pub node_name-requires : goal.node_name-requires
 node_name-requires c =
@@ -35,9 +35,9 @@ pub returns-then-node_name-eq24 : goal.returns-then-node_name-eq24
 returns-then-node_name-eq24 c =
     let a = c.args in
     λ parent f h. language_of
-    (sym (left_at c.loop-i.invariant (class_language (attr (ascii "class") (attrs_behind a.sheet.now c.node_place-place.result)))
-    (λ parent g h. css_here a.sheet.now a.nodes.now parent c.loop-i.i a.to g h c.loop-i-test.true (sym c.node_name.ensures ∙ c.if-node_name-eq24.true)
-    ∙ ap (λ (p : ℕ). class_language (attr (ascii "class") (attrs_behind a.sheet.now p))) (sym c.node_place-place.ensures)) parent f h))
+    (sym (left_at c.loop-i.invariant (class_language (attr (ascii "class") (attrs_behind a.tree.now.sheet.now c.node_place-place.result)))
+    (λ parent g h. css_here a.tree.now.sheet.now a.tree.now.nodes.now parent c.loop-i.i a.to g h c.loop-i-test.true (sym c.node_name.ensures ∙ c.if-node_name-eq24.true)
+    ∙ ap (λ (p : ℕ). class_language (attr (ascii "class") (attrs_behind a.tree.now.sheet.now p))) (sym c.node_place-place.ensures)) parent f h))
     c.class_of.ensures
 
 pub loop-i-smaller : goal.loop-i-smaller
@@ -47,8 +47,8 @@ loop-i-smaller c =
 pub loop-i-preserved : goal.loop-i-preserved
 loop-i-preserved c =
     let a = c.args in
-    subst (λ (j : ℕ). Left find_code_language_css_class a.sheet.now a.nodes.now a.from a.to j) (sym c.node_end-i.ensures)
-    (left_on c.loop-i.invariant c.loop-i-test.true (λ parent g h. css_on a.sheet.now a.nodes.now parent c.loop-i.i a.to g h c.loop-i-test.true (λ q. c.if-node_name-eq24.false (c.node_name.ensures ∙ q))))
+    subst (λ (j : ℕ). Left find_code_language_css_class a.tree.now.sheet.now a.tree.now.nodes.now a.from a.to j) (sym c.node_end-i.ensures)
+    (left_on c.loop-i.invariant c.loop-i-test.true (λ parent g h. css_on a.tree.now.sheet.now a.tree.now.nodes.now parent c.loop-i.i a.to g h c.loop-i-test.true (λ q. c.if-node_name-eq24.false (c.node_name.ensures ∙ q))))
 
 pub returns : goal.returns
 unfolding find_code_language_css_class

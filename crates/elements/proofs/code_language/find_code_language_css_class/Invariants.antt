@@ -4,7 +4,7 @@ use Rattle.nodes.proofs.Siblings.{Left}
 use Rattle.elements.proofs.code_language.find_code_language_css_class.Given as goal
 
 abbrev pub invariant-loop-i : goal.invariant-loop-i
-invariant-loop-i l = Left find_code_language_css_class l.sheet l.nodes l.from l.to l.i
+invariant-loop-i l = Left find_code_language_css_class l.tree.sheet.now l.tree.nodes.now l.from l.to l.i
 
 abbrev pub decreases-loop-i : goal.decreases-loop-i
 decreases-loop-i l = l.to - l.i

@@ -9,7 +9,7 @@ use Rattle.elements.proofs.code_language.nearest_language.Goals as goal
 
 pub loop-left-init : goal.loop-left-init
 loop-left-init c =
-    up_all c.args.sheet.now c.args.nodes.now c.args.i c.requires
+    up_all c.args.tree.now.sheet.now c.args.tree.now.nodes.now c.args.i c.requires
 
 pub returns-then-at-eq0 : goal.returns-then-at-eq0
 returns-then-at-eq0 c =
@@ -26,7 +26,7 @@ language_attribute-requires c =
 pub returns-in-Some : goal.returns-in-Some
 returns-in-Some c =
     up_found c.loop-left.invariant c.loop-left-test.true c.if-at-eq0.false
-    (subst (λ (p : ℕ). Valued c.args.sheet.now (Some c.in-Some.language) (language_attr (attrs_behind c.args.sheet.now p))) c.node_place-place.ensures c.in-Some.ensures)
+    (subst (λ (p : ℕ). Valued c.args.tree.now.sheet.now (Some c.in-Some.language) (language_attr (attrs_behind c.args.tree.now.sheet.now p))) c.node_place-place.ensures c.in-Some.ensures)
 
 pub node_parent-at-requires : goal.node_parent-at-requires
 node_parent-at-requires c =
@@ -34,9 +34,9 @@ node_parent-at-requires c =
 
 pub loop-left-preserved : goal.loop-left-preserved
 loop-left-preserved c =
-    subst (λ (k : ℕ). Up c.args.sheet.now c.args.nodes.now c.args.i k (c.loop-left.left - 1)) (sym c.node_parent-at.ensures)
+    subst (λ (k : ℕ). Up c.args.tree.now.sheet.now c.args.tree.now.nodes.now c.args.i k (c.loop-left.left - 1)) (sym c.node_parent-at.ensures)
     (up_on c.loop-left.invariant c.loop-left-test.true c.if-at-eq0.false
-    (subst (λ (p : ℕ). Valued c.args.sheet.now None (language_attr (attrs_behind c.args.sheet.now p))) c.node_place-place.ensures c.in_default.ensures))
+    (subst (λ (p : ℕ). Valued c.args.tree.now.sheet.now None (language_attr (attrs_behind c.args.tree.now.sheet.now p))) c.node_place-place.ensures c.in_default.ensures))
 
 pub returns : goal.returns
 returns c =

@@ -19,4 +19,4 @@ tag_at-requires c =
 
 pub returns : goal.returns
 returns c =
-    λ e. (omega (arith, c.requires.0, c.if-to-from-ne1.false), sym (ap (λ (k : ℕ). get_or c.args.sheet.now k 0) c.node_place-place.ensures) ∙ (sym c.tag_at.ensures ∙ eqb-true c.tag_at.result 4 e))
+    λ e. (omega (arith, c.requires.0, c.if-to-from-ne1.false), sym (ap (λ (k : ℕ). get_or c.args.tree.now.sheet.now k 0) c.node_place-place.ensures) ∙ (sym c.tag_at.ensures ∙ eqb-true c.tag_at.result 4 e))
