@@ -25,7 +25,10 @@ use Rattle.recovery.proofs.Recovered.{recovers_call}
 use Rattle.text.specs.Writes as writes
 use Rattle.text.proofs.Temporary.{back, lent}
 use Rattle.text.proofs.Writing.{yes, no}
-use Rattle.std.specs.Prelude.{Ok, Err}
+use Rattle.std.specs.Prelude.{Ok, Err, Option}
+use Rattle.std.specs.Borrow.{Bor}
+use Rattle.std.specs.Bool.{then_some}
+use Rattle.input.specs.Scans.{skip_list, skip_of}
 use Rattle.input.specs.declared.refusal.Refusal.{Refusal}
 use Rattle.input.specs.declared.refusal.Refusal.TheVariants.{
   SheetLength,
@@ -200,3 +203,10 @@ module _ {sheet : Bytes} {skips : SkipList} {start : ℕ} {withNode : Bool} {nod
       → Promise sheet skips start withNode nodes text (coded_number r) (coded_length r) nodesAfter textAfter
   promised_coded a {r} e p =
       subst₂ (λ (k n : ℕ). Promise sheet skips start withNode nodes text k n nodesAfter textAfter) (sym (ap coded_number e ∙ coded_number_lem a)) (sym (ap coded_length e ∙ coded_length_lem a)) p
+
+-- ---- the skip list of the call for hosts
+
+-- what holds of it holds for the flag and the run
+pub told_by_flag : (P : SkipList → Type 0) (b : Bool) (run : Bor Bytes) {skip : Option (Bor Bytes)} → skip ≡ then_some b run → P (skip_of skip) → P (skip_list b run.now)
+told_by_flag P true run e p = subst (λ (o : Option (Bor Bytes)). P (skip_of o)) e p
+told_by_flag P false run e p = subst (λ (o : Option (Bor Bytes)). P (skip_of o)) e p

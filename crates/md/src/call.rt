@@ -3,7 +3,7 @@ ghost use Rattle.std.specs.Prelude.{◌≡◌, ◌++◌, ◌-◌, ◌≤◌, ◌
 ghost use Rattle.spec.specs.Questions.{refusal};
 ghost use Rattle.spec.specs.Call.{written, answer_for};
 ghost use Rattle.spec.specs.Promise.{Promise};
-ghost use Rattle.input.specs.Scans.{skip_of};
+ghost use Rattle.input.specs.Scans.{skip_list, skip_of};
 ghost use Rattle.text.specs.Writes.{Writes};
 ghost use Rattle.md.specs.Answer.{number_of, length_of, is_written, coded, coded_number, coded_length, flag};
 ghost use Rattle.md.specs.Started.{Started, Answered};
