@@ -19,11 +19,13 @@ use Rattle.tree.specs.Represents.{Rep}
 use Rattle.tree.specs.Nodes.{name_at, skipped_at}
 use Rattle.tree.proofs.Firsts.{rep_le, ended, its_tag, its_body}
 use Rattle.tree.proofs.Kin.{first_skipped}
-use Rattle.text.proofs.Writing.{same_out, keep_then, then_assoc, Owes, owes_all, owes_step, owes_stop, owes_none}
-use Rattle.text.specs.Writes.{Writes}
-use Rattle.text.specs.Writes.{Wrote}
-use Rattle.text.specs.declared.buffer.Full.{Full}
 use Rattle.std.specs.Prelude.{Ok, Err}
+use Rattle.std.specs.Result.{IsErr}
+use Rattle.text.specs.declared.buffer.Full.{Full}
+use Rattle.text.specs.declared.text.Text.{Text}
+use Rattle.text.specs.Texts.{bytes, WritesTo}
+use Rattle.text.proofs.Texts.{Answer, Owes, owes_all, owes_step, owes_stop, owes_none}
+use Rattle.text.proofs.Writing.{same_out, keep_then, then_assoc}
 use Rattle.nodes.specs.Stands.{NodeAt, ElementAt}
 use Rattle.nodes.specs.TextStep.{text_step}
 use Rattle.nodes.specs.Spots.{spot_step, below_spot, next_spot}
@@ -288,38 +290,38 @@ inside_node {skips} {opts} {sh} {ns} {top} {o} {at} i l = its_node sh ns o at (e
 
 -- ---- the loop: what is left at a place, of `whole`
 
-pub record Going (skips : List Bytes) (opts : FormatOpts) (sh ns : Bytes) (top o at room : ℕ) (mid : Bytes) (n : ℕ) (whole : Out) : Type 0 where
+pub record Going (skips : List Bytes) (opts : FormatOpts) (sh ns : Bytes) (top o at : ℕ) (before now : Text) (whole : Step) : Type 0 where
   pub rest : Step
   pub ahead : Ahead skips opts sh ns top o at rest
-  pub owes : Owes room mid n rest whole
+  pub owes : Owes before now rest whole
 
-pub going_start : (skips : List Bytes) (opts : FormatOpts) {sh ns : Bytes} {i : ℕ} {name : Bytes} {attrs : List Attr} {kids : Forest} (d : Bytes) (len : ℕ) → ElementAt sh ns i name attrs kids
-    → (f : Forest) → Rep sh ns i (i + 1) (end_at ns i) f → len ≤ length d
-    → Going skips opts sh ns i i (i + 1) (length d) d len (and_then (write_skip_md skips opts f (take len d)) (closes sh ns i))
+pub going_start : (skips : List Bytes) (opts : FormatOpts) {sh ns : Bytes} {i : ℕ} {name : Bytes} {attrs : List Attr} {kids : Forest} (before : Text) → ElementAt sh ns i name attrs kids
+    → (f : Forest) → Rep sh ns i (i + 1) (end_at ns i) f
+    → Going skips opts sh ns i i (i + 1) before before (both (write_skip_md skips opts f) (closes sh ns i))
 unfolding Behind
-going_start skips opts {sh} {ns} {i} d len x f h l =
+going_start skips opts {sh} {ns} {i} before x f h =
     record {
       rest = both (write_skip_md skips opts f) (closes sh ns i);
       ahead = inside f 0 (closes sh ns i) (record { node = element_node x; positive = x.positive; above = omega arith; within = omega arith }) (omega arith) h (refl, refl);
-      owes = owes_all d len (both (write_skip_md skips opts f) (closes sh ns i)) l refl;
+      owes = owes_all before (both (write_skip_md skips opts f) (closes sh ns i));
     }
 
-module _ {skips : List Bytes} {opts : FormatOpts} {sh ns : Bytes} {top o at room : ℕ} {mid : Bytes} {n : ℕ} {whole : Out} (g : Going skips opts sh ns top o at room mid n whole) where
-  pub going_end : o ≡ 0 → Writes room mid (Ok n) whole
-  going_end z = owes_none g.owes (ap (λ (f : Step). f (take n mid)) (g.ahead.none z))
+module _ {skips : List Bytes} {opts : FormatOpts} {sh ns : Bytes} {top o at : ℕ} {before now : Text} {whole : Step} (g : Going skips opts sh ns top o at before now whole) where
+  pub going_end : o ≡ 0 → WritesTo before now (Ok tt) whole
+  going_end z = owes_none g.owes (ap (λ (f : Step). f (bytes now)) (g.ahead.none z))
 
   module _ (z : o ≡ 0 → ⊥) where
     pub going_inside : Inside skips opts sh ns top o at g.rest
     going_inside = g.ahead.some z
 
-    module _ {r : Wrote} {after : Bytes} (w : Writes (length mid) after r (spot_step opts sh ns o at (take n mid))) where
-      pub going_on : {m : ℕ} {next : Spot} → r ≡ Ok m → next ≡ next_spot skips sh ns top o at → Going skips opts sh ns top next.«open» next.at room after m whole
-      going_on {m} {next} q e =
+    module _ {r : Answer} {after : Text} (w : WritesTo now after r (spot_step opts sh ns o at)) where
+      pub going_on : {u : Unit {0}} {next : Spot} → r ≡ Ok u → next ≡ next_spot skips sh ns top o at → Going skips opts sh ns top next.«open» next.at before after whole
+      going_on {u} {next} q e =
           let t : Turn skips opts sh ns top o at g.rest next = subst (λ (s : Spot). Turn skips opts sh ns top o at g.rest s) (sym e) (turn going_inside) in
-          record { rest = t.left; ahead = t.ahead; owes = owes_step g.owes (spot_step opts sh ns o at) t.left (t.goes (take n mid)) q w }
+          record { rest = t.left; ahead = t.ahead; owes = owes_step g.owes t.left (t.goes (bytes now)) q w }
 
-      pub going_stop : {z : Bytes} {f g : Full} → r ≡ Err f → Writes room z (Err g) whole
-      going_stop q = let t = turn going_inside in owes_stop g.owes (spot_step opts sh ns o at) t.left (t.goes (take n mid)) q w
+      pub going_stop : {f : Full} {s : Answer} → r ≡ Err f → IsErr s → WritesTo before after s whole
+      going_stop q h = let t = turn going_inside in owes_stop g.owes t.left (t.goes (bytes now)) q w h
 
     pub going_less : {next : Spot} → next ≡ next_spot skips sh ns top o at → fall ns top next.«open» next.at < fall ns top o at
     going_less {next} e = subst (λ (s : Spot). fall ns top s.«open» s.at < fall ns top o at) (sym e) (turn going_inside).less

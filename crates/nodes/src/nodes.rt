@@ -10,7 +10,7 @@ ghost use Rattle.tree.specs.Memory.{place_at};
 ghost use Rattle.tree.specs.Represents.{Rep};
 ghost use Rattle.tree.specs.Nodes.{name_at, skipped_at};
 ghost use Rattle.input.specs.Scans.{skip_of};
-ghost use Rattle.text.specs.Writes.{Writes};
+ghost use Rattle.text.specs.Texts.{WritesTo};
 ghost use Rattle.nodes.specs.Stands.{Siblings, NodeAt};
 ghost use Rattle.nodes.specs.TextStep.{text_step};
 
@@ -18,8 +18,8 @@ use crate::white_space::{Begun, has_ended, white_state};
 use input::tag::TEXT;
 use normalized::normalize::push_text_part;
 use spec::ctx::FormatOpts;
-use text::buffer::Wrote;
-use text::by_len::push_all;
+use text::buffer::Full;
+use text::text::Text;
 use tree::names::is_skipped;
 use tree::nodes::{Tree, tag_at, text_at};
 
@@ -56,69 +56,55 @@ pub fn has_element(tree: &Tree, from: usize, to: usize, name: usize) -> bool
 }
 
 // Appends the texts of the nodes from number `from` up to `to`, as they stand in the sheet.
-pub fn push_text_of(
-    tree: &Tree,
-    text: &mut [u8],
-    len: usize,
-    from: usize,
-    to: usize,
-) -> Wrote
-    requires { Siblings tree.now.sheet.now tree.now.nodes.now from to × (len ≤ length text.old) }
-    ensures { (parent : ℕ) (f : Forest) → Rep tree.now.sheet.now tree.now.nodes.now parent from to f → Writes (length text.old) text.new result (push (text_of f) (take len text.old)) }
+pub fn push_text_of(tree: &Tree, text: &mut Text, from: usize, to: usize) -> Result<(), Full>
+    requires { Siblings tree.now.sheet.now tree.now.nodes.now from to }
+    ensures { (parent : ℕ) (f : Forest) → Rep tree.now.sheet.now tree.now.nodes.now parent from to f → WritesTo text.old text.new result (push (text_of f)) }
 {
-    let mut n = len;
     for i in from..to {
         let place = tree.node_place(i);
-        n = push_all(text, n, &tree.sheet[text_at(tree.sheet, place)])?;
+        text.push_all(&tree.sheet[text_at(tree.sheet, place)])?;
     }
-    Ok(n)
+    Ok(())
 }
 
 // Appends the text of node i, if it is one.
-pub fn write_text_node(
-    tree: &Tree,
-    text: &mut [u8],
-    len: usize,
-    i: usize,
-    opts: FormatOpts,
-) -> Wrote
-    requires { NodeAt tree.now.sheet.now tree.now.nodes.now i × (len ≤ length text.old) }
-    ensures { Writes (length text.old) text.new result (text_step opts tree.now.sheet.now (place_at tree.now.nodes.now i) (take len text.old)) }
+pub fn write_text_node(tree: &Tree, text: &mut Text, i: usize, opts: FormatOpts) -> Result<(), Full>
+    requires { NodeAt tree.now.sheet.now tree.now.nodes.now i }
+    ensures { WritesTo text.old text.new result (text_step opts tree.now.sheet.now (place_at tree.now.nodes.now i)) }
 {
     let place = tree.node_place(i);
     if tag_at(tree.sheet, place) != TEXT {
-        return Ok(len);
+        return Ok(());
     }
     let part = text_at(tree.sheet, place);
-    push_text_part(
-        text,
-        len,
+    text.len = push_text_part(
+        text.room,
+        text.len,
         tree.sheet,
         part.start,
         part.end,
         opts.inline,
         opts.skip_escape,
         opts.list_item,
-    )
+    )?;
+    Ok(())
 }
 
 // write_text of the nodes from number `from` up to `to`: it knows no skip list.
 pub fn write_text(
     tree: &Tree,
-    text: &mut [u8],
-    len: usize,
+    text: &mut Text,
     from: usize,
     to: usize,
     opts: FormatOpts,
-) -> Wrote
-    requires { Siblings tree.now.sheet.now tree.now.nodes.now from to × (len ≤ length text.old) }
-    ensures { (parent : ℕ) (f : Forest) → Rep tree.now.sheet.now tree.now.nodes.now parent from to f → Writes (length text.old) text.new result (link.write_text opts f (take len text.old)) }
+) -> Result<(), Full>
+    requires { Siblings tree.now.sheet.now tree.now.nodes.now from to }
+    ensures { (parent : ℕ) (f : Forest) → Rep tree.now.sheet.now tree.now.nodes.now parent from to f → WritesTo text.old text.new result (link.write_text opts f) }
 {
-    let mut n = len;
     for i in from..to {
-        n = write_text_node(tree, text, n, i, opts)?;
+        write_text_node(tree, text, i, opts)?;
     }
-    Ok(n)
+    Ok(())
 }
 
 // Whether the texts of the nodes from number `from` up to `to` together are White_Space.

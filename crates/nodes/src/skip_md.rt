@@ -8,15 +8,15 @@ ghost use Rattle.spec.specs.Tree.{Attr, Forest, nothing, element};
 ghost use Rattle.spec.specs.Md.Elements.Code as def;
 ghost use Rattle.tree.specs.Memory.{end_at};
 ghost use Rattle.input.specs.Scans.{skip_of};
-ghost use Rattle.text.specs.Writes.{Writes};
+ghost use Rattle.text.specs.Texts.{WritesTo};
 ghost use Rattle.nodes.specs.Spots.{below_spot, next_spot, spot_step};
 ghost use Rattle.nodes.specs.Stands.{NodeAt, ElementAt, SomeElement};
 
 use crate::nodes::{node_name, write_text_node};
 use input::tag::OPEN;
 use spec::ctx::FormatOpts;
-use text::buffer::{Wrote, ends_with, ends_with_byte};
-use text::by_len::push_byte;
+use text::buffer::{Full, ends_with, ends_with_byte};
+use text::text::Text;
 use tree::names::is_skipped;
 use tree::nodes::{Tree, tag_at};
 
@@ -31,46 +31,40 @@ pub struct Spot {
 }
 
 // A `br` is a blank where Markdown is left out.
-pub fn blank_for_br(text: &mut [u8], len: usize, name: usize) -> Wrote
-    requires { len ≤ length text.old }
-    ensures { Writes (length text.old) text.new result (def.blank_for_br name (take len text.old)) }
+pub fn blank_for_br(text: &mut Text, name: usize) -> Result<(), Full>
+    ensures { WritesTo text.old text.new result (def.blank_for_br name) }
 {
-    if name != BR {
-        return Ok(len);
+    if name != BR || ends_with_byte(text.bytes(), b' ') {
+        return Ok(());
     }
-    if ends_with_byte(&text[..len], b' ') {
-        return Ok(len);
-    }
-    push_byte(text, len, b' ')
+    text.push_byte(b' ')
 }
 
-fn close_skip_md(text: &mut [u8], len: usize, name: usize) -> Wrote
-    requires { len ≤ length text.old }
-    ensures { Writes (length text.old) text.new result (def.close_skip_md name (take len text.old)) }
+fn close_skip_md(text: &mut Text, name: usize) -> Result<(), Full>
+    ensures { WritesTo text.old text.new result (def.close_skip_md name) }
 {
-    if ends_with(&text[..len], b"\n\n") {
-        return Ok(len);
+    if ends_with(text.bytes(), b"\n\n") {
+        return Ok(());
     }
-    blank_for_br(text, len, name)
+    blank_for_br(text, name)
 }
 
 // The text of the node that follows, or the close of the open element where none follows in it.
 fn write_spot(
     tree: &Tree,
-    text: &mut [u8],
-    len: usize,
+    text: &mut Text,
     open: usize,
     at: usize,
     opts: FormatOpts,
-) -> Wrote
-    requires { NodeAt tree.now.sheet.now tree.now.nodes.now «open» × (at < end_at tree.now.nodes.now «open» → NodeAt tree.now.sheet.now tree.now.nodes.now at) × (len ≤ length text.old) }
-    ensures { Writes (length text.old) text.new result (spot_step opts tree.now.sheet.now tree.now.nodes.now «open» at (take len text.old)) }
+) -> Result<(), Full>
+    requires { NodeAt tree.now.sheet.now tree.now.nodes.now «open» × (at < end_at tree.now.nodes.now «open» → NodeAt tree.now.sheet.now tree.now.nodes.now at) }
+    ensures { WritesTo text.old text.new result (spot_step opts tree.now.sheet.now tree.now.nodes.now «open» at) }
 {
     if at < tree.node_end(open) {
-        return write_text_node(tree, text, len, at, opts);
+        return write_text_node(tree, text, at, opts);
     }
     let name = node_name(tree, open);
-    close_skip_md(text, len, name)
+    close_skip_md(text, name)
 }
 
 // The place behind a node that follows in the open element: in it, if it is an element that is not left out.
@@ -121,41 +115,38 @@ fn next_spot(
 fn write_open_skip_md(
     tree: &Tree,
     skip: Option<&[u8]>,
-    text: &mut [u8],
-    len: usize,
+    text: &mut Text,
     i: usize,
     opts: FormatOpts,
-) -> Wrote
-    requires { SomeElement tree.now.sheet.now tree.now.nodes.now i × (len ≤ length text.old) }
-    ensures { (name : Bytes) (attrs : List Attr) (kids : Forest) → ElementAt tree.now.sheet.now tree.now.nodes.now i name attrs kids → Writes (length text.old) text.new result (and_then (def.write_skip_md (tags_to_skip (skip_of skip.entry)) opts kids (take len text.old)) (def.close_skip_md (tag_of name))) }
+) -> Result<(), Full>
+    requires { SomeElement tree.now.sheet.now tree.now.nodes.now i }
+    ensures { (name : Bytes) (attrs : List Attr) (kids : Forest) → ElementAt tree.now.sheet.now tree.now.nodes.now i name attrs kids → WritesTo text.old text.new result (λ t. and_then (def.write_skip_md (tags_to_skip (skip_of skip.entry)) opts kids t) (def.close_skip_md (tag_of name))) }
 {
-    let mut n = len;
     let mut open = i;
     let mut at = i + 1;
     while open != 0 {
-        n = write_spot(tree, text, n, open, at, opts)?;
+        write_spot(tree, text, open, at, opts)?;
         let next = next_spot(tree, skip, i, open, at);
         open = next.open;
         at = next.at;
     }
-    Ok(n)
+    Ok(())
 }
 
 // The element at node i under skip_md.
 pub fn write_skip_md(
     tree: &Tree,
     skip: Option<&[u8]>,
-    text: &mut [u8],
-    len: usize,
+    text: &mut Text,
     i: usize,
     opts: FormatOpts,
-) -> Wrote
-    requires { SomeElement tree.now.sheet.now tree.now.nodes.now i × (len ≤ length text.old) }
-    ensures { (name : Bytes) (attrs : List Attr) (kids : Forest) → ElementAt tree.now.sheet.now tree.now.nodes.now i name attrs kids → Writes (length text.old) text.new result (def.write_skip_md (tags_to_skip (skip_of skip.entry)) opts (element name attrs kids nothing) (take len text.old)) }
+) -> Result<(), Full>
+    requires { SomeElement tree.now.sheet.now tree.now.nodes.now i }
+    ensures { (name : Bytes) (attrs : List Attr) (kids : Forest) → ElementAt tree.now.sheet.now tree.now.nodes.now i name attrs kids → WritesTo text.old text.new result (def.write_skip_md (tags_to_skip (skip_of skip.entry)) opts (element name attrs kids nothing)) }
 {
     let place = tree.node_place(i);
     if is_skipped(tree.sheet, place, skip) {
-        return Ok(len);
+        return Ok(());
     }
-    write_open_skip_md(tree, skip, text, len, i, opts)
+    write_open_skip_md(tree, skip, text, i, opts)
 }

@@ -1,4 +1,3 @@
-use Rattle.text.proofs.Writing.{stops}
 use mathlib.Core.Path.{refl}
 use Rattle.spec.specs.Bytes.{Bytes}
 use Rattle.nodes.proofs.Appending.{Spells, appends_node, appends_on, appends_stop, appends_end}
@@ -14,19 +13,19 @@ spells = record { none = λ x. refl; joins = λ x s t. refl }
 
 pub node_place-place-requires : goal.node_place-place-requires
 node_place-place-requires c =
-    (appends_node c.loop-i.invariant c.requires.0 c.loop-i-test.true).inside
+    (appends_node c.loop-i.invariant c.requires c.loop-i-test.true).inside
 
 pub text_at-requires : goal.text_at-requires
 text_at-requires c =
-    omega (arith, (appends_node c.loop-i.invariant c.requires.0 c.loop-i-test.true).placed, c.node_place-place.ensures)
+    omega (arith, (appends_node c.loop-i.invariant c.requires c.loop-i-test.true).placed, c.node_place-place.ensures)
 
-pub returns-in_err-n : goal.returns-in_err-n
-returns-in_err-n c =
-    λ parent f k. stops c.from_residual.ensures.0 (appends_stop c.loop-i.invariant spells c.loop-i-test.true c.node_place-place.ensures c.text_at.ensures.bytes_are c.in_err-n.was c.push_all.ensures parent f k)
+pub returns-in_err-push_all : goal.returns-in_err-push_all
+returns-in_err-push_all c =
+    appends_stop c.loop-i.invariant spells c.loop-i-test.true c.node_place-place.ensures c.text_at.ensures.bytes_are c.push_all.ensures c.in_err-push_all.was c.from_residual.ensures.0
 
 pub loop-i-preserved : goal.loop-i-preserved
 loop-i-preserved c =
-    appends_on c.loop-i.invariant spells c.loop-i-test.true c.node_place-place.ensures c.text_at.ensures.bytes_are refl c.in_ok-n.was c.push_all.ensures
+    appends_on c.loop-i.invariant spells c.loop-i-test.true c.node_place-place.ensures c.text_at.ensures.bytes_are c.push_all.ensures refl c.in_ok-push_all.was
 
 pub returns : goal.returns
 returns c =

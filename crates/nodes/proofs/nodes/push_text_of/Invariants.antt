@@ -1,4 +1,3 @@
-use lib.ListN.{length, take}
 use Rattle.spec.specs.Bytes.{Bytes}
 use Rattle.nodes.proofs.Appending.{Appends}
 use Rattle.nodes.proofs.nodes.push_text_of.Given as goal
@@ -8,4 +7,4 @@ abbrev itself : Unit {0} → Bytes → Bytes
 itself x s = s
 
 abbrev pub invariant-loop-i : goal.invariant-loop-i
-invariant-loop-i l = Appends itself l.tree.sheet.now l.tree.nodes.now l.from l.to tt (take l.len l.initial.text) (length l.initial.text) l.text l.n l.i tt
+invariant-loop-i l = Appends itself l.tree.sheet.now l.tree.nodes.now l.from l.to tt l.initial.text l.text l.i tt
