@@ -11,7 +11,7 @@ ghost use Rattle.tree.specs.Represents.{attrs_behind};
 ghost use Rattle.text.specs.Writes.{Writes};
 
 use crate::link::push_link_end;
-use normalized::normalize::push_normalized_text;
+use normalized::by_len::push_normalized_text;
 use spec::ctx::FormatOpts;
 use text::buffer::{Wrote, trim_end_matches, trim_start_matches};
 use text::by_len::push_all;

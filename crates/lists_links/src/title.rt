@@ -9,8 +9,7 @@ ghost use Rattle.spec.specs.Md.TextUtils as def;
 ghost use Rattle.text.specs.Source.{WritesIn};
 ghost use Rattle.text.specs.Writes.{Writes};
 
-use normalized::normalize::push_normalized_text;
-use normalized::normalize_own::put_escaped;
+use normalized::by_len::{push_normalized_text, put_escaped};
 use spec::ctx::FormatOpts;
 use text::buffer::{Wrote, contains_byte, lift};
 use text::by_len::{push_all, push_byte};

@@ -16,7 +16,7 @@ ghost use Rattle.nodes.specs.TextStep.{text_step};
 
 use crate::white_space::{Begun, has_ended, white_state};
 use input::tag::TEXT;
-use normalized::normalize::push_text_part;
+use normalized::by_len::push_text_part;
 use spec::ctx::FormatOpts;
 use text::buffer::Full;
 use text::text::Text;

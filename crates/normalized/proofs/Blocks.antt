@@ -15,14 +15,12 @@ use Rattle.spec.specs.Md.Constants.{ALWAYS_ESCAPED}
 use Rattle.spec.specs.Md.TextUtils.{is_escaped}
 use Rattle.normalized.specs.Blocks.{signed, Signs, BlockAt, Appends}
 use Rattle.text.specs.Flow.{added, flow_before, plain, Plain}
-use Rattle.text.specs.Writes.{Writes, Written}
+use Rattle.text.specs.Writes.{Written}
 use Rattle.normalized.specs.declared.fast_copy.Block.{Block}
-use Rattle.std.specs.Prelude.{Ok}
 use Rattle.text.proofs.Ordinary.{not_escaped}
 use Rattle.normalized.proofs.Flowing.{blank_added}
 use Rattle.text.proofs.Sourcing.{slice_on, follows_some}
-use Rattle.text.proofs.Writing.{alike}
-use Rattle.normalized.proofs.Streaming.{added_black, slice_join}
+use Rattle.normalized.proofs.Streaming.{added_black, slice_join, rest_is}
 use Rattle.normalized.proofs.Wording.{slice_front}
 
 -- ---- the signs, one by one
@@ -146,36 +144,37 @@ block_step {d} {now} {len} {n} signs s at i p h k =
     subst₂ (λ (m j : ℕ). Appends d (set (set now n 92) (n + get_or signs i 0) b) len (n + get_or signs i 0 + 1) m (signed signs s at j)) z (sym (add-one i)) (appends_next p h (get_or signs i 0) b k)
 
 -- what is appended where there is room for the most that it may be
-pub appends_done : {d after : Bytes} {len n most : ℕ} {x : Bytes} → Appends d after len n most x → len + most ≤ length d → Writes (length d) after (Ok n) (push x (take len d))
+pub appends_done : {d after : Bytes} {len n most : ℕ} {x : Bytes} → Appends d after len n most x → len + most ≤ length d → Written (length d) after n (push x (take len d))
 unfolding push
 appends_done {d} {after} {len} {n} {most} {x} p h =
     let c : n ≡ length (take len d ++ x) = sym (length-take-le n after (omega (arith, p.reach, p.long))) ∙ ap length p.text_is in
-    record { says = record { long = p.long; fits = omega (arith, c, p.reach, length-append (take len d) x); count = c; text_is = p.text_is } }
+    record { long = p.long; fits = omega (arith, c, p.reach, length-append (take len d) x); count = c; text_is = p.text_is }
 
 -- ---- a stretch that is a block
 
 -- 16 bytes, with a byte behind them, and room for the most that they may add
-pub record Fit (from stop to room len : ℕ) : Type 0 where
-  pub sixteen : stop ≡ from + 16
-  pub followed : stop < to
+pub record Fit (n long room len : ℕ) : Type 0 where
+  pub sixteen : n ≡ 16
+  pub followed : 16 < long
   pub roomy : len + 32 ≤ room
 
-pub fit : (from stop to room len : ℕ) → from ≤ stop → len ≤ room → eqb (stop - from) 16 && (ltb stop to && leb 32 (room - len)) ≡ true → Fit from stop to room len
-fit from stop to room len h k e =
-    let b = (and-eq-true_iff (eqb (stop - from) 16) (ltb stop to && leb 32 (room - len))).0 e in
-    let c = (and-eq-true_iff (ltb stop to) (leb 32 (room - len))).0 b.1 in
+pub fit : (n long room len : ℕ) → len ≤ room → eqb n 16 && (ltb 16 long && leb 32 (room - len)) ≡ true → Fit n long room len
+fit n long room len k e =
+    let b = (and-eq-true_iff (eqb n 16) (ltb 16 long && leb 32 (room - len))).0 e in
+    let c = (and-eq-true_iff (ltb 16 long) (leb 32 (room - len))).0 b.1 in
     record {
-      sixteen = omega (arith, eqb-true (stop - from) 16 b.0);
-      followed = ltb-true stop to c.0;
+      sixteen = eqb-true n 16 b.0;
+      followed = ltb-true 16 long c.0;
       roomy = omega (arith, leb-true 32 (room - len) c.1);
     }
 
-pub block_writes : {escape : Bool} {s text after : Bytes} {from stop len n : ℕ} {block : Block} → Fit from stop (length s) (length text) len → BlockAt escape s from block → block.even ≡ true
-    → Appends text after len n 32 (signed block.signs s from 16) → Writes (length text) after (Ok n) (push (flow_before escape (slice from stop s) (slice stop (length s) s)) (take len text))
-block_writes {escape} {s} {text} {after} {from} {stop} {len} f b e a =
-    alike
-    (ap (λ (j : ℕ). push (flow_before escape (slice from j s) (slice j (length s) s)) (take len text)) f.sixteen
-    ∙ ap (λ (x : Bytes). push x (take len text)) (sym (signed_flow {to = length s} b.marked (b.spaced e) (omega (arith, f.sixteen, f.followed)) (omega arith))))
+pub block_writes : {escape : Bool} {s text after : Bytes} {n len m : ℕ} {block : Block} → Fit n (length s) (length text) len → BlockAt escape s 0 block → block.even ≡ true
+    → Appends text after len m 32 (signed block.signs s 0 16) → Written (length text) after m (push (flow_before escape (take n s) (drop n s)) (take len text))
+block_writes {escape} {s} {text} {after} {n} {len} {m} f b e a =
+    subst (λ (x : Bytes). Written (length text) after m (push x (take len text)))
+    (signed_flow {to = length s} b.marked (b.spaced e) f.followed (omega arith)
+    ∙ ap (λ (x : Bytes). flow_before escape (take 16 s) x) (rest_is 16 s)
+    ∙ ap (λ (j : ℕ). flow_before escape (take j s) (drop j s)) (sym f.sixteen))
     (appends_done a f.roomy)
 
 -- ---- a part that is copied in blocks, the last of which may reach behind it

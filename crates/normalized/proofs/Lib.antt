@@ -6,4 +6,3 @@ pub mod Starting
 pub mod Streaming
 pub mod Blocks
 pub mod Normal
-pub mod OwnCopy

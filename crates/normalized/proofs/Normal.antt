@@ -17,10 +17,7 @@ use Rattle.text.specs.Class.{ordinary}
 use Rattle.text.specs.Flow.{starts_black, flow, flow_before}
 use Rattle.normalized.specs.Words.{WordAt, WordEnd}
 use Rattle.normalized.specs.Layout.{LineSign, Laid}
-use Rattle.text.specs.Writes.{Writes}
-use Rattle.text.specs.Writes.{Wrote}
 use Rattle.text.proofs.Sourcing.{part_none}
-use Rattle.text.proofs.Writing.{alike, alike_answer}
 use Rattle.normalized.proofs.Flowing.{added_ordinary, words_flow}
 use Rattle.normalized.proofs.Streaming.{begins_some, flow_from}
 use Rattle.normalized.proofs.Wording.{slice_front}
@@ -61,14 +58,9 @@ words_opts o p text s [] a b c = refl
 words_opts o p text s (w ∷ ws) a b c = rw (a, b, c)
 
 -- three of them matter
-normal_opts : (o p : FormatOpts) (s text : List ℕ) → o.inline ≡ p.inline → o.skip_escape ≡ p.skip_escape → o.list_item ≡ p.list_item → push_normalized_text s o text ≡ push_normalized_text s p text
+pub normal_opts : (o p : FormatOpts) (s text : List ℕ) → o.inline ≡ p.inline → o.skip_escape ≡ p.skip_escape → o.list_item ≡ p.list_item → push_normalized_text s o text ≡ push_normalized_text s p text
 unfolding push_normalized_text normalized
 normal_opts o p s text a b c = rw (words_opts o p text s (words s) a b c)
-
--- an answer under options that say the same of them
-pub normal_as : (s : List ℕ) (o p : FormatOpts) (t : List ℕ) {room : ℕ} {after : List ℕ} {r w : Wrote} → o.inline ≡ p.inline → o.skip_escape ≡ p.skip_escape → o.list_item ≡ p.list_item → r ≡ w
-    → Writes room after w (push_normalized_text s p t) → Writes room after r (push_normalized_text s o t)
-normal_as s o p t a b c e w = alike_answer e (alike (normal_opts o p s t a b c) w)
 
 -- ---- the text
 

@@ -8,14 +8,14 @@ ghost use Rattle.spec.specs.Md.Constants.{ALWAYS_ESCAPED};
 ghost use Rattle.spec.specs.Md.TextUtils as def;
 ghost use Rattle.spec.specs.declared.ctx.FormatOpts as Opts;
 ghost use Rattle.text.specs.Flow.{plain, Plain, Flows};
-ghost use Rattle.text.specs.Writes.{Writes};
+ghost use Rattle.text.specs.Texts.{WritesTo};
 ghost use Rattle.normalized.specs.Blocks.{signed, BlockAt, Appends};
 ghost use Rattle.normalized.specs.Verbatim.{Whole};
 
 use crate::line_start::begins_bare;
-use text::buffer::{Full, Wrote};
-use text::by_len::push_all;
+use text::buffer::Full;
 use text::class::{ByteClass, Digit};
+use text::text::Text;
 
 // Whether b stands in a text as it is, `next` behind it: a byte that is not white and, where signs are escaped, ordinary, or a
 // blank before no white byte. Some that would are left out, so that few ranges of bytes are left.
@@ -195,25 +195,26 @@ fn put_bytes(text: &mut [u8], len: usize, b: [u8; 16])
 
 // Appends a part as it is, in blocks of 16 bytes, the last of which may reach behind it: bytes behind the text are left to the
 // program. A block is read whole before it is stored, so that both are one step.
-pub fn push_part(text: &mut [u8], len: usize, src: &[u8], from: usize, to: usize) -> Wrote
-    requires { (len ≤ length text.old) × (from ≤ to) × (to ≤ length src.now) }
-    ensures { Writes (length text.old) text.new result (push (slice from to src.now) (take len text.old)) }
+pub fn push_part(text: &mut Text, src: &[u8], from: usize, to: usize) -> Result<(), Full>
+    requires { (from ≤ to) × (to ≤ length src.now) }
+    ensures { WritesTo text.old text.new result (push (slice from to src.now)) }
 {
     let n = to - from;
-    let left = text.len() - len;
+    let left = text.room.len() - text.len;
     if left < n {
         return Err(Full);
     }
     if (left - n < 16) | (src.len() - to < 16) {
-        return push_all(text, len, &src[from..to]);
+        return text.push_all(&src[from..to]);
     }
     let mut i = 0;
     while i < n {
         let b = bytes_at(src, from + i);
-        put_bytes(text, len + i, b);
+        put_bytes(text.room, text.len + i, b);
         i += 16;
     }
-    Ok(len + n)
+    text.len += n;
+    Ok(())
 }
 
 // No `matches!`: a switch would keep LLVM from testing 16 bytes at once.

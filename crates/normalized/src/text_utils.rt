@@ -10,7 +10,10 @@ ghost use Rattle.text.specs.Trimmed.{Trimmed};
 ghost use Rattle.text.specs.Texts.{WritesTo};
 
 use input::fields::is_same;
-use text::buffer::{Full, all_in, drop_front, ends_with, ends_with_byte, ends_with_either, ends_with_white, trim_end_matches, trim_start_matches};
+use text::buffer::{
+    Full, all_in, drop_front, ends_with, ends_with_byte, ends_with_either, ends_with_white,
+    trim_end_matches, trim_start_matches,
+};
 use text::class::{Blank, Digit, InWord, White};
 use text::text::Text;
 

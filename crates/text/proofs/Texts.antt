@@ -2,7 +2,7 @@
 use Prim.Native.Nat.{ℕ, ◌+◌, ◌-◌, ◌≤◌, ◌<◌}
 use mathlib.Core.Path.{◌≡◌, refl, sym, subst, subst₂, ap, ◌∙◌}
 use mathlib.Core.Bool.{false≢true}
-use mathlib.Core.List.{List, []}
+use mathlib.Core.List.{List, [], ◌++◌}
 use native.Mathlib.Omega.{arith}
 use borrow.Rule.Slice.PartMut.{put_mid}
 use lib.ListN.{length, take}
@@ -14,7 +14,7 @@ use Rattle.text.specs.declared.text.Text.{Text}
 use Rattle.text.specs.Writes.{Written, Refused, Says, Writes, Wrote}
 use Rattle.text.specs.Texts.{bytes, wrote, WritesTo}
 use Rattle.text.proofs.Pushing.{put_done, push_full}
-use Rattle.text.proofs.Writing.{alike, then, refused, keeps, keeps_nothing}
+use Rattle.text.proofs.Writing.{alike, then, refused, keeps, keeps_nothing, push_both}
 
 abbrev pub Answer : Type 0
 Answer = Result (Unit {0}) Full
@@ -96,3 +96,11 @@ module _ {a b : Text} {rest whole : Step} (p : Owes a b rest whole) where
   -- nothing is left
   pub owes_none : rest (bytes b) ≡ keep (bytes b) → WritesTo a b (Ok tt) whole
   owes_none e = owes_last e (kept b)
+
+-- ---- one push after another
+module _ {a b : Text} {q : Answer} (x y : List ℕ) where
+  pub push_next : {c : Text} {r : Answer} {u : Unit {0}} → q ≡ Ok u → WritesTo a b q (push x) → WritesTo b c r (push y) → WritesTo a c r (push (x ++ y))
+  push_next e v w = as_step (push_both x y (bytes a)) (next e v w)
+
+  pub push_stopped : {r : Answer} {f : Full} → q ≡ Err f → WritesTo a b q (push x) → IsErr r → WritesTo a b r (push (x ++ y))
+  push_stopped e v h = as_step (push_both x y (bytes a)) (stop (push y) e v h)

@@ -1,10 +1,9 @@
-use lib.ListN.{length, take}
+use Rattle.std.proofs.Common.{take, drop}
 use lib.Seq.{slice}
 use Rattle.spec.specs.Out.{push}
 use Rattle.text.specs.Flow.{flow_before}
-use Rattle.text.proofs.Writing.{Owes}
+use Rattle.text.proofs.Texts.{Owes}
 use Rattle.normalized.proofs.normalize.push_bytes.Given as goal
 
 abbrev pub invariant-loop-i : goal.invariant-loop-i
-invariant-loop-i l =
-    Owes (length l.initial.text) l.text l.n (push (flow_before l.escape (slice l.i l.stop l.s) (slice l.stop (length l.s) l.s))) (push (flow_before l.escape (slice l.from l.stop l.s) (slice l.stop (length l.s) l.s)) (take l.len l.initial.text))
+invariant-loop-i l = Owes l.fn.text l.text (push (flow_before l.escape (slice l.i l.n l.s) (drop l.n l.s))) (push (flow_before l.escape (take l.n l.s) (drop l.n l.s)))

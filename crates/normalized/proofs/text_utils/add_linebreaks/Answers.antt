@@ -1,6 +1,5 @@
 use Rattle.std.proofs.Common.{◌≡◌, ◌+◌, ◌-◌, ◌∙◌, ℕ, List, subst, ap, refl, sym, length, arith}
 use Rattle.spec.specs.Bytes.{ends_with}
-use Rattle.spec.specs.Out.{push, and_then}
 use Rattle.spec.specs.Md.TextUtils.{add_linebreaks, breaks_until, trim_trailing_space, trim_blanks}
 use Rattle.text.specs.Texts.{bytes}
 use Rattle.text.specs.Trimmed.{Trimmed}

@@ -1,4 +1,4 @@
-use Rattle.std.proofs.Common.{Bool, ◌||◌, ◌≡◌, true, false, ap, sym, ◌∙◌}
+use Rattle.std.proofs.Common.{Bool, ◌||◌, ap, sym, ◌∙◌}
 use lib.Dec.{eqb}
 use lib.Seq.{length-take-le}
 use Rattle.text.specs.Texts.{bytes}

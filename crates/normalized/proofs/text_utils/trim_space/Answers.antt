@@ -1,4 +1,4 @@
-use Rattle.std.proofs.Common.{refl, ◌≡◌, ℕ, List, length, take, subst, ap, ◌∙◌, arith}
+use Rattle.std.proofs.Common.{refl, ◌≡◌, ℕ, List, take, subst, ap, ◌∙◌, arith}
 use lib.Seq.{take-take, length-take-le}
 use Rattle.spec.specs.Bytes.{one, white, trim_end_matches, trim_start_matches}
 use Rattle.text.specs.Trimmed.{Trimmed, Skipped}
