@@ -13,7 +13,7 @@ ghost use Rattle.nodes.specs.Stands.{Siblings, ElementAt, Placed};
 
 use crate::code_language::find_code_language;
 use marks::code::{push_code_text, push_fenced_block};
-use nodes::nodes::push_text_of;
+use nodes::by_len::push_text_of;
 use normalized::by_len::push_block_space;
 use spec::ctx::FormatOpts;
 use text::buffer::{Full, Wrote};

@@ -2,6 +2,7 @@
 
 #![tactic(auto)]
 
+pub mod by_len;
 pub mod nodes;
 pub mod skip_md;
 pub mod white_space;

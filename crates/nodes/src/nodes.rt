@@ -16,7 +16,7 @@ ghost use Rattle.nodes.specs.TextStep.{text_step};
 
 use crate::white_space::{Begun, has_ended, white_state};
 use input::tag::TEXT;
-use normalized::by_len::push_text_part;
+use normalized::normalize::push_text_part;
 use spec::ctx::FormatOpts;
 use text::buffer::Full;
 use text::text::Text;
@@ -77,17 +77,15 @@ pub fn write_text_node(tree: &Tree, text: &mut Text, i: usize, opts: FormatOpts)
         return Ok(());
     }
     let part = text_at(tree.sheet, place);
-    text.len = push_text_part(
-        text.room,
-        text.len,
+    push_text_part(
+        text,
         tree.sheet,
         part.start,
         part.end,
         opts.inline,
         opts.skip_escape,
         opts.list_item,
-    )?;
-    Ok(())
+    )
 }
 
 // write_text of the nodes from number `from` up to `to`: it knows no skip list.

@@ -9,7 +9,7 @@ ghost use Rattle.text.specs.Writes.{Writes};
 ghost use Rattle.nodes.specs.Stands.{NodeAt};
 ghost use Rattle.nodes.specs.TextStep.{text_step};
 
-use nodes::nodes::write_text_node;
+use nodes::by_len::write_text_node;
 use normalized::by_len::trim_space;
 use spec::ctx::FormatOpts;
 use text::buffer::{Wrote, all_in};
