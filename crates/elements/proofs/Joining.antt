@@ -16,7 +16,7 @@ use Rattle.std.specs.Prelude.{Result, Ok, Err}
 use Rattle.std.specs.Result.{IsErr}
 use Rattle.text.specs.Writes.{Writes, no_room}
 use Rattle.text.specs.declared.buffer.Full.{Full}
-use Rattle.nodes.proofs.Appending.{Spells}
+use Rattle.nodes.proofs.AppendingByLen.{Spells}
 
 -- ---- all pieces together
 

@@ -1,6 +1,7 @@
 -- What the proofs of several functions use.
 pub mod Numbers
 pub mod Appending
+pub mod AppendingByLen
 pub mod Siblings
 pub mod Tests
 pub mod Whites

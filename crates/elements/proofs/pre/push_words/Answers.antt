@@ -2,7 +2,7 @@ use mathlib.Core.Path.{refl, ap, ap₂}
 use mathlib.Core.Bool.{Bool, false}
 use Rattle.text.proofs.Writing.{alike, stops}
 use Rattle.elements.specs.JoinedWords.{wrote_of}
-use Rattle.nodes.proofs.Appending.{appends_all, appends_node, appends_on, appends_stop, appends_end}
+use Rattle.nodes.proofs.AppendingByLen.{appends_all, appends_node, appends_on, appends_stop, appends_end}
 use Rattle.elements.proofs.Joining.{words_in, words_spell, words_all}
 use native.Mathlib.Omega.{arith}
 use Rattle.elements.proofs.pre.push_words.Goals as goal

@@ -1,6 +1,6 @@
 use mathlib.Core.Bool.{false}
 use lib.ListN.{length, take}
-use Rattle.nodes.proofs.Appending.{Appends}
+use Rattle.nodes.proofs.AppendingByLen.{Appends}
 use Rattle.elements.proofs.Joining.{words_in}
 use Rattle.elements.proofs.pre.push_words.Given as goal
 
