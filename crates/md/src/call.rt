@@ -11,8 +11,8 @@ ghost use Rattle.md.specs.Started.{Started, Answered};
 use input::questions::first_refusal;
 use input::refusal::Refusal;
 use normalized::by_len::trim_space;
+use serializer::MDSerializer;
 use serializer::options::packed;
-use serializer::write;
 use spec::ctx::FormatOpts;
 use text::buffer::{Full, Wrote};
 use tree::memory::clear;
@@ -33,17 +33,7 @@ fn write_inside(
     let first = start + 1;
     let end = Tree { sheet, nodes }.node_end(start);
     let opts = FormatOpts::new();
-    let n = write(
-        sheet,
-        skip,
-        nodes,
-        text,
-        0,
-        first,
-        end,
-        packed(opts),
-        101,
-    )?;
+    let n = MDSerializer { sheet, skip }.write(nodes, text, 0, first, end, packed(opts), 101)?;
     Ok(trim_space(text, n))
 }
 
@@ -64,7 +54,7 @@ fn write_whole(
     let to = Tree { sheet, nodes }.node_end(start);
     let opts = FormatOpts::new().include_node();
     let bits = packed(opts);
-    write(sheet, skip, nodes, text, 0, start, to, bits, 101)
+    MDSerializer { sheet, skip }.write(nodes, text, 0, start, to, bits, 101)
 }
 
 // serializer.rs, `serialize`: the text from the start node.

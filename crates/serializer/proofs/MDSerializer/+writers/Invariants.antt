@@ -14,7 +14,7 @@ use Rattle.spec.specs.Md.Serializer.{serializer, write_nodes}
 use Rattle.tree.specs.Memory.{Kept}
 use lib.ListN.{take, length}
 use mathlib.Core.Path.{◌≡◌}
-use Rattle.serializer.proofs.+writers.Given as goal
+use Rattle.serializer.proofs.MDSerializer.+writers.Given as goal
 
 abbrev pub decreases-alone : goal.decreases-alone
 decreases-alone l = l.levels * 147573952589676412928 + 6
@@ -98,34 +98,34 @@ abbrev pub decreases-write_table : goal.decreases-write_table
 decreases-write_table l = l.levels * 147573952589676412928 + 6
 
 abbrev pub invariant-cells-loop-r : goal.invariant-cells-loop-r
-invariant-cells-loop-r l = RowsProgress (serializer (tags_to_skip (skip_of l.skip)) l.levels) l.opts l.sheet l.initial.nodes l.nodes l.from l.to l.r l.initial.text l.text l.len l.end
+invariant-cells-loop-r l = RowsProgress (serializer (tags_to_skip (skip_of l.self.skip)) l.levels) l.opts l.self.sheet.now l.initial.nodes l.nodes l.from l.to l.r l.initial.text l.text l.len l.end
 
 abbrev pub decreases-cells-loop-r : goal.decreases-cells-loop-r
 decreases-cells-loop-r l = l.to - l.r
 
 abbrev pub invariant-children-loop-c : goal.invariant-children-loop-c
-invariant-children-loop-c l = (l.going.len ≤ length l.text) × (length l.text ≡ length l.initial.text) × Kept l.from l.to l.initial.nodes l.nodes × (l.from ≤ l.c) × Placeds l.sheet l.initial.nodes l.c l.to
-    × GoingOn l.sheet l.initial.nodes l.from l.to (λ anc f. item_children (self_at l.skip l.levels) anc f (item_of l.item) (progress_of l.initial.going l.initial.text)) (length l.initial.text) (self_at l.skip l.levels) (item_of l.item) l.text l.c l.going
+invariant-children-loop-c l = (l.going.len ≤ length l.text) × (length l.text ≡ length l.initial.text) × Kept l.from l.to l.initial.nodes l.nodes × (l.from ≤ l.c) × Placeds l.self.sheet.now l.initial.nodes l.c l.to
+    × GoingOn l.self.sheet.now l.initial.nodes l.from l.to (λ anc f. item_children (self_at l.self.skip l.levels) anc f (item_of l.item) (progress_of l.initial.going l.initial.text)) (length l.initial.text) (self_at l.self.skip l.levels) (item_of l.item) l.text l.c l.going
 
 abbrev pub decreases-children-loop-c : goal.decreases-children-loop-c
 decreases-children-loop-c l = l.to - l.c
 
 abbrev pub invariant-items-loop-c : goal.invariant-items-loop-c
-invariant-items-loop-c l = (l.end ≤ length l.text) × (length l.text ≡ length l.initial.text) × Kept l.from l.to l.initial.nodes l.nodes × (l.from ≤ l.c) × Placeds l.sheet l.initial.nodes l.c l.to × FitsIn l.ctx l.levels
-    × Turn l.sheet l.initial.nodes l.from l.to (λ anc f. list_children (self_at l.skip l.levels) anc f l.initial.ctx (take l.len l.initial.text)) (length l.initial.text) (λ anc f. list_children (self_at l.skip l.levels) anc f l.ctx) l.text l.c l.end
+invariant-items-loop-c l = (l.end ≤ length l.text) × (length l.text ≡ length l.initial.text) × Kept l.from l.to l.initial.nodes l.nodes × (l.from ≤ l.c) × Placeds l.self.sheet.now l.initial.nodes l.c l.to × FitsIn l.ctx l.levels
+    × Turn l.self.sheet.now l.initial.nodes l.from l.to (λ anc f. list_children (self_at l.self.skip l.levels) anc f l.initial.ctx (take l.len l.initial.text)) (length l.initial.text) (λ anc f. list_children (self_at l.self.skip l.levels) anc f l.ctx) l.text l.c l.end
 
 abbrev pub decreases-items-loop-c : goal.decreases-items-loop-c
 decreases-items-loop-c l = l.to - l.c
 
 abbrev pub invariant-row-loop-c : goal.invariant-row-loop-c
-invariant-row-loop-c l = RowProgress (serializer (tags_to_skip (skip_of l.skip)) l.levels) l.opts l.sheet l.initial.nodes l.nodes l.tr l.to l.c l.initial.text l.text l.len l.end
+invariant-row-loop-c l = RowProgress (serializer (tags_to_skip (skip_of l.self.skip)) l.levels) l.opts l.self.sheet.now l.initial.nodes l.nodes l.tr l.to l.c l.initial.text l.text l.len l.end
 
 abbrev pub decreases-row-loop-c : goal.decreases-row-loop-c
 decreases-row-loop-c l = l.to - l.c
 
 abbrev pub invariant-write-loop-at : goal.invariant-write-loop-at
-invariant-write-loop-at l = (l.end ≤ length l.text) × (length l.text ≡ length l.initial.text) × Kept l.from l.to l.initial.nodes l.nodes × (l.from ≤ l.at) × Placeds l.sheet l.initial.nodes l.at l.to
-    × Turn l.sheet l.initial.nodes l.from l.to (λ anc f. write_nodes (self_at l.skip (l.levels - 1)) anc (unpacked l.bits) f (take l.len l.initial.text)) (length l.initial.text) (λ anc f. write_nodes (self_at l.skip (l.levels - 1)) anc (unpacked l.bits) f) l.text l.at l.end
+invariant-write-loop-at l = (l.end ≤ length l.text) × (length l.text ≡ length l.initial.text) × Kept l.from l.to l.initial.nodes l.nodes × (l.from ≤ l.at) × Placeds l.self.sheet.now l.initial.nodes l.at l.to
+    × Turn l.self.sheet.now l.initial.nodes l.from l.to (λ anc f. write_nodes (self_at l.self.skip (l.levels - 1)) anc (unpacked l.bits) f (take l.len l.initial.text)) (length l.initial.text) (λ anc f. write_nodes (self_at l.self.skip (l.levels - 1)) anc (unpacked l.bits) f) l.text l.at l.end
 
 abbrev pub decreases-write-loop-at : goal.decreases-write-loop-at
 decreases-write-loop-at l = l.to - l.at

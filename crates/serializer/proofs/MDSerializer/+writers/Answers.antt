@@ -1,0 +1,1802 @@
+use Prim.Native.Nat.{ℕ, ◌+◌, ◌-◌, ◌<◌, ◌≤◌}
+use Rattle.elements.proofs.Languages.{around_it}
+use Rattle.elements.proofs.Links.{link_is, emphasis_is}
+use Rattle.elements.proofs.Nesting.{back_text}
+use Rattle.elements.specs.EmphasisStep.{emphasis_step}
+use Rattle.elements.specs.ItemStep.{ended_list}
+use Rattle.elements.specs.LinkStep.{link_step, text_link_step}
+use Rattle.input.specs.Scans.{skip_of}
+use Rattle.tree.proofs.Values.{part_short}
+use Rattle.lists_links.specs.Items.{item_of, ended_item}
+use Rattle.nodes.proofs.Interrupts.{element_kids, element_name}
+use Rattle.nodes.specs.Stands.{Placeds, ElementAt, NodeAt, Placed, PlacedNode}
+use Rattle.serializer.proofs.Answers.{stops_element, stops_forest, stops_row, stops_rows, both-full, nest-done, nest-full, nest-fits, written-reaches, forest-reaches, below-wrote, both-done, forest-long}
+use Rattle.serializer.proofs.Dispatch.{by_list, by_link, by_img, by_pre, by_table, by_code, by_emphasis}
+use Rattle.serializer.proofs.Falls.{falls_in, falls_out}
+use Rattle.serializer.proofs.Gathered.{behind_count, behind_bytes}
+use Rattle.serializer.proofs.Goings.{stops_forest as stops_going, err_is, went, went_full, going_first, going_on, going_stop, going_last}
+use Rattle.serializer.proofs.ItemBlocks.{block_rule, block_led, fits_alike, element_reaches, body_pre, flow_none, flow_full, flow_done, node_range, indented_fits, indented_done, indented_full, child_offset, inline_none, inline_done, led_none, led_full, led_done}
+use Rattle.serializer.proofs.ItemChild.{block_tag_lem, alone_none, alone_inline, alone_block, child_comment, child_skipped, child_wrapper, child_alone, wrapper_kids, kids_fall, alone_falls, child_falls, goes_before}
+use Rattle.serializer.proofs.Levels.{write_some, write_none, nodes_first, nodes_none}
+use Rattle.serializer.proofs.LinkTo.{shown_text, to_image, to_body, to_text, text_grown, shown_null, null_none, null_more, link_some, link_none}
+use Rattle.serializer.proofs.Lists.{fits_in, fits_blocks, falls_children, blocks_parts, fits_item, item_parts, fits_plain, head_other, item_placed, head_item, fits_child, fits_behind, list_none, list_first, fits_begun, list_parts}
+use Rattle.serializer.proofs.NodeSteps.{inside_writer, inside_plain, some_one, kids_is, one_is, alone_element, node_text, element_skipped, element_opened}
+use Rattle.serializer.proofs.Placing.{placeds_at, node_placed, placed_node, placed_kids, placeds_first, placeds_on, placeds_later, placeds_within, node_kept, placed_alone, writes_before, node_element, alone_writes}
+use Rattle.serializer.proofs.RowWriting.{row_start, row_reach, row_long, row_end, row_placed, row_inside, row_kept, row_behind, row_later, row_writes, row_stop, row_on}
+use Rattle.serializer.proofs.RowsWriting.{rows_start, rows_reach, rows_long, rows_end, rows_row, rows_keep, rows_behind, rows_stop, rows_on}
+use Rattle.serializer.proofs.TableChoice.{table_written, table_flat, first_before}
+use Rattle.serializer.proofs.TableWriting.{table_at, table_full, table_done, table_sum, ends_in}
+use Rattle.serializer.proofs.Turns.{turn_first, turn_on, turn_stop, turn_last}
+use Rattle.serializer.specs.ListStep.{list_head}
+use Rattle.serializer.specs.Options.{unpacked}
+use Rattle.serializer.specs.Writers.{self_at, progress_at, progress_of, Fits, GoesForest, FitsIn, WritesForest}
+use Rattle.spec.specs.Bytes.{Bytes, ascii, among}
+use Rattle.spec.specs.Call.{tags_to_skip}
+use Rattle.spec.specs.Md.Ctx.{fresh, table_cell, break_of, list_item, include_node, advance_ol_number, skip_escape, link_body, scope_of, inline, emphasis_scope}
+use Rattle.spec.specs.Md.Elements.Emphasis.{md_emphasis}
+use Rattle.spec.specs.Md.Elements.Image.{write_img}
+use Rattle.spec.specs.Md.Elements.Link.{has_element, link_of, write_text}
+use Rattle.spec.specs.Md.Elements.List.{begin_item, item_from, item_children, write_list_item_blocks, write_list_item, number_of, list_children, write_list}
+use Rattle.spec.specs.Md.Elements.Table.{cell_text, without_breaks, trim_trailing_cell_break, escape_table_cell_inplace, rows_of, from_cells, is_table_node_writable, concat}
+use Rattle.spec.specs.Md.MDSerializer.{Ancestors, write_kids}
+use Rattle.spec.specs.Md.Serializer.{serializer, in_element, has_writer, closed, write_element, write_at, write_nodes, opened}
+use Rattle.spec.specs.Md.TextUtils.{trim_space}
+use Rattle.spec.specs.Names.{tag_of}
+use Rattle.spec.specs.Out.{and_then, Step, push, Out}
+use Rattle.spec.specs.Tree.{Attr, Forest, nothing, element, attr, kids_of}
+use Rattle.spec.specs.declared.ctx.FormatOpts.{FormatOpts}
+use Rattle.spec.specs.declared.ctx.ListContext.{ListContext}
+use Rattle.tables.proofs.RowTests.{writable_none}
+use Rattle.tables.proofs.TableRows.{rows_of_lem, rows_at, rows_at_kept}
+use Rattle.tables.specs.Rows.{Rows, RowsAt}
+use Rattle.tables.specs.Spans.{table_lengths}
+use Rattle.tables.specs.TableSteps.{rows_texts, RowsWrites}
+use Rattle.text.proofs.Spaces.{cut_done}
+use Rattle.text.proofs.Temporary.{lent, back, back_length, temp_fits}
+use Rattle.text.proofs.Writing.{done, reaches, Owes, owes_all, owes_step, owes_on, owes_over, owes_last, alike, owes_stop, then_assoc, full, keeps, stops}
+use Rattle.text.specs.Writes.{Writes}
+use Rattle.tree.proofs.Firsts.{rep_le}
+use Rattle.tree.proofs.Frames.{kept_none, kept_in, kept_then, end_kept, place_kept, rep_kept}
+use Rattle.tree.proofs.Kin.{first_skipped}
+use Rattle.tree.specs.Memory.{place_at, parent_at, Kept, end_at}
+use Rattle.tree.specs.Nodes.{name_at, body_at}
+use Rattle.tree.specs.Represents.{attrs_behind, Around, Rep, head_of, rest_of}
+use borrow.Author.Tests.{eqb-true}
+use lib.Dec.{lit<, eqb}
+use lib.ListN.{take, length, drop, get_or}
+use lib.Seq.{length-take-le}
+use mathlib.Core.Bool.{true, false, Bool, not, ◌&&◌, cond}
+use mathlib.Core.List.{List, ◌∷◌, []}
+use mathlib.Core.Path.{◌≡◌, refl, ap, sym, subst, ◌∙◌, subst₂}
+use native.Mathlib.Omega.{arith}
+use Rattle.serializer.proofs.MDSerializer.+writers.Goals as goal
+
+pub alone-node_name-name-requires : goal.alone-node_name-name-requires
+alone-node_name-name-requires t c =
+    placeds_at c.requires.0.alone c.requires.0.later
+
+pub alone-due_line-requires : goal.alone-due_line-requires
+alone-due_line-requires t c =
+    c.requires.1.0
+
+pub alone-block-requires : goal.alone-block-requires
+alone-block-requires t c = (
+  falls_in c.args.levels c.decreases (lit< tt),
+  (
+    node_placed c.requires.0 (block_tag_lem c.args.self.now.sheet.now (place_at c.args.nodes.now c.args.c) c.node_name-name.ensures c.node_is_list_item_block.ensures c.if-node_is_list_item_block.true),
+    c.node_name-name.ensures,
+    (reaches (done c.in_ok-n.was c.due_line.ensures), c.requires.1.1),
+    c.requires.2,
+  ),
+)
+
+pub alone-inline-requires : goal.alone-inline-requires
+alone-inline-requires t c = (
+  falls_in c.args.levels c.decreases (lit< tt),
+  (c.requires.0, c.node_name-name.ensures, (reaches (done c.in_ok-n.was c.due_line.ensures), c.requires.1.1), c.requires.2),
+)
+
+pub alone-returns-then-node_is_list_item_block : goal.alone-returns-then-node_is_list_item_block
+alone-returns-then-node_is_list_item_block t c =
+    record {
+      kept = c.block.ensures.kept;
+      goes_forest = alone_block c.args.self.now.sheet.now c.args.nodes.now c.args.c c.node_name-name.ensures c.requires.0.later (self_at c.args.self.now.skip c.args.levels) (item_of c.args.item) c.args.before.first c.args.before.due c.args.blank c.args.text.now c.args.before.len c.due_line.ensures c.in_ok-n.was c.node_is_list_item_block.ensures c.if-node_is_list_item_block.true c.requires.0.alone.positive c.block.ensures.goes_element;
+    }
+
+pub alone-returns : goal.alone-returns
+alone-returns t c =
+    record {
+      kept = c.inline.ensures.kept;
+      goes_forest = alone_inline c.args.self.now.sheet.now c.args.nodes.now c.args.c c.node_name-name.ensures c.requires.0.later (self_at c.args.self.now.skip c.args.levels) (item_of c.args.item) c.args.before.first c.args.before.due c.args.blank c.args.text.now c.args.before.len c.due_line.ensures c.in_ok-n.was c.node_is_list_item_block.ensures c.if-node_is_list_item_block.false refl c.in_ok-m.ensures.writes_forest;
+    }
+
+pub alone-returns-in_err-m : goal.alone-returns-in_err-m
+alone-returns-in_err-m t c =
+    record {
+      kept = c.inline.ensures.kept;
+      goes_forest = alone_inline c.args.self.now.sheet.now c.args.nodes.now c.args.c c.node_name-name.ensures c.requires.0.later (self_at c.args.self.now.skip c.args.levels) (item_of c.args.item) c.args.before.first c.args.before.due c.args.blank c.args.text.now c.args.before.len c.due_line.ensures c.in_ok-n.was c.node_is_list_item_block.ensures c.if-node_is_list_item_block.false (err_is c.from_residual-in_err-m.ensures.0) c.in_err-m.ensures.writes_forest;
+    }
+
+pub alone-returns-in_err-n : goal.alone-returns-in_err-n
+alone-returns-in_err-n t c =
+    record {
+      kept = kept_none c.args.nodes.now;
+      goes_forest = stops_going c.from_residual.ensures.0 (alone_none c.args.self.now.sheet.now c.args.nodes.now c.args.c c.node_name-name.ensures c.requires.0.later (self_at c.args.self.now.skip c.args.levels) (item_of c.args.item) c.args.before.first c.args.before.due c.args.blank c.args.text.now c.args.before.len c.due_line.ensures c.in_err-n.was);
+    }
+
+pub block-led-requires : goal.block-led-requires
+block-led-requires t c =
+    (falls_in c.args.levels c.decreases (lit< tt), c.requires)
+
+pub block-returns-then-name-eq15 : goal.block-returns-then-name-eq15
+block-returns-then-name-eq15 t c =
+    record {
+      kept = kept_none c.args.nodes.now;
+      goes_element = block_rule c.args.self.now.sheet.now c.args.nodes.now c.args.c c.requires.1 (self_at c.args.self.now.skip c.args.levels) (item_of c.args.item) c.args.before.first c.args.before.due (take c.args.before.len c.args.text.now) c.if-name-eq15.true c.rule_block.ensures;
+    }
+
+pub block-returns : goal.block-returns
+block-returns t c =
+    record {
+      kept = c.led.ensures.kept;
+      goes_element = block_led c.args.self.now.sheet.now c.args.nodes.now c.args.c c.requires.1 (self_at c.args.self.now.skip c.args.levels) (item_of c.args.item) c.args.before.first c.args.before.due (take c.args.before.len c.args.text.now) c.if-name-eq15.false refl c.in_ok-n.ensures.writes_element;
+    }
+
+pub block-returns-in_err-n : goal.block-returns-in_err-n
+block-returns-in_err-n t c =
+    record {
+      kept = c.led.ensures.kept;
+      goes_element = block_led c.args.self.now.sheet.now c.args.nodes.now c.args.c c.requires.1 (self_at c.args.self.now.skip c.args.levels) (item_of c.args.item) c.args.before.first c.args.before.due (take c.args.before.len c.args.text.now) c.if-name-eq15.false (err_is c.from_residual.ensures.0) c.in_err-n.ensures.writes_element;
+    }
+
+pub blocks-returns-in_err-n : goal.blocks-returns-in_err-n
+blocks-returns-in_err-n t c =
+    let self = self_at c.args.self.now.skip c.args.levels in
+    let item = item_from c.args.ctx.now (begin_item true c.args.ctx.now (take c.args.len c.args.text.now)) in record {
+      kept = kept_none c.args.nodes.now;
+      writes_element = stops_element c.from_residual.ensures.0 (record {
+        for = λ name attrs kids anc x a.
+            both-full c.args.text.now c.args.len c.requires.1.0 (write_list_item_blocks self anc attrs kids c.args.ctx.now) (begin_item true c.args.ctx.now)
+            (λ u. and_then (item_children self (attrs ∷ anc) kids item (progress_at true false u)).out (ended_item item))
+            (blocks_parts self anc attrs kids c.args.ctx.now item (take c.args.len c.args.text.now) refl) c.write_list_item_blocks.ensures.0 c.in_err-n.was;
+      });
+      ctx_value = c.write_list_item_blocks.ensures.1;
+    }
+
+pub blocks-node_end-to-requires : goal.blocks-node_end-to-requires
+blocks-node_end-to-requires t c =
+    (placed_node c.args.self.now.sheet.now c.args.nodes.now c.args.c c.requires.0).inside
+
+pub blocks-write_list_item_blocks-requires : goal.blocks-write_list_item_blocks-requires
+blocks-write_list_item_blocks-requires t c =
+    (c.requires.1.0, fits_in c.args.levels c.args.ctx.now c.requires.2)
+
+pub blocks-item_from-item-requires : goal.blocks-item_from-item-requires
+blocks-item_from-item-requires t c =
+    (fits_in c.args.levels c.args.ctx.now c.requires.2, c.write_list_item_blocks.ensures.1)
+
+pub blocks-overflow_add-c : goal.blocks-overflow_add-c
+blocks-overflow_add-c t c =
+    omega (arith, (placed_node c.args.self.now.sheet.now c.args.nodes.now c.args.c c.requires.0).inside, c.well_formed)
+
+pub blocks-children-requires : goal.blocks-children-requires
+blocks-children-requires t c =
+    let kids_at_here : Placeds c.args.self.now.sheet.now c.args.nodes.now (c.args.c + 1) c.node_end-to.result = placed_kids c.args.self.now.sheet.now c.args.nodes.now c.args.c c.requires.0 c.node_end-to.ensures in
+    let item_is_here : item_of c.item_from-item.result ≡ item_from c.args.ctx.now (begin_item true c.args.ctx.now (take c.args.len c.args.text.now)) = c.item_from-item.ensures (begin_item true c.args.ctx.now (take c.args.len c.args.text.now)) (done c.in_ok-n.was c.write_list_item_blocks.ensures.0).count in (
+      falls_children c.args.levels (c.args.c + 1) c.decreases c.node_end-to.type_inv,
+      (
+        kids_at_here,
+        (reaches (done c.in_ok-n.was c.write_list_item_blocks.ensures.0), c.requires.1.1),
+        fits_blocks c.args.levels c.args.ctx.now c.item_from-item.result (begin_item true c.args.ctx.now (take c.args.len c.args.text.now)) (item_is_here) c.requires.2,
+      ),
+    )
+
+pub blocks-end_item-requires : goal.blocks-end_item-requires
+blocks-end_item-requires t c =
+    let kids_at_here : Placeds c.args.self.now.sheet.now c.args.nodes.now (c.args.c + 1) c.node_end-to.result = placed_kids c.args.self.now.sheet.now c.args.nodes.now c.args.c c.requires.0 c.node_end-to.ensures in
+    let k = kids_at_here in
+    reaches (went c.in_ok-end.was (c.children.ensures.goes_forest.for k.parent k.forest k.anc k.rep k.around)).0
+
+pub blocks-returns : goal.blocks-returns
+blocks-returns t c =
+    let item_is_here : item_of c.item_from-item.result ≡ item_from c.args.ctx.now (begin_item true c.args.ctx.now (take c.args.len c.args.text.now)) = c.item_from-item.ensures (begin_item true c.args.ctx.now (take c.args.len c.args.text.now)) (done c.in_ok-n.was c.write_list_item_blocks.ensures.0).count in
+    let begun_here : (anc : Ancestors) (attrs : List Attr) (kids : Forest) → let self = self_at c.args.self.now.skip c.args.levels in let item = item_of c.item_from-item.result in Owes (length c.args.text.now) c.write_list_item_blocks.new.text c.in_ok-n.n (λ u. and_then (item_children self (attrs ∷ anc) kids item (progress_at true false u)).out (ended_item item)) (write_list_item_blocks self anc attrs kids c.args.ctx.now (take c.args.len c.args.text.now)) = λ anc attrs kids. let self = self_at c.args.self.now.skip c.args.levels in let item = item_of c.item_from-item.result in owes_step (owes_all c.args.text.now c.args.len (write_list_item_blocks self anc attrs kids c.args.ctx.now) c.requires.1.0 refl) (begin_item true c.args.ctx.now) (λ u. and_then (item_children self (attrs ∷ anc) kids item (progress_at true false u)).out (ended_item item)) (blocks_parts self anc attrs kids c.args.ctx.now item (take c.args.len c.args.text.now) (item_is_here)) c.in_ok-n.was c.write_list_item_blocks.ensures.0 in
+    let self = self_at c.args.self.now.skip c.args.levels in
+    let item = item_of c.item_from-item.result in record {
+      kept = kept_in (omega arith) (omega (arith, c.node_end-to.ensures)) c.children.ensures.kept;
+      writes_element = record {
+        for = λ name attrs kids anc x a.
+            owes_last (owes_on (begun_here anc attrs kids) (λ u. (item_children self (attrs ∷ anc) kids item (progress_at true false u)).out) (ended_item item) refl
+            (went c.in_ok-end.was (c.children.ensures.goes_forest.for c.args.c kids (attrs ∷ anc) (element_kids x c.node_end-to.ensures) (around_it anc x a))).0) c.end_item.ensures;
+      };
+      ctx_value = c.write_list_item_blocks.ensures.1;
+    }
+
+pub blocks-returns-in_err-end : goal.blocks-returns-in_err-end
+blocks-returns-in_err-end t c =
+    let item_is_here : item_of c.item_from-item.result ≡ item_from c.args.ctx.now (begin_item true c.args.ctx.now (take c.args.len c.args.text.now)) = c.item_from-item.ensures (begin_item true c.args.ctx.now (take c.args.len c.args.text.now)) (done c.in_ok-n.was c.write_list_item_blocks.ensures.0).count in
+    let begun_here : (anc : Ancestors) (attrs : List Attr) (kids : Forest) → let self = self_at c.args.self.now.skip c.args.levels in let item = item_of c.item_from-item.result in Owes (length c.args.text.now) c.write_list_item_blocks.new.text c.in_ok-n.n (λ u. and_then (item_children self (attrs ∷ anc) kids item (progress_at true false u)).out (ended_item item)) (write_list_item_blocks self anc attrs kids c.args.ctx.now (take c.args.len c.args.text.now)) = λ anc attrs kids. let self = self_at c.args.self.now.skip c.args.levels in let item = item_of c.item_from-item.result in owes_step (owes_all c.args.text.now c.args.len (write_list_item_blocks self anc attrs kids c.args.ctx.now) c.requires.1.0 refl) (begin_item true c.args.ctx.now) (λ u. and_then (item_children self (attrs ∷ anc) kids item (progress_at true false u)).out (ended_item item)) (blocks_parts self anc attrs kids c.args.ctx.now item (take c.args.len c.args.text.now) (item_is_here)) c.in_ok-n.was c.write_list_item_blocks.ensures.0 in
+    let self = self_at c.args.self.now.skip c.args.levels in
+    let item = item_of c.item_from-item.result in record {
+      kept = kept_in (omega arith) (omega (arith, c.node_end-to.ensures)) c.children.ensures.kept;
+      writes_element = stops_element c.from_residual-in_err-end.ensures.0 (record {
+        for = λ name attrs kids anc x a.
+            owes_over (begun_here anc attrs kids) (λ u. (item_children self (attrs ∷ anc) kids item (progress_at true false u)).out) (ended_item item) refl
+            (went_full c.in_err-end.was (c.children.ensures.goes_forest.for c.args.c kids (attrs ∷ anc) (element_kids x c.node_end-to.ensures) (around_it anc x a)));
+      });
+      ctx_value = c.write_list_item_blocks.ensures.1;
+    }
+
+pub body-node_place-place-requires : goal.body-node_place-place-requires
+body-node_place-place-requires t c =
+    (placed_node c.args.self.now.sheet.now c.args.nodes.now c.args.at c.requires.0).inside
+
+pub body-packed-bits-requires : goal.body-packed-bits-requires
+body-packed-bits-requires t c =
+    omega (arith, c.requires.2)
+
+pub body-kids-requires : goal.body-kids-requires
+body-kids-requires t c =
+    (falls_in c.args.levels c.decreases (lit< tt), (c.requires.0, (omega arith, c.requires.1.1), subst (λ (o : FormatOpts). Fits o c.args.levels) (sym c.packed-bits.ensures) c.requires.2))
+
+pub body-push_link-requires : goal.body-push_link-requires
+body-push_link-requires t c =
+    let p = c.requires.0 in (
+      nest-fits c.args.text.now c.args.len c.requires.1.0 (c.kids.ensures.writes_element.for p.0.0 p.0.1 p.0.2 p.1.0 p.0.3 p.1.1) c.in_ok-n.was,
+      omega (arith, c.node_place-place.ensures, (placed_node c.args.self.now.sheet.now c.args.nodes.now c.args.at p).placed),
+      c.requires.3,
+    )
+
+pub body-returns : goal.body-returns
+body-returns t c =
+    let a = c.args in
+    let href = a.dest.now in record {
+      kept = c.kids.ensures.kept;
+      writes_element = record {
+        for = λ name attrs kids anc x h. let link = write_kids (self_at a.self.now.skip a.levels) anc a.opts (element name attrs kids nothing) [] in
+            alike (ap (λ (f : Step). f (take a.len a.text.now)) (link_is attrs href link push))
+            (nest-done a.text.now a.len c.requires.1.0 (subst (λ (o : FormatOpts). Writes (length (lent a.text.now a.len)) c.kids.new.text c.kids.result (write_kids (self_at a.self.now.skip a.levels) anc o (element name attrs kids nothing) [])) c.packed-bits.ensures (c.kids.ensures.writes_element.for name attrs kids anc x h)) (λ z. link_step attrs href z push) c.in_ok-n.was
+            (subst (λ (l : List Attr). Writes (length (back a.text.now a.len c.kids.new.text)) c.push_link.new.text c.push_link.result (link_step l href (take c.in_ok-n.n (drop a.len (back a.text.now a.len c.kids.new.text))) push (take a.len (back a.text.now a.len c.kids.new.text)))) (ap (attrs_behind a.self.now.sheet.now) c.node_place-place.ensures ∙ sym x.attrs_are) c.push_link.ensures));
+      };
+    }
+
+pub body-returns-in_err-n : goal.body-returns-in_err-n
+body-returns-in_err-n t c =
+    let a = c.args in
+    let href = a.dest.now in record {
+      kept = c.kids.ensures.kept;
+      writes_element = stops_element c.from_residual.ensures.0 (record {
+        for = λ name attrs kids anc x h. let link = write_kids (self_at a.self.now.skip a.levels) anc a.opts (element name attrs kids nothing) [] in
+            alike (ap (λ (f : Step). f (take a.len a.text.now)) (link_is attrs href link push))
+            (nest-full a.text.now a.len c.requires.1.0 (subst (λ (o : FormatOpts). Writes (length (lent a.text.now a.len)) c.kids.new.text c.kids.result (write_kids (self_at a.self.now.skip a.levels) anc o (element name attrs kids nothing) [])) c.packed-bits.ensures (c.kids.ensures.writes_element.for name attrs kids anc x h)) (link_step attrs href link.text push) c.in_err-n.was);
+      });
+    }
+
+pub cell-packed-bits-requires : goal.cell-packed-bits-requires
+cell-packed-bits-requires t c =
+    omega (arith, subst (λ (o : FormatOpts). Fits o c.args.levels) (sym (c.table_cell-inner.ensures ∙ ap table_cell c.fresh.ensures)) (omega (arith, c.requires.2)))
+
+pub cell-kids-requires : goal.cell-kids-requires
+cell-kids-requires t c =
+    (falls_in c.args.levels c.decreases (lit< tt), (c.requires.0, (omega arith, c.requires.1), subst (λ (o : FormatOpts). Fits o c.args.levels) (sym (c.packed-bits.ensures ∙ c.table_cell-inner.ensures ∙ ap table_cell c.fresh.ensures)) (omega (arith, c.requires.2))))
+
+pub cell-slice_bounds-trim_trailing_cell_break-end : goal.cell-slice_bounds-trim_trailing_cell_break-end
+cell-slice_bounds-trim_trailing_cell_break-end t c =
+    written-reaches c.kids.ensures.writes_element c.requires.0 c.in_ok-n.was
+
+pub cell-slice_bounds-trim_trailing_cell_break-end-2 : goal.cell-slice_bounds-trim_trailing_cell_break-end-2
+cell-slice_bounds-trim_trailing_cell_break-end-2 t c =
+    sym (length-take-le c.in_ok-n.n c.kids.new.text (written-reaches c.kids.ensures.writes_element c.requires.0 c.in_ok-n.was))
+
+pub cell-escape_table_cell_inplace-requires : goal.cell-escape_table_cell_inplace-requires
+cell-escape_table_cell_inplace-requires t c =
+    let r = written-reaches c.kids.ensures.writes_element c.requires.0 c.in_ok-n.was in
+    omega (arith, r, c.trim_trailing_cell_break-k.ensures.within, length-take-le c.in_ok-n.n c.kids.new.text r)
+
+pub cell-returns : goal.cell-returns
+unfolding cell_text trim_trailing_cell_break
+cell-returns t c =
+    let wrote_here : (name : Bytes) (attrs : List Attr) (kids : Forest) (anc : Ancestors) → ElementAt c.args.self.now.sheet.now c.args.nodes.now c.args.c name attrs kids → Around c.args.self.now.sheet.now c.args.nodes.now (parent_at c.args.nodes.now c.args.c) anc → Writes (length c.args.text.now) c.kids.new.text c.kids.result (write_kids (self_at c.args.self.now.skip c.args.levels) anc (table_cell (fresh c.args.opts)) (element name attrs kids nothing) (take 0 c.args.text.now)) = λ name attrs kids anc x h. let a = c.args in subst (λ (o : FormatOpts). Writes (length a.text.now) c.kids.new.text c.kids.result (write_kids (self_at a.self.now.skip a.levels) anc o (element name attrs kids nothing) (take 0 a.text.now))) (c.packed-bits.ensures ∙ c.table_cell-inner.ensures ∙ ap table_cell c.fresh.ensures) (c.kids.ensures.writes_element.for name attrs kids anc x h) in
+    let a = c.args in record {
+      kept = c.kids.ensures.kept;
+      writes = λ name attrs kids anc th x h.
+          let f = write_kids (self_at a.self.now.skip a.levels) anc (table_cell (fresh a.opts)) (element name attrs kids nothing) in
+          let p = owes_step (owes_all a.text.now 0 (λ u. and_then (and_then (f u) trim_trailing_cell_break) escape_table_cell_inplace) (omega arith) refl) f (λ u. and_then (trim_trailing_cell_break u) escape_table_cell_inplace) (then_assoc (f (take 0 a.text.now)) trim_trailing_cell_break escape_table_cell_inplace) c.in_ok-n.was (wrote_here _ _ _ anc x h) in
+          owes_last (owes_on p trim_trailing_cell_break escape_table_cell_inplace refl (cut_done (λ z. without_breaks (length z) z) c.kids.new.text c.in_ok-n.n c.trim_trailing_cell_break-k.result p.reach c.trim_trailing_cell_break-k.ensures)) c.escape_table_cell_inplace.ensures;
+    }
+
+pub cell-returns-in_err-n : goal.cell-returns-in_err-n
+unfolding cell_text
+cell-returns-in_err-n t c =
+    let wrote_here : (name : Bytes) (attrs : List Attr) (kids : Forest) (anc : Ancestors) → ElementAt c.args.self.now.sheet.now c.args.nodes.now c.args.c name attrs kids → Around c.args.self.now.sheet.now c.args.nodes.now (parent_at c.args.nodes.now c.args.c) anc → Writes (length c.args.text.now) c.kids.new.text c.kids.result (write_kids (self_at c.args.self.now.skip c.args.levels) anc (table_cell (fresh c.args.opts)) (element name attrs kids nothing) (take 0 c.args.text.now)) = λ name attrs kids anc x h. let a = c.args in subst (λ (o : FormatOpts). Writes (length a.text.now) c.kids.new.text c.kids.result (write_kids (self_at a.self.now.skip a.levels) anc o (element name attrs kids nothing) (take 0 a.text.now))) (c.packed-bits.ensures ∙ c.table_cell-inner.ensures ∙ ap table_cell c.fresh.ensures) (c.kids.ensures.writes_element.for name attrs kids anc x h) in
+    let a = c.args in record {
+      kept = c.kids.ensures.kept;
+      writes = λ name attrs kids anc th x h.
+          let f = write_kids (self_at a.self.now.skip a.levels) anc (table_cell (fresh a.opts)) (element name attrs kids nothing) in
+          stops c.from_residual.ensures.0 (owes_stop (owes_all a.text.now 0 (λ u. and_then (and_then (f u) trim_trailing_cell_break) escape_table_cell_inplace) (omega arith) refl) f (λ u. and_then (trim_trailing_cell_break u) escape_table_cell_inplace) (then_assoc (f (take 0 a.text.now)) trim_trailing_cell_break escape_table_cell_inplace) c.in_err-n.was (wrote_here _ _ _ anc x h));
+    }
+
+pub cells-next_row-r-requires : goal.cells-next_row-r-requires
+cells-next_row-r-requires t c =
+    c.requires.0
+
+pub cells-loop-r-init : goal.cells-loop-r-init
+cells-loop-r-init t c =
+    let a = c.args in
+    rows_start (serializer (tags_to_skip (skip_of a.self.now.skip)) a.levels) a.opts c.requires.0 c.requires.1 c.next_row-r.ensures.later c.next_row-r.ensures.rows a.text.now a.len c.requires.2.0
+
+pub cells-row-requires : goal.cells-row-requires
+cells-row-requires t c =
+    (falls_in c.args.levels c.decreases (lit< tt), (rows_row c.loop-r.invariant c.loop-r-test.true, (rows_reach c.loop-r.invariant, c.requires.2.1), c.requires.3))
+
+pub cells-returns-in_err-end : goal.cells-returns-in_err-end
+cells-returns-in_err-end t c =
+    let p = c.loop-r.invariant in
+    record {
+      kept = rows_keep p c.loop-r-test.true c.row.ensures.kept;
+      rows_writes = λ rows x. stops_rows c.from_residual.ensures.0 (rows_stop p c.loop-r-test.true _ c.row.ensures.row_writes c.in_err-end.was _ _ rows x);
+    }
+
+pub cells-next_row-r-requires-in-loop-r : goal.cells-next_row-r-requires-in-loop-r
+cells-next_row-r-requires-in-loop-r t c =
+    rows_behind c.loop-r.invariant c.loop-r-test.true c.row.ensures.kept
+
+pub cells-loop-r-smaller : goal.cells-loop-r-smaller
+cells-loop-r-smaller t c =
+    omega (arith, c.next_row-r-in-loop-r.ensures.later, c.loop-r-test.true)
+
+pub cells-loop-r-preserved : goal.cells-loop-r-preserved
+cells-loop-r-preserved t c =
+    rows_on c.loop-r.invariant c.loop-r-test.true _ c.row.ensures.row_writes c.in_ok-end.was c.row.ensures.kept _ c.next_row-r-in-loop-r.ensures.later c.next_row-r-in-loop-r.ensures.rows
+
+pub cells-shape_of-nodes : goal.cells-shape_of-nodes
+cells-shape_of-nodes t c =
+    c.loop-r.invariant.kept.long
+
+pub cells-shape_of-text : goal.cells-shape_of-text
+cells-shape_of-text t c =
+    rows_long c.loop-r.invariant
+
+pub cells-returns : goal.cells-returns
+cells-returns t c =
+    record {
+      kept = c.loop-r.invariant.kept;
+      rows_writes = rows_end c.loop-r.invariant c.loop-r-test.false;
+    }
+
+pub child-node_place-place-requires : goal.child-node_place-place-requires
+child-node_place-place-requires t c =
+    (placeds_at c.requires.0.alone c.requires.0.later).inside
+
+pub child-tag_at-tag-requires : goal.child-tag_at-tag-requires
+child-tag_at-tag-requires t c =
+    let stands_here : NodeAt c.args.self.now.sheet.now c.args.nodes.now c.args.c = placeds_at c.requires.0.alone c.requires.0.later in
+    let field_here : c.node_place-place.result + 3 ≤ length c.args.self.now.sheet.now = subst (λ (k : ℕ). k + 3 ≤ length c.args.self.now.sheet.now) (sym c.node_place-place.ensures) (stands_here).placed in
+    field_here
+
+pub child-node_is_skipped-requires : goal.child-node_is_skipped-requires
+child-node_is_skipped-requires t c =
+    let stands_here : NodeAt c.args.self.now.sheet.now c.args.nodes.now c.args.c = placeds_at c.requires.0.alone c.requires.0.later in
+    stands_here
+
+pub child-node_is_block_wrapper-requires : goal.child-node_is_block_wrapper-requires
+child-node_is_block_wrapper-requires t c =
+    let a = c.requires.0 in (_, a.later, (a.alone.parent, a.alone.forest, a.alone.rep))
+
+pub child-node_end-end-requires : goal.child-node_end-end-requires
+child-node_end-end-requires t c =
+    let stands_here : NodeAt c.args.self.now.sheet.now c.args.nodes.now c.args.c = placeds_at c.requires.0.alone c.requires.0.later in
+    (stands_here).inside
+
+pub child-overflow_add-c : goal.child-overflow_add-c
+child-overflow_add-c t c =
+    omega (arith, c.node_end-end.ensures, c.requires.0.later)
+
+pub child-children-requires : goal.child-children-requires
+child-children-requires t c = (
+  kids_fall c.args.levels c.args.c c.args.to c.decreases c.node_end-end.ensures c.requires.1 c.requires.0.later,
+  (wrapper_kids c.requires.0 c.node_end-end.ensures c.node_is_block_wrapper.ensures c.if-node_is_block_wrapper.true, c.requires.2, c.requires.3),
+)
+
+pub child-is_blank_text-blank-requires : goal.child-is_blank_text-blank-requires
+child-is_blank_text-blank-requires t c =
+    let stands_here : NodeAt c.args.self.now.sheet.now c.args.nodes.now c.args.c = placeds_at c.requires.0.alone c.requires.0.later in
+    let field_here : c.node_place-place.result + 3 ≤ length c.args.self.now.sheet.now = subst (λ (k : ℕ). k + 3 ≤ length c.args.self.now.sheet.now) (sym c.node_place-place.ensures) (stands_here).placed in
+    field_here
+
+pub child-alone-requires : goal.child-alone-requires
+child-alone-requires t c =
+    (alone_falls c.args.levels c.args.c c.args.to c.decreases, (c.requires.0, c.requires.2, c.requires.3))
+
+pub child-returns-then-tag : goal.child-returns-then-tag
+child-returns-then-tag t c =
+    record {
+      kept = kept_none c.args.nodes.now;
+      goes_forest = child_comment c.args.self.now.sheet.now c.args.nodes.now c.args.c c.node_place-place.ensures (tags_to_skip (skip_of c.args.self.now.skip)) c.args.levels (item_of c.args.item) c.args.before.first c.args.before.due c.args.text.now c.args.before.len c.requires.2.0 c.tag_at-tag.ensures c.if-tag.true;
+    }
+
+pub child-returns-then-node_is_skipped : goal.child-returns-then-node_is_skipped
+child-returns-then-node_is_skipped t c =
+    record {
+      kept = kept_none c.args.nodes.now;
+      goes_forest = child_skipped c.args.self.now.sheet.now c.args.nodes.now c.args.c c.node_place-place.ensures (tags_to_skip (skip_of c.args.self.now.skip)) c.args.levels (item_of c.args.item) c.args.before.first c.args.before.due c.args.text.now c.args.before.len c.requires.2.0 c.node_is_skipped.ensures c.if-node_is_skipped.true;
+    }
+
+pub child-returns-then-node_is_block_wrapper : goal.child-returns-then-node_is_block_wrapper
+child-returns-then-node_is_block_wrapper t c =
+    record {
+      kept = kept_in (omega arith) (omega (arith, c.node_end-end.ensures)) c.children.ensures.kept;
+      goes_forest = child_wrapper c.args.self.now.sheet.now c.args.nodes.now c.args.c c.node_place-place.ensures (tags_to_skip (skip_of c.args.self.now.skip)) c.args.levels (item_of c.args.item) c.args.before.first c.args.before.due c.args.text.now c.args.before.len c.node_is_skipped.ensures c.if-node_is_skipped.false c.requires.0.later c.node_is_block_wrapper.ensures c.node_end-end.ensures c.if-node_is_block_wrapper.true c.requires.0.alone.positive c.children.ensures.goes_forest;
+    }
+
+pub child-returns : goal.child-returns
+child-returns t c =
+    record {
+      kept = c.alone.ensures.kept;
+      goes_forest = child_alone c.args.self.now.sheet.now c.args.nodes.now c.args.c c.node_place-place.ensures (tags_to_skip (skip_of c.args.self.now.skip)) c.args.levels (item_of c.args.item) c.args.before.first c.args.before.due c.args.text.now c.args.before.len c.node_is_skipped.ensures c.if-node_is_skipped.false c.requires.0.later c.node_is_block_wrapper.ensures c.tag_at-tag.ensures c.if-tag.false c.if-node_is_block_wrapper.false c.is_blank_text-blank.ensures c.alone.ensures.goes_forest;
+    }
+
+pub children-loop-c-init : goal.children-loop-c-init
+children-loop-c-init t c = (
+  c.requires.1.0,
+  refl,
+  kept_none c.args.nodes.now,
+  omega arith,
+  c.requires.0,
+  going_first c.args.self.now.sheet.now c.args.nodes.now c.args.from c.args.to (self_at c.args.self.now.skip c.args.levels) (item_of c.args.item) c.args.text.now c.args.before c.requires.1.0,
+)
+
+pub children-child-requires : goal.children-child-requires
+children-child-requires t c =
+    let l = c.loop-c in
+    let lt = c.loop-c-test.true in (
+      child_falls c.args.levels c.decreases l.invariant.3 lt,
+      (node_kept l.invariant.2 (placeds_first l.invariant.4 lt), omega (arith, end_kept l.invariant.2 l.c, placeds_within l.invariant.4 lt), (l.invariant.0, c.requires.1.1), c.requires.2),
+    )
+
+pub children-returns-in_err-going : goal.children-returns-in_err-going
+children-returns-in_err-going t c =
+    let kept_here : Kept c.args.from c.args.to c.args.nodes.now c.child.new.nodes = let l = c.loop-c in let lt = c.loop-c-test.true in kept_then l.invariant.2 (kept_in l.invariant.3 (omega (arith, end_kept l.invariant.2 l.c, placeds_within l.invariant.4 lt)) c.child.ensures.kept) in
+    let went_on_here : GoesForest c.args.self.now.sheet.now c.args.nodes.now c.loop-c.c (end_at c.args.nodes.now c.loop-c.c) (λ anc f. item_children (self_at c.args.self.now.skip c.args.levels) anc f (item_of c.args.item) (progress_of c.loop-c.going c.loop-c.text)) (length c.loop-c.text) c.child.new.text c.child.result = goes_before c.loop-c.invariant.2 c.child.ensures.goes_forest in
+    record {
+      kept = kept_here;
+      goes_forest = stops_going c.from_residual.ensures.0 (record { for = λ parent f anc h a. going_stop c.loop-c.invariant.5 c.loop-c-test.true (went_on_here) c.in_err-going.was parent f anc h a });
+    }
+
+pub children-node_end-c-requires : goal.children-node_end-c-requires
+children-node_end-c-requires t c =
+    let kept_here : Kept c.args.from c.args.to c.args.nodes.now c.child.new.nodes = let l = c.loop-c in let lt = c.loop-c-test.true in kept_then l.invariant.2 (kept_in l.invariant.3 (omega (arith, end_kept l.invariant.2 l.c, placeds_within l.invariant.4 lt)) c.child.ensures.kept) in
+    omega (arith, (placeds_at c.loop-c.invariant.4 c.loop-c-test.true).inside, (kept_here).long)
+
+pub children-loop-c-smaller : goal.children-loop-c-smaller
+children-loop-c-smaller t c =
+    let kept_here : Kept c.args.from c.args.to c.args.nodes.now c.child.new.nodes = let l = c.loop-c in let lt = c.loop-c-test.true in kept_then l.invariant.2 (kept_in l.invariant.3 (omega (arith, end_kept l.invariant.2 l.c, placeds_within l.invariant.4 lt)) c.child.ensures.kept) in
+    omega (arith, placeds_later c.loop-c.invariant.4 c.loop-c-test.true, c.node_end-c.ensures, end_kept (kept_here) c.loop-c.c, c.loop-c-test.true)
+
+pub children-loop-c-preserved : goal.children-loop-c-preserved
+children-loop-c-preserved t c =
+    let kept_here : Kept c.args.from c.args.to c.args.nodes.now c.child.new.nodes = let l = c.loop-c in let lt = c.loop-c-test.true in kept_then l.invariant.2 (kept_in l.invariant.3 (omega (arith, end_kept l.invariant.2 l.c, placeds_within l.invariant.4 lt)) c.child.ensures.kept) in
+    let went_on_here : GoesForest c.args.self.now.sheet.now c.args.nodes.now c.loop-c.c (end_at c.args.nodes.now c.loop-c.c) (λ anc f. item_children (self_at c.args.self.now.skip c.args.levels) anc f (item_of c.args.item) (progress_of c.loop-c.going c.loop-c.text)) (length c.loop-c.text) c.child.new.text c.child.result = goes_before c.loop-c.invariant.2 c.child.ensures.goes_forest in
+    let l = c.loop-c in
+    let lt = c.loop-c-test.true in
+    let K = kept_here in
+    let q = c.node_end-c.ensures ∙ end_kept K l.c in
+    let a = (placeds_first l.invariant.4 lt).alone in
+    let d = (went c.in_ok-going.was ((went_on_here).for a.parent a.forest a.anc a.rep a.around)).0 in (
+      reaches d,
+      d.long ∙ l.invariant.1,
+      K,
+      omega (arith, placeds_later l.invariant.4 lt, l.invariant.3, q),
+      subst (λ (k : ℕ). Placeds c.args.self.now.sheet.now c.args.nodes.now k c.args.to) (sym q) (placeds_on l.invariant.4 lt),
+      going_on l.invariant.5 lt (went_on_here) q c.in_ok-going.was,
+    )
+
+pub children-returns : goal.children-returns
+children-returns t c =
+    record {
+      kept = c.loop-c.invariant.2;
+      goes_forest = record { for = λ parent f anc h a. going_last c.loop-c.invariant.5 c.loop-c-test.false parent f anc h a };
+    }
+
+pub flat-write_list_item-requires : goal.flat-write_list_item-requires
+flat-write_list_item-requires t c =
+    (c.requires.1.0, fits_in c.args.levels c.args.ctx.now c.requires.2)
+
+pub flat-packed-bits-requires : goal.flat-packed-bits-requires
+flat-packed-bits-requires t c =
+    omega (arith, fits_item c.args.levels c.args.ctx.now c.write_list_item.new.ctx c.list_item-inner.result c.write_list_item.ensures.1 c.list_item-inner.ensures c.requires.2)
+
+pub flat-kids-requires : goal.flat-kids-requires
+flat-kids-requires t c =
+    (falls_in c.args.levels c.decreases (lit< tt), (c.requires.0, (reaches (done c.in_ok-n.was c.write_list_item.ensures.0), c.requires.1.1), fits_item c.args.levels c.args.ctx.now c.write_list_item.new.ctx (unpacked c.packed-bits.result) c.write_list_item.ensures.1 (c.packed-bits.ensures ∙ c.list_item-inner.ensures) c.requires.2))
+
+pub flat-push_linebreak-requires : goal.flat-push_linebreak-requires
+flat-push_linebreak-requires t c =
+    written-reaches c.kids.ensures.writes_element c.requires.0 c.in_ok-m.was
+
+pub flat-returns : goal.flat-returns
+flat-returns t c =
+    let begun_here : (anc : Ancestors) (node : Forest) → let self = self_at c.args.self.now.skip c.args.levels in Owes (length c.args.text.now) c.write_list_item.new.text c.in_ok-n.n (λ u. and_then (write_kids self anc (unpacked c.packed-bits.result) node u) (push (break_of c.write_list_item.new.ctx))) (write_list_item self anc node c.args.ctx.now (take c.args.len c.args.text.now)) = λ anc node. let self = self_at c.args.self.now.skip c.args.levels in owes_step (owes_all c.args.text.now c.args.len (write_list_item self anc node c.args.ctx.now) c.requires.1.0 refl) (begin_item false c.args.ctx.now) (λ u. and_then (write_kids self anc (unpacked c.packed-bits.result) node u) (push (break_of c.write_list_item.new.ctx))) (item_parts self anc node c.args.ctx.now c.write_list_item.new.ctx (unpacked c.packed-bits.result) (take c.args.len c.args.text.now) c.write_list_item.ensures.1 (c.packed-bits.ensures ∙ c.list_item-inner.ensures)) c.in_ok-n.was c.write_list_item.ensures.0 in
+    let self = self_at c.args.self.now.skip c.args.levels in record {
+      kept = c.kids.ensures.kept;
+      writes_element = record { for = λ name attrs kids anc x a. owes_last (owes_step (begun_here anc (element name attrs kids nothing)) (write_kids self anc (unpacked c.packed-bits.result) (element name attrs kids nothing)) (push (break_of c.write_list_item.new.ctx)) refl c.in_ok-m.was (c.kids.ensures.writes_element.for name attrs kids anc x a)) c.push_linebreak.ensures };
+      ctx_value = c.write_list_item.ensures.1;
+    }
+
+pub flat-returns-in_err-m : goal.flat-returns-in_err-m
+flat-returns-in_err-m t c =
+    let begun_here : (anc : Ancestors) (node : Forest) → let self = self_at c.args.self.now.skip c.args.levels in Owes (length c.args.text.now) c.write_list_item.new.text c.in_ok-n.n (λ u. and_then (write_kids self anc (unpacked c.packed-bits.result) node u) (push (break_of c.write_list_item.new.ctx))) (write_list_item self anc node c.args.ctx.now (take c.args.len c.args.text.now)) = λ anc node. let self = self_at c.args.self.now.skip c.args.levels in owes_step (owes_all c.args.text.now c.args.len (write_list_item self anc node c.args.ctx.now) c.requires.1.0 refl) (begin_item false c.args.ctx.now) (λ u. and_then (write_kids self anc (unpacked c.packed-bits.result) node u) (push (break_of c.write_list_item.new.ctx))) (item_parts self anc node c.args.ctx.now c.write_list_item.new.ctx (unpacked c.packed-bits.result) (take c.args.len c.args.text.now) c.write_list_item.ensures.1 (c.packed-bits.ensures ∙ c.list_item-inner.ensures)) c.in_ok-n.was c.write_list_item.ensures.0 in
+    let self = self_at c.args.self.now.skip c.args.levels in record {
+      kept = c.kids.ensures.kept;
+      writes_element = stops_element c.from_residual-in_err-m.ensures.0 (record { for = λ name attrs kids anc x a. owes_stop (begun_here anc (element name attrs kids nothing)) (write_kids self anc (unpacked c.packed-bits.result) (element name attrs kids nothing)) (push (break_of c.write_list_item.new.ctx)) refl c.in_err-m.was (c.kids.ensures.writes_element.for name attrs kids anc x a) });
+      ctx_value = c.write_list_item.ensures.1;
+    }
+
+pub flat-returns-in_err-n : goal.flat-returns-in_err-n
+flat-returns-in_err-n t c =
+    let self = self_at c.args.self.now.skip c.args.levels in record {
+      kept = kept_none c.args.nodes.now;
+      writes_element = stops_element c.from_residual.ensures.0 (record {
+        for = λ name attrs kids anc x a.
+            both-full c.args.text.now c.args.len c.requires.1.0 (write_list_item self anc (element name attrs kids nothing) c.args.ctx.now) (begin_item false c.args.ctx.now)
+            (λ u. and_then (write_kids self anc (list_item c.write_list_item.new.ctx.opts) (element name attrs kids nothing) u) (push (break_of c.write_list_item.new.ctx)))
+            (item_parts self anc (element name attrs kids nothing) c.args.ctx.now c.write_list_item.new.ctx (list_item c.write_list_item.new.ctx.opts) (take c.args.len c.args.text.now) c.write_list_item.ensures.1 refl) c.write_list_item.ensures.0 c.in_err-n.was;
+      });
+      ctx_value = c.write_list_item.ensures.1;
+    }
+
+pub flow-indented-requires : goal.flow-indented-requires
+flow-indented-requires t c =
+    (falls_in c.args.levels c.decreases (lit< tt), (c.requires.0, c.requires.2, c.requires.3))
+
+pub flow-packed-bits-requires : goal.flow-packed-bits-requires
+flow-packed-bits-requires t c =
+    omega (arith, fits_alike c.list_item-inner.result c.args.item.ctx.opts c.args.levels (ap (λ (o : FormatOpts). o.offset) c.list_item-inner.ensures) c.requires.3.0)
+
+pub flow-kids-requires : goal.flow-kids-requires
+flow-kids-requires t c = (
+  falls_in c.args.levels c.decreases (lit< tt),
+  (
+    c.requires.0,
+    (reaches (done c.in_ok-n.was c.push_heading_prefix.ensures), c.requires.2.1),
+    fits_alike (unpacked c.packed-bits.result) c.args.item.ctx.opts c.args.levels (ap (λ (o : FormatOpts). o.offset) (c.packed-bits.ensures ∙ c.list_item-inner.ensures)) c.requires.3.0,
+  ),
+)
+
+pub flow-end_flow-requires : goal.flow-end_flow-requires
+flow-end_flow-requires t c =
+    element_reaches c.requires.0 c.kids.ensures.writes_element c.in_ok-m.was
+
+pub flow-returns-then-name-eq23 : goal.flow-returns-then-name-eq23
+flow-returns-then-name-eq23 t c =
+    record {
+      kept = c.indented.ensures.kept;
+      writes_element = body_pre c.args.self.now.sheet.now c.args.nodes.now c.args.c c.requires.1 (self_at c.args.self.now.skip c.args.levels) (item_of c.args.item) c.if-name-eq23.true c.indented.ensures.writes_element;
+    }
+
+pub flow-returns : goal.flow-returns
+flow-returns t c =
+    record {
+      kept = c.kids.ensures.kept;
+      writes_element = flow_done c.args.self.now.sheet.now c.args.nodes.now c.args.c c.requires.1 (self_at c.args.self.now.skip c.args.levels) (item_of c.args.item) c.if-name-eq23.false c.args.text.now c.args.len c.requires.2.0 c.push_heading_prefix.ensures c.in_ok-n.was (c.packed-bits.ensures ∙ c.list_item-inner.ensures) c.kids.ensures.writes_element c.in_ok-m.was c.end_flow.ensures;
+    }
+
+pub flow-returns-in_err-m : goal.flow-returns-in_err-m
+flow-returns-in_err-m t c =
+    record {
+      kept = c.kids.ensures.kept;
+      writes_element = stops_element c.from_residual-in_err-m.ensures.0 (flow_full c.args.self.now.sheet.now c.args.nodes.now c.args.c c.requires.1 (self_at c.args.self.now.skip c.args.levels) (item_of c.args.item) c.if-name-eq23.false c.args.text.now c.args.len c.requires.2.0 c.push_heading_prefix.ensures c.in_ok-n.was (c.packed-bits.ensures ∙ c.list_item-inner.ensures) c.kids.ensures.writes_element c.in_err-m.was);
+    }
+
+pub flow-returns-in_err-n : goal.flow-returns-in_err-n
+flow-returns-in_err-n t c =
+    record {
+      kept = kept_none c.args.nodes.now;
+      writes_element = stops_element c.from_residual.ensures.0 (flow_none c.args.self.now.sheet.now c.args.nodes.now c.args.c c.requires.1 (self_at c.args.self.now.skip c.args.levels) (item_of c.args.item) c.if-name-eq23.false c.args.text.now c.args.len c.requires.2.0 c.push_heading_prefix.ensures c.in_err-n.was);
+    }
+
+pub indented-node_end-to-requires : goal.indented-node_end-to-requires
+indented-node_end-to-requires t c =
+    (placed_node c.args.self.now.sheet.now c.args.nodes.now c.args.c c.requires.0).inside
+
+pub indented-packed-requires : goal.indented-packed-requires
+indented-packed-requires t c =
+    omega (arith, fits_alike c.include_node-inner.result c.args.item.ctx.opts c.args.levels (ap (λ (o : FormatOpts). o.offset) c.include_node-inner.ensures) c.requires.2.0)
+
+pub indented-write-requires : goal.indented-write-requires
+indented-write-requires t c = (
+  falls_in c.args.levels c.decreases (lit< tt),
+  (
+    node_range c.node_end-to.ensures (placed_alone c.args.self.now.sheet.now c.args.nodes.now c.args.c c.requires.0),
+    (omega arith, c.requires.1.1),
+    fits_alike (unpacked c.packed.result) c.args.item.ctx.opts c.args.levels (ap (λ (o : FormatOpts). o.offset) (c.packed.ensures ∙ c.include_node-inner.ensures)) c.requires.2.0,
+  ),
+)
+
+pub indented-push_indented-requires : goal.indented-push_indented-requires
+indented-push_indented-requires t c =
+    indented_fits (tags_to_skip (skip_of c.args.self.now.skip)) c.args.levels (item_of c.args.item) c.node_end-to.ensures (c.packed.ensures ∙ c.include_node-inner.ensures) c.args.text.now c.args.len c.requires.1.0 c.write.ensures.writes_forest c.requires.0 c.in_ok-n.was
+
+pub indented-returns : goal.indented-returns
+indented-returns t c =
+    record {
+      kept = subst (λ (k : ℕ). Kept c.args.c k c.args.nodes.now c.write.new.nodes) c.node_end-to.ensures c.write.ensures.kept;
+      writes_element = indented_done (tags_to_skip (skip_of c.args.self.now.skip)) c.args.levels (item_of c.args.item) c.node_end-to.ensures (c.packed.ensures ∙ c.include_node-inner.ensures) c.args.text.now c.args.len c.requires.1.0 c.write.ensures.writes_forest c.in_ok-n.was c.push_indented.ensures;
+    }
+
+pub indented-returns-in_err-n : goal.indented-returns-in_err-n
+indented-returns-in_err-n t c =
+    record {
+      kept = subst (λ (k : ℕ). Kept c.args.c k c.args.nodes.now c.write.new.nodes) c.node_end-to.ensures c.write.ensures.kept;
+      writes_element = stops_element c.from_residual.ensures.0 (indented_full (tags_to_skip (skip_of c.args.self.now.skip)) c.args.levels (item_of c.args.item) c.node_end-to.ensures (c.packed.ensures ∙ c.include_node-inner.ensures) c.args.text.now c.args.len c.requires.1.0 c.write.ensures.writes_forest c.in_err-n.was);
+    }
+
+pub inline-node_end-to-requires : goal.inline-node_end-to-requires
+inline-node_end-to-requires t c =
+    (placeds_at c.requires.0.alone c.requires.0.later).inside
+
+pub inline-packed-requires : goal.inline-packed-requires
+inline-packed-requires t c =
+    omega (arith, fits_alike c.child_opts-inner.result c.args.item.ctx.opts c.args.levels (ap (λ (o : FormatOpts). o.offset) c.child_opts-inner.ensures ∙ child_offset c.args.name c.args.item.ctx.opts) c.requires.3.0)
+
+pub inline-write-requires : goal.inline-write-requires
+inline-write-requires t c = (
+  falls_in c.args.levels c.decreases (lit< tt),
+  (
+    node_range c.node_end-to.ensures c.requires.0,
+    (reaches (done c.in_ok-n.was c.push_inline_lead.ensures), c.requires.2.1),
+    fits_alike (unpacked c.packed.result) c.args.item.ctx.opts c.args.levels (ap (λ (o : FormatOpts). o.offset) (c.packed.ensures ∙ c.child_opts-inner.ensures) ∙ child_offset c.args.name c.args.item.ctx.opts) c.requires.3.0,
+  ),
+)
+
+pub inline-returns : goal.inline-returns
+inline-returns t c =
+    record {
+      kept = subst (λ (k : ℕ). Kept c.args.c k c.args.nodes.now c.write.new.nodes) c.node_end-to.ensures c.write.ensures.kept;
+      writes_forest = inline_done c.args.self.now.sheet.now c.args.nodes.now c.args.c c.requires.1 (tags_to_skip (skip_of c.args.self.now.skip)) c.args.levels (item_of c.args.item) c.args.blank c.requires.0.later c.args.text.now c.args.len c.requires.2.0 c.push_inline_lead.ensures c.in_ok-n.was c.node_end-to.ensures (c.packed.ensures ∙ c.child_opts-inner.ensures) c.write.ensures.writes_forest;
+    }
+
+pub inline-returns-in_err-n : goal.inline-returns-in_err-n
+inline-returns-in_err-n t c =
+    record {
+      kept = kept_none c.args.nodes.now;
+      writes_forest = stops_forest c.from_residual.ensures.0 (inline_none c.args.self.now.sheet.now c.args.nodes.now c.args.c c.requires.1 (tags_to_skip (skip_of c.args.self.now.skip)) c.args.levels (item_of c.args.item) c.args.blank c.requires.0.later c.args.text.now c.args.len c.requires.2.0 c.push_inline_lead.ensures c.in_err-n.was);
+    }
+
+pub inside-node_name-name-requires : goal.inside-node_name-name-requires
+inside-node_name-name-requires t c =
+    placed_node c.args.self.now.sheet.now c.args.nodes.now c.args.at c.requires.0
+
+pub inside-write_element-requires : goal.inside-write_element-requires
+inside-write_element-requires t c =
+    (falls_in c.args.levels c.decreases (lit< tt), (c.requires.0, c.node_name-name.ensures, c.requires.1, c.requires.2))
+
+pub inside-write_element-requires-then-flags-has_writer : goal.inside-write_element-requires-then-flags-has_writer
+inside-write_element-requires-then-flags-has_writer t c =
+    (falls_in c.args.levels c.decreases (lit< tt), (c.requires.0, c.node_name-name.ensures, c.requires.1, c.requires.2))
+
+pub inside-returns-then-name-lt21 : goal.inside-returns-then-name-lt21
+inside-returns-then-name-lt21 t c =
+    let by_writer_here : (name : Bytes) (attrs : List Attr) (kids : Forest) (anc : Ancestors) → ElementAt c.args.self.now.sheet.now c.args.nodes.now c.args.at name attrs kids → in_element (self_at c.args.self.now.skip c.args.levels) anc (unpacked c.args.bits) name attrs kids (take c.args.len c.args.text.now) ≡ write_element (self_at c.args.self.now.skip c.args.levels) anc (unpacked c.args.bits) name attrs kids (take c.args.len c.args.text.now) = λ name attrs kids anc x. let a = c.args in let u = c.unpacked-flags in subst (λ (o : FormatOpts). in_element (self_at a.self.now.skip a.levels) anc o name attrs kids (take a.len a.text.now) ≡ write_element (self_at a.self.now.skip a.levels) anc o name attrs kids (take a.len a.text.now)) u.ensures (inside_writer (self_at a.self.now.skip a.levels) anc u.result name attrs kids (take a.len a.text.now) (ap (λ (k : ℕ). not u.result.skip_md && has_writer u.result k) (sym (c.node_name-name.ensures ∙ element_name x)) ∙ ap (λ (b : Bool). not u.result.skip_md && b) (sym c.has_writer.ensures) ∙ c.if-flags-has_writer.true)) in
+    record {
+      kept = c.write_element.ensures.kept;
+      writes_element = record { for = λ name attrs kids anc x h. alike (by_writer_here _ _ _ anc x) (c.write_element.ensures.writes_element.for name attrs kids anc x h) };
+    }
+
+pub inside-returns-then-flags-has_writer : goal.inside-returns-then-flags-has_writer
+inside-returns-then-flags-has_writer t c =
+    let by_writer_here : (name : Bytes) (attrs : List Attr) (kids : Forest) (anc : Ancestors) → ElementAt c.args.self.now.sheet.now c.args.nodes.now c.args.at name attrs kids → in_element (self_at c.args.self.now.skip c.args.levels) anc (unpacked c.args.bits) name attrs kids (take c.args.len c.args.text.now) ≡ write_element (self_at c.args.self.now.skip c.args.levels) anc (unpacked c.args.bits) name attrs kids (take c.args.len c.args.text.now) = λ name attrs kids anc x. let a = c.args in let u = c.unpacked-flags in subst (λ (o : FormatOpts). in_element (self_at a.self.now.skip a.levels) anc o name attrs kids (take a.len a.text.now) ≡ write_element (self_at a.self.now.skip a.levels) anc o name attrs kids (take a.len a.text.now)) u.ensures (inside_writer (self_at a.self.now.skip a.levels) anc u.result name attrs kids (take a.len a.text.now) (ap (λ (k : ℕ). not u.result.skip_md && has_writer u.result k) (sym (c.node_name-name.ensures ∙ element_name x)) ∙ ap (λ (b : Bool). not u.result.skip_md && b) (sym c.has_writer.ensures) ∙ c.if-flags-has_writer.true)) in
+    record {
+      kept = c.write_element-then-flags-has_writer.ensures.kept;
+      writes_element = record { for = λ name attrs kids anc x h. alike (by_writer_here _ _ _ anc x) (c.write_element-then-flags-has_writer.ensures.writes_element.for name attrs kids anc x h) };
+    }
+
+pub inside-node_end-to-requires : goal.inside-node_end-to-requires
+inside-node_end-to-requires t c =
+    (placed_node c.args.self.now.sheet.now c.args.nodes.now c.args.at c.requires.0).inside
+
+pub inside-overflow_add-at : goal.inside-overflow_add-at
+inside-overflow_add-at t c =
+    omega (arith, (placed_node c.args.self.now.sheet.now c.args.nodes.now c.args.at c.requires.0).inside, c.well_formed)
+
+pub inside-siblings-requires : goal.inside-siblings-requires
+inside-siblings-requires t c =
+    (falls_in c.args.levels c.decreases (lit< tt), (placed_kids c.args.self.now.sheet.now c.args.nodes.now c.args.at c.requires.0 c.node_end-to.ensures, c.requires.1, omega (arith, c.requires.2)))
+
+pub inside-closed-requires : goal.inside-closed-requires
+inside-closed-requires t c =
+    forest-reaches c.siblings.ensures.writes_forest (placed_kids c.args.self.now.sheet.now c.args.nodes.now c.args.at c.requires.0 c.node_end-to.ensures) c.in_ok-n.was
+
+pub inside-returns-in_err-n : goal.inside-returns-in_err-n
+inside-returns-in_err-n t c =
+    let plain_here : (name : Bytes) (attrs : List Attr) (kids : Forest) (anc : Ancestors) → ElementAt c.args.self.now.sheet.now c.args.nodes.now c.args.at name attrs kids → in_element (self_at c.args.self.now.skip c.args.levels) anc (unpacked c.args.bits) name attrs kids (take c.args.len c.args.text.now) ≡ and_then ((self_at c.args.self.now.skip c.args.levels).below (attrs ∷ anc) (unpacked c.args.bits) kids (take c.args.len c.args.text.now)) (closed (unpacked c.args.bits) (tag_of name)) = λ name attrs kids anc x. let a = c.args in let u = c.unpacked-flags in subst (λ (o : FormatOpts). in_element (self_at a.self.now.skip a.levels) anc o name attrs kids (take a.len a.text.now) ≡ and_then ((self_at a.self.now.skip a.levels).below (attrs ∷ anc) o kids (take a.len a.text.now)) (closed o (tag_of name))) u.ensures (inside_plain (self_at a.self.now.skip a.levels) anc u.result name attrs kids (take a.len a.text.now) (ap (λ (k : ℕ). not u.result.skip_md && has_writer u.result k) (sym (c.node_name-name.ensures ∙ element_name x)) ∙ ap (λ (b : Bool). not u.result.skip_md && b) (sym c.has_writer.ensures) ∙ c.if-flags-has_writer.false)) in
+    let a = c.args in record {
+      kept = kept_in (omega arith) (omega (arith, c.node_end-to.ensures)) c.siblings.ensures.kept;
+      writes_element = stops_element c.from_residual.ensures.0 (record { for = λ name attrs kids anc x h. both-full a.text.now a.len c.requires.1.0 (in_element (self_at a.self.now.skip a.levels) anc (unpacked a.bits) name attrs kids) ((self_at a.self.now.skip a.levels).below (attrs ∷ anc) (unpacked a.bits) kids) (closed (unpacked a.bits) (tag_of name)) (plain_here _ _ _ anc x) (below-wrote a.self.now.skip a.levels (unpacked a.bits) anc x h c.node_end-to.ensures c.siblings.ensures.writes_forest) c.in_err-n.was });
+    }
+
+pub inside-returns : goal.inside-returns
+inside-returns t c =
+    let plain_here : (name : Bytes) (attrs : List Attr) (kids : Forest) (anc : Ancestors) → ElementAt c.args.self.now.sheet.now c.args.nodes.now c.args.at name attrs kids → in_element (self_at c.args.self.now.skip c.args.levels) anc (unpacked c.args.bits) name attrs kids (take c.args.len c.args.text.now) ≡ and_then ((self_at c.args.self.now.skip c.args.levels).below (attrs ∷ anc) (unpacked c.args.bits) kids (take c.args.len c.args.text.now)) (closed (unpacked c.args.bits) (tag_of name)) = λ name attrs kids anc x. let a = c.args in let u = c.unpacked-flags in subst (λ (o : FormatOpts). in_element (self_at a.self.now.skip a.levels) anc o name attrs kids (take a.len a.text.now) ≡ and_then ((self_at a.self.now.skip a.levels).below (attrs ∷ anc) o kids (take a.len a.text.now)) (closed o (tag_of name))) u.ensures (inside_plain (self_at a.self.now.skip a.levels) anc u.result name attrs kids (take a.len a.text.now) (ap (λ (k : ℕ). not u.result.skip_md && has_writer u.result k) (sym (c.node_name-name.ensures ∙ element_name x)) ∙ ap (λ (b : Bool). not u.result.skip_md && b) (sym c.has_writer.ensures) ∙ c.if-flags-has_writer.false)) in
+    let a = c.args in record {
+      kept = kept_in (omega arith) (omega (arith, c.node_end-to.ensures)) c.siblings.ensures.kept;
+      writes_element = record {
+        for = λ name attrs kids anc x h. both-done a.text.now a.len c.requires.1.0 (in_element (self_at a.self.now.skip a.levels) anc (unpacked a.bits) name attrs kids) ((self_at a.self.now.skip a.levels).below (attrs ∷ anc) (unpacked a.bits) kids) (closed (unpacked a.bits) (tag_of name)) (plain_here _ _ _ anc x) (below-wrote a.self.now.skip a.levels (unpacked a.bits) anc x h c.node_end-to.ensures c.siblings.ensures.writes_forest) c.in_ok-n.was
+            (subst (λ (o : FormatOpts). Writes (length c.siblings.new.text) c.closed.new.text c.closed.result (closed o (tag_of name) (take c.in_ok-n.n c.siblings.new.text))) c.unpacked.ensures
+            (subst (λ (k : ℕ). Writes (length c.siblings.new.text) c.closed.new.text c.closed.result (closed c.unpacked.result k (take c.in_ok-n.n c.siblings.new.text))) (c.node_name-name.ensures ∙ element_name x) c.closed.ensures));
+      };
+    }
+
+pub item-node_end-to-requires : goal.item-node_end-to-requires
+item-node_end-to-requires t c =
+    let node_here : NodeAt c.args.self.now.sheet.now c.args.nodes.now c.args.c = placeds_at c.requires.0.alone c.requires.0.later in
+    (node_here).inside
+
+pub item-packed-requires : goal.item-packed-requires
+item-packed-requires t c =
+    let inner_here : c.include_node-inner.result ≡ include_node (fresh c.args.ctx.now.opts) = c.include_node-inner.ensures ∙ ap include_node c.fresh.ensures in
+    omega (arith, fits_plain c.args.levels c.args.ctx.now c.include_node-inner.result (inner_here) c.requires.3)
+
+pub item-write-requires : goal.item-write-requires
+item-write-requires t c =
+    let inner_here : c.include_node-inner.result ≡ include_node (fresh c.args.ctx.now.opts) = c.include_node-inner.ensures ∙ ap include_node c.fresh.ensures in
+    (falls_in c.args.levels c.decreases (lit< tt), (subst (λ (e : ℕ). Placeds c.args.self.now.sheet.now c.args.nodes.now c.args.c e) (sym c.node_end-to.ensures) c.requires.0.alone, c.requires.2, fits_plain c.args.levels c.args.ctx.now (unpacked c.packed.result) (c.packed.ensures ∙ inner_here) c.requires.3))
+
+pub item-returns-then-not-li : goal.item-returns-then-not-li
+item-returns-then-not-li t c =
+    let inner_here : c.include_node-inner.result ≡ include_node (fresh c.args.ctx.now.opts) = c.include_node-inner.ensures ∙ ap include_node c.fresh.ensures in
+    let a = c.args in
+    let skips = tags_to_skip (skip_of a.self.now.skip) in record {
+      kept = kept_in (omega arith) (omega (arith, c.node_end-to.ensures)) c.write.ensures.kept;
+      writes_forest = record {
+        for = λ parent f anc h x.
+            alike (head_other skips a.levels anc a.ctx.now (take a.len a.text.now) a.self.now.sheet.now a.nodes.now parent a.c f h c.requires.0.later (sym c.requires.1 ∙ c.if-not-li.true)
+            ∙ ap (λ (o : FormatOpts). write_at skips a.levels anc o f (take a.len a.text.now)) (sym (c.packed.ensures ∙ inner_here)))
+            (c.write.ensures.writes_forest.for parent f anc (subst (λ (e : ℕ). Rep a.self.now.sheet.now a.nodes.now parent a.c e f) (sym c.node_end-to.ensures) h) x);
+      };
+      ctx_value = sym (ap (λ (b : Bool). cond b (advance_ol_number a.ctx.now) a.ctx.now) (c.if-not-li.true));
+    }
+
+pub item-overflow_add-c : goal.item-overflow_add-c
+item-overflow_add-c t c =
+    let node_here : NodeAt c.args.self.now.sheet.now c.args.nodes.now c.args.c = placeds_at c.requires.0.alone c.requires.0.later in
+    omega (arith, (node_here).inside, c.well_formed)
+
+pub item-has_blocks-requires : goal.item-has_blocks-requires
+item-has_blocks-requires t c =
+    let named_here : name_at c.args.self.now.sheet.now (place_at c.args.nodes.now c.args.c) ≡ 16 = eqb-true (name_at c.args.self.now.sheet.now (place_at c.args.nodes.now c.args.c)) 16 (sym c.requires.1 ∙ c.if-not-li.false) in
+    let its_here : Placed c.args.self.now.sheet.now c.args.nodes.now c.args.c = item_placed c.requires.0 (named_here) in
+    let kids_here : Placeds c.args.self.now.sheet.now c.args.nodes.now (c.args.c + 1) c.node_end-to.result = placed_kids c.args.self.now.sheet.now c.args.nodes.now c.args.c (its_here) c.node_end-to.ensures in
+    let k = kids_here in
+    (k.parent, k.forest, k.rep)
+
+pub item-blocks-requires : goal.item-blocks-requires
+item-blocks-requires t c =
+    let named_here : name_at c.args.self.now.sheet.now (place_at c.args.nodes.now c.args.c) ≡ 16 = eqb-true (name_at c.args.self.now.sheet.now (place_at c.args.nodes.now c.args.c)) 16 (sym c.requires.1 ∙ c.if-not-li.false) in
+    let its_here : Placed c.args.self.now.sheet.now c.args.nodes.now c.args.c = item_placed c.requires.0 (named_here) in
+    (falls_in c.args.levels c.decreases (lit< tt), (its_here, c.requires.2, c.requires.3))
+
+pub item-flat-requires : goal.item-flat-requires
+item-flat-requires t c =
+    let named_here : name_at c.args.self.now.sheet.now (place_at c.args.nodes.now c.args.c) ≡ 16 = eqb-true (name_at c.args.self.now.sheet.now (place_at c.args.nodes.now c.args.c)) 16 (sym c.requires.1 ∙ c.if-not-li.false) in
+    let its_here : Placed c.args.self.now.sheet.now c.args.nodes.now c.args.c = item_placed c.requires.0 (named_here) in
+    (falls_in c.args.levels c.decreases (lit< tt), (its_here, c.requires.2, c.requires.3))
+
+pub item-returns-then-has_blocks : goal.item-returns-then-has_blocks
+item-returns-then-has_blocks t c =
+    let named_here : name_at c.args.self.now.sheet.now (place_at c.args.nodes.now c.args.c) ≡ 16 = eqb-true (name_at c.args.self.now.sheet.now (place_at c.args.nodes.now c.args.c)) 16 (sym c.requires.1 ∙ c.if-not-li.false) in
+    let a = c.args in record {
+      kept = c.blocks-then-has_blocks.ensures.kept;
+      writes_forest = head_item c.requires.0 (named_here) (self_at a.self.now.skip a.levels) a.ctx.now true c.node_end-to.ensures (λ parent f h. sym c.if-has_blocks.true ∙ c.has_blocks.ensures parent f h) c.blocks-then-has_blocks.ensures.writes_element;
+      ctx_value = c.blocks-then-has_blocks.ensures.ctx_value ∙ sym (ap (λ (b : Bool). cond b (advance_ol_number a.ctx.now) a.ctx.now) (c.if-not-li.false));
+    }
+
+pub item-returns : goal.item-returns
+item-returns t c =
+    let named_here : name_at c.args.self.now.sheet.now (place_at c.args.nodes.now c.args.c) ≡ 16 = eqb-true (name_at c.args.self.now.sheet.now (place_at c.args.nodes.now c.args.c)) 16 (sym c.requires.1 ∙ c.if-not-li.false) in
+    let a = c.args in record {
+      kept = c.flat.ensures.kept;
+      writes_forest = head_item c.requires.0 (named_here) (self_at a.self.now.skip a.levels) a.ctx.now false c.node_end-to.ensures (λ parent f h. sym c.if-has_blocks.false ∙ c.has_blocks.ensures parent f h) c.flat.ensures.writes_element;
+      ctx_value = c.flat.ensures.ctx_value ∙ sym (ap (λ (b : Bool). cond b (advance_ol_number a.ctx.now) a.ctx.now) (c.if-not-li.false));
+    }
+
+pub items-loop-c-init : goal.items-loop-c-init
+items-loop-c-init t c = (
+  c.requires.1.0,
+  refl,
+  kept_none c.args.nodes.now,
+  omega arith,
+  c.requires.0,
+  c.requires.2,
+  turn_first c.args.self.now.sheet.now c.args.nodes.now c.args.from c.args.to (λ anc f. list_children (self_at c.args.self.now.skip c.args.levels) anc f c.args.first) c.args.text.now c.args.len c.requires.1.0,
+)
+
+pub items-node_place-place-requires : goal.items-node_place-place-requires
+items-node_place-place-requires t c =
+    let here_here : PlacedNode c.args.self.now.sheet.now c.loop-c.nodes c.loop-c.c = node_kept c.loop-c.invariant.2 (placeds_first c.loop-c.invariant.4 c.loop-c-test.true) in
+    let node_here : NodeAt c.args.self.now.sheet.now c.loop-c.nodes c.loop-c.c = placeds_at (here_here).alone (here_here).later in
+    (node_here).inside
+
+pub items-node_name-li-requires : goal.items-node_name-li-requires
+items-node_name-li-requires t c =
+    let here_here : PlacedNode c.args.self.now.sheet.now c.loop-c.nodes c.loop-c.c = node_kept c.loop-c.invariant.2 (placeds_first c.loop-c.invariant.4 c.loop-c-test.true) in
+    let node_here : NodeAt c.args.self.now.sheet.now c.loop-c.nodes c.loop-c.c = placeds_at (here_here).alone (here_here).later in
+    node_here
+
+pub items-renumbered-ctx-requires : goal.items-renumbered-ctx-requires
+items-renumbered-ctx-requires t c =
+    let here_here : PlacedNode c.args.self.now.sheet.now c.loop-c.nodes c.loop-c.c = node_kept c.loop-c.invariant.2 (placeds_first c.loop-c.invariant.4 c.loop-c-test.true) in
+    let node_here : NodeAt c.args.self.now.sheet.now c.loop-c.nodes c.loop-c.c = placeds_at (here_here).alone (here_here).later in
+    omega (arith, c.node_place-place.ensures, (node_here).placed)
+
+pub items-item-requires : goal.items-item-requires
+items-item-requires t c =
+    let here_here : PlacedNode c.args.self.now.sheet.now c.loop-c.nodes c.loop-c.c = node_kept c.loop-c.invariant.2 (placeds_first c.loop-c.invariant.4 c.loop-c-test.true) in
+    let fits_here : FitsIn c.renumbered-ctx.result c.args.levels = fits_child c.args.levels (eqb c.node_name-li.result 16) (number_of (attr (ascii "value") (attrs_behind c.args.self.now.sheet.now c.node_place-place.result))) c.loop-c.ctx c.renumbered-ctx.result c.renumbered-ctx.ensures c.loop-c.invariant.5 in
+    (falls_in c.args.levels c.decreases (lit< tt), (here_here, ap (λ (k : ℕ). eqb k 16) c.node_name-li.ensures, (c.loop-c.invariant.0, c.requires.1.1), fits_here))
+
+pub items-returns-in_err-end : goal.items-returns-in_err-end
+items-returns-in_err-end t c =
+    let kept_here : Kept c.args.from c.args.to c.args.nodes.now c.item.new.nodes = let l = c.loop-c in let lt = c.loop-c-test.true in kept_then l.invariant.2 (kept_in l.invariant.3 (omega (arith, end_kept l.invariant.2 l.c, placeds_within l.invariant.4 lt)) c.item.ensures.kept) in
+    let parts_here : (next : ListContext) → next ≡ cond (eqb c.node_name-li.result 16) (advance_ol_number c.renumbered-ctx.result) c.renumbered-ctx.result → (parent : ℕ) (anc : Ancestors) (g : Forest) → Rep c.args.self.now.sheet.now c.args.nodes.now parent c.loop-c.c c.args.to g → (u : Bytes) → list_children (self_at c.args.self.now.skip c.args.levels) anc g c.loop-c.ctx u ≡ and_then (list_head (self_at c.args.self.now.skip c.args.levels) anc (head_of g) c.renumbered-ctx.result u) (list_children (self_at c.args.self.now.skip c.args.levels) anc (rest_of g) next) = λ next b parent anc g h u. let l = c.loop-c in let k = place_kept l.invariant.2 l.c in list_first (self_at c.args.self.now.skip c.args.levels) anc l.ctx u c.args.self.now.sheet.now c.args.nodes.now parent l.c c.args.to g h c.loop-c-test.true c.node_place-place.result (eqb c.node_name-li.result 16) c.renumbered-ctx.result next (c.node_place-place.ensures ∙ k) (ap (λ (j : ℕ). eqb j 16) (c.node_name-li.ensures ∙ ap (name_at c.args.self.now.sheet.now) k)) c.renumbered-ctx.ensures b in
+    let wrote_here : WritesForest c.args.self.now.sheet.now c.args.nodes.now c.loop-c.c (end_at c.args.nodes.now c.loop-c.c) (λ anc f. list_head (self_at c.args.self.now.skip c.args.levels) anc f c.renumbered-ctx.result) (take c.loop-c.end c.loop-c.text) (length c.loop-c.text) c.item.new.text c.item.result = writes_before c.loop-c.invariant.2 c.item.ensures.writes_forest in
+    let self = self_at c.args.self.now.skip c.args.levels in
+    let next = cond (eqb c.node_name-li.result 16) (advance_ol_number c.renumbered-ctx.result) c.renumbered-ctx.result in record {
+      kept = kept_here;
+      writes_forest = stops_forest c.from_residual.ensures.0 (record {
+        for = λ parent f anc h a.
+            turn_stop c.loop-c.invariant.6 (λ anc f. list_head self anc f c.renumbered-ctx.result) (λ anc f. list_children self anc f next) (parts_here next refl) c.loop-c-test.true (wrote_here) c.in_err-end.was parent f anc h a;
+      });
+    }
+
+pub items-node_end-c-requires : goal.items-node_end-c-requires
+items-node_end-c-requires t c =
+    let kept_here : Kept c.args.from c.args.to c.args.nodes.now c.item.new.nodes = let l = c.loop-c in let lt = c.loop-c-test.true in kept_then l.invariant.2 (kept_in l.invariant.3 (omega (arith, end_kept l.invariant.2 l.c, placeds_within l.invariant.4 lt)) c.item.ensures.kept) in
+    omega (arith, (placeds_at c.loop-c.invariant.4 c.loop-c-test.true).inside, (kept_here).long)
+
+pub items-loop-c-smaller : goal.items-loop-c-smaller
+items-loop-c-smaller t c =
+    let kept_here : Kept c.args.from c.args.to c.args.nodes.now c.item.new.nodes = let l = c.loop-c in let lt = c.loop-c-test.true in kept_then l.invariant.2 (kept_in l.invariant.3 (omega (arith, end_kept l.invariant.2 l.c, placeds_within l.invariant.4 lt)) c.item.ensures.kept) in
+    omega (arith, placeds_later c.loop-c.invariant.4 c.loop-c-test.true, c.node_end-c.ensures, end_kept (kept_here) c.loop-c.c, c.loop-c-test.true)
+
+pub items-loop-c-preserved : goal.items-loop-c-preserved
+items-loop-c-preserved t c =
+    let kept_here : Kept c.args.from c.args.to c.args.nodes.now c.item.new.nodes = let l = c.loop-c in let lt = c.loop-c-test.true in kept_then l.invariant.2 (kept_in l.invariant.3 (omega (arith, end_kept l.invariant.2 l.c, placeds_within l.invariant.4 lt)) c.item.ensures.kept) in
+    let here_here : PlacedNode c.args.self.now.sheet.now c.loop-c.nodes c.loop-c.c = node_kept c.loop-c.invariant.2 (placeds_first c.loop-c.invariant.4 c.loop-c-test.true) in
+    let fits_here : FitsIn c.renumbered-ctx.result c.args.levels = fits_child c.args.levels (eqb c.node_name-li.result 16) (number_of (attr (ascii "value") (attrs_behind c.args.self.now.sheet.now c.node_place-place.result))) c.loop-c.ctx c.renumbered-ctx.result c.renumbered-ctx.ensures c.loop-c.invariant.5 in
+    let parts_here : (next : ListContext) → next ≡ cond (eqb c.node_name-li.result 16) (advance_ol_number c.renumbered-ctx.result) c.renumbered-ctx.result → (parent : ℕ) (anc : Ancestors) (g : Forest) → Rep c.args.self.now.sheet.now c.args.nodes.now parent c.loop-c.c c.args.to g → (u : Bytes) → list_children (self_at c.args.self.now.skip c.args.levels) anc g c.loop-c.ctx u ≡ and_then (list_head (self_at c.args.self.now.skip c.args.levels) anc (head_of g) c.renumbered-ctx.result u) (list_children (self_at c.args.self.now.skip c.args.levels) anc (rest_of g) next) = λ next b parent anc g h u. let l = c.loop-c in let k = place_kept l.invariant.2 l.c in list_first (self_at c.args.self.now.skip c.args.levels) anc l.ctx u c.args.self.now.sheet.now c.args.nodes.now parent l.c c.args.to g h c.loop-c-test.true c.node_place-place.result (eqb c.node_name-li.result 16) c.renumbered-ctx.result next (c.node_place-place.ensures ∙ k) (ap (λ (j : ℕ). eqb j 16) (c.node_name-li.ensures ∙ ap (name_at c.args.self.now.sheet.now) k)) c.renumbered-ctx.ensures b in
+    let wrote_here : WritesForest c.args.self.now.sheet.now c.args.nodes.now c.loop-c.c (end_at c.args.nodes.now c.loop-c.c) (λ anc f. list_head (self_at c.args.self.now.skip c.args.levels) anc f c.renumbered-ctx.result) (take c.loop-c.end c.loop-c.text) (length c.loop-c.text) c.item.new.text c.item.result = writes_before c.loop-c.invariant.2 c.item.ensures.writes_forest in
+    let l = c.loop-c in
+    let lt = c.loop-c-test.true in
+    let K = kept_here in
+    let q = c.node_end-c.ensures ∙ end_kept K l.c in
+    let self = self_at c.args.self.now.skip c.args.levels in (
+      forest-reaches c.item.ensures.writes_forest (here_here).alone c.in_ok-end.was,
+      forest-long c.item.ensures.writes_forest (here_here).alone c.in_ok-end.was ∙ l.invariant.1,
+      K,
+      omega (arith, placeds_later l.invariant.4 lt, l.invariant.3, q),
+      subst (λ (k : ℕ). Placeds c.args.self.now.sheet.now c.args.nodes.now k c.args.to) (sym q) (placeds_on l.invariant.4 lt),
+      fits_behind c.args.levels (eqb c.node_name-li.result 16) c.renumbered-ctx.result c.item.new.ctx c.item.ensures.ctx_value (fits_here),
+      turn_on l.invariant.6 (λ anc f. list_head self anc f c.renumbered-ctx.result) (λ anc f. list_children self anc f c.item.new.ctx) (parts_here c.item.new.ctx c.item.ensures.ctx_value) lt (wrote_here) q c.in_ok-end.was,
+    )
+
+pub items-returns : goal.items-returns
+items-returns t c =
+    let l = c.loop-c in record {
+      kept = l.invariant.2;
+      writes_forest = record {
+        for = λ parent f anc h a.
+            turn_last l.invariant.6 c.loop-c-test.false (λ anc u. list_none (self_at c.args.self.now.skip c.args.levels) anc l.ctx u) parent f anc h a;
+      };
+    }
+
+pub kids-node_end-to-requires : goal.kids-node_end-to-requires
+kids-node_end-to-requires t c =
+    (placed_node c.args.self.now.sheet.now c.args.nodes.now c.args.at c.requires.0).inside
+
+pub kids-overflow_add-at : goal.kids-overflow_add-at
+kids-overflow_add-at t c =
+    omega (arith, (placed_node c.args.self.now.sheet.now c.args.nodes.now c.args.at c.requires.0).inside, c.well_formed)
+
+pub kids-is_one_text-requires : goal.kids-is_one_text-requires
+kids-is_one_text-requires t c =
+    let p = placed_kids c.args.self.now.sheet.now c.args.nodes.now c.args.at c.requires.0 c.node_end-to.ensures in
+    (rep_le c.args.self.now.sheet.now c.args.nodes.now p.parent (c.args.at + 1) c.node_end-to.result p.forest p.rep, λ l. placeds_at p l)
+
+pub kids-overflow_add-at-then-levels-is_one_text : goal.kids-overflow_add-at-then-levels-is_one_text
+kids-overflow_add-at-then-levels-is_one_text t c =
+    omega (arith, (placed_node c.args.self.now.sheet.now c.args.nodes.now c.args.at c.requires.0).inside, c.well_formed)
+
+pub kids-trim_behind_text-requires : goal.kids-trim_behind_text-requires
+kids-trim_behind_text-requires t c =
+    (placeds_at (placed_kids c.args.self.now.sheet.now c.args.nodes.now c.args.at c.requires.0 c.node_end-to.ensures) (omega (arith, (c.is_one_text.ensures (some_one c.args.levels c.is_one_text.result c.if-levels-is_one_text.true).1).0)), c.requires.1.0)
+
+pub kids-returns-then-levels-is_one_text : goal.kids-returns-then-levels-is_one_text
+unfolding serializer
+kids-returns-then-levels-is_one_text t c =
+    let a = c.args in
+    let u = c.unpacked-opts in
+    let b = some_one a.levels c.is_one_text.result c.if-levels-is_one_text.true in
+    let o = c.is_one_text.ensures b.1 in record {
+      kept = kept_none a.nodes.now;
+      writes_element = record {
+        for = λ name attrs kids anc x h.
+            alike (ap (λ (o : FormatOpts). write_kids (self_at a.self.now.skip a.levels) anc o (element name attrs kids nothing) (take a.len a.text.now)) (sym u.ensures)
+            ∙ kids_is (self_at a.self.now.skip a.levels) anc u.result name attrs kids (take a.len a.text.now)
+            ∙ ap (λ (z : Out). and_then z trim_space) (write_some (tags_to_skip (skip_of a.self.now.skip)) a.levels (attrs ∷ anc) u.result kids (take a.len a.text.now) b.0
+            ∙ one_is a.self.now.sheet.now a.nodes.now a.at (a.at + 1) c.node_end-to.result o.0 o.1 (self_at a.self.now.skip (a.levels - 1)) (attrs ∷ anc) u.result (take a.len a.text.now) kids (element_kids x c.node_end-to.ensures)))
+            c.trim_behind_text.ensures;
+      };
+    }
+
+pub kids-overflow_add-at-2 : goal.kids-overflow_add-at-2
+kids-overflow_add-at-2 t c =
+    omega (arith, (placed_node c.args.self.now.sheet.now c.args.nodes.now c.args.at c.requires.0).inside, c.well_formed)
+
+pub kids-write-requires : goal.kids-write-requires
+kids-write-requires t c =
+    (falls_in c.args.levels c.decreases (lit< tt), (placed_kids c.args.self.now.sheet.now c.args.nodes.now c.args.at c.requires.0 c.node_end-to.ensures, c.requires.1, c.requires.2))
+
+pub kids-trim_space-requires : goal.kids-trim_space-requires
+kids-trim_space-requires t c =
+    forest-reaches c.write.ensures.writes_forest (placed_kids c.args.self.now.sheet.now c.args.nodes.now c.args.at c.requires.0 c.node_end-to.ensures) c.in_ok-n.was
+
+pub kids-returns-in_err-n : goal.kids-returns-in_err-n
+kids-returns-in_err-n t c =
+    let a = c.args in record {
+      kept = kept_in (omega arith) (omega (arith, c.node_end-to.ensures)) c.write.ensures.kept;
+      writes_element = stops_element c.from_residual.ensures.0 (record { for = λ name attrs kids anc x h. both-full a.text.now a.len c.requires.1.0 (write_kids (self_at a.self.now.skip a.levels) anc (unpacked a.bits) (element name attrs kids nothing)) ((self_at a.self.now.skip a.levels).below (attrs ∷ anc) (unpacked a.bits) kids) trim_space (kids_is (self_at a.self.now.skip a.levels) anc (unpacked a.bits) name attrs kids (take a.len a.text.now)) (below-wrote a.self.now.skip a.levels (unpacked a.bits) anc x h c.node_end-to.ensures c.write.ensures.writes_forest) c.in_err-n.was });
+    }
+
+pub kids-returns : goal.kids-returns
+kids-returns t c =
+    let a = c.args in record {
+      kept = kept_in (omega arith) (omega (arith, c.node_end-to.ensures)) c.write.ensures.kept;
+      writes_element = record { for = λ name attrs kids anc x h. both-done a.text.now a.len c.requires.1.0 (write_kids (self_at a.self.now.skip a.levels) anc (unpacked a.bits) (element name attrs kids nothing)) ((self_at a.self.now.skip a.levels).below (attrs ∷ anc) (unpacked a.bits) kids) trim_space (kids_is (self_at a.self.now.skip a.levels) anc (unpacked a.bits) name attrs kids (take a.len a.text.now)) (below-wrote a.self.now.skip a.levels (unpacked a.bits) anc x h c.node_end-to.ensures c.write.ensures.writes_forest) c.in_ok-n.was (record { says = c.trim_space.ensures }) };
+    }
+
+pub led-flow-requires : goal.led-flow-requires
+led-flow-requires t c = (
+  falls_in c.args.levels c.decreases (lit< tt),
+  (c.requires.0, c.requires.1, (reaches (done c.in_ok-n.was c.push_block_lead.ensures), c.requires.2.1), c.requires.3),
+)
+
+pub led-push_linebreak-requires : goal.led-push_linebreak-requires
+led-push_linebreak-requires t c =
+    element_reaches c.requires.0 c.flow.ensures.writes_element c.in_ok-m.was
+
+pub led-returns : goal.led-returns
+led-returns t c =
+    record {
+      kept = c.flow.ensures.kept;
+      writes_element = led_done c.args.self.now.sheet.now c.args.nodes.now c.args.c c.requires.1 (self_at c.args.self.now.skip c.args.levels) (item_of c.args.item) c.args.first c.args.text.now c.args.len c.requires.2.0 c.push_block_lead.ensures c.in_ok-n.was c.flow.ensures.writes_element c.in_ok-m.was c.push_linebreak.ensures;
+    }
+
+pub led-returns-in_err-m : goal.led-returns-in_err-m
+led-returns-in_err-m t c =
+    record {
+      kept = c.flow.ensures.kept;
+      writes_element = stops_element c.from_residual-in_err-m.ensures.0 (led_full c.args.self.now.sheet.now c.args.nodes.now c.args.c c.requires.1 (self_at c.args.self.now.skip c.args.levels) (item_of c.args.item) c.args.first c.args.text.now c.args.len c.requires.2.0 c.push_block_lead.ensures c.in_ok-n.was c.flow.ensures.writes_element c.in_err-m.was);
+    }
+
+pub led-returns-in_err-n : goal.led-returns-in_err-n
+led-returns-in_err-n t c =
+    record {
+      kept = kept_none c.args.nodes.now;
+      writes_element = stops_element c.from_residual.ensures.0 (led_none c.args.self.now.sheet.now c.args.nodes.now c.args.c c.requires.1 (self_at c.args.self.now.skip c.args.levels) (item_of c.args.item) c.args.first c.args.text.now c.args.len c.requires.2.0 c.push_block_lead.ensures c.in_err-n.was);
+    }
+
+pub link-node_end-end-requires : goal.link-node_end-end-requires
+link-node_end-end-requires t c =
+    (placed_node c.args.self.now.sheet.now c.args.nodes.now c.args.at c.requires.0).inside
+
+pub link-overflow_add-at : goal.link-overflow_add-at
+link-overflow_add-at t c =
+    omega (arith, (placed_node c.args.self.now.sheet.now c.args.nodes.now c.args.at c.requires.0).inside, c.well_formed)
+
+pub link-overflow_add-at-2 : goal.link-overflow_add-at-2
+link-overflow_add-at-2 t c =
+    omega (arith, (placed_node c.args.self.now.sheet.now c.args.nodes.now c.args.at c.requires.0).inside, c.well_formed)
+
+pub link-has_element-requires : goal.link-has_element-requires
+link-has_element-requires t c =
+    let k = placed_kids c.args.self.now.sheet.now c.args.nodes.now c.args.at c.requires.0 c.node_end-end.ensures in
+    ((k.parent, k.forest, k.rep), lit< tt)
+
+pub link-body-requires : goal.link-body-requires
+link-body-requires t c =
+    (falls_in c.args.levels c.decreases (lit< tt), (c.requires.0, c.requires.1, subst (λ (o : FormatOpts). Fits o c.args.levels) (sym (c.link_body.ensures ∙ ap link_body c.fresh-fresh.ensures)) (omega (arith, c.requires.2)), c.requires.3))
+
+pub link-returns-then-has_element : goal.link-returns-then-has_element
+link-returns-then-has_element t c =
+    let a = c.args in
+    let href = a.dest.now in record {
+      kept = c.body.ensures.kept;
+      writes_element = record {
+        for = λ name attrs kids anc x h.
+            alike (to_image (self_at a.self.now.skip a.levels) anc a.opts href name attrs kids (take a.len a.text.now) (sym (c.has_element.ensures a.at kids (element_kids x c.node_end-end.ensures)) ∙ c.if-has_element.true))
+            (subst (λ (o : FormatOpts). Writes (length a.text.now) c.body.new.text c.body.result (link_of attrs href (write_kids (self_at a.self.now.skip a.levels) anc o (element name attrs kids nothing) []) push (take a.len a.text.now))) (c.link_body.ensures ∙ ap link_body c.fresh-fresh.ensures) (c.body.ensures.writes_element.for name attrs kids anc x h));
+      };
+    }
+
+pub link-write_text-requires : goal.link-write_text-requires
+link-write_text-requires t c =
+    let k = placed_kids c.args.self.now.sheet.now c.args.nodes.now c.args.at c.requires.0 c.node_end-end.ensures in
+    ((k.parent, k.forest, k.rep), omega arith)
+
+pub link-body-requires-then-n-eq0 : goal.link-body-requires-then-n-eq0
+link-body-requires-then-n-eq0 t c =
+    let wrote_here : (name : Bytes) (attrs : List Attr) (kids : Forest) → ElementAt c.args.self.now.sheet.now c.args.nodes.now c.args.at name attrs kids → Writes (length (lent c.args.text.now c.args.len)) c.write_text.new.text c.write_text.result (shown_text c.args.opts kids) = λ name attrs kids x. let a = c.args in subst (λ (o : FormatOpts). Writes (length (lent a.text.now a.len)) c.write_text.new.text c.write_text.result (write_text o kids [])) (c.skip_escape-plain.ensures ∙ ap skip_escape (c.include_node.ensures ∙ ap include_node c.fresh-fresh.ensures)) (c.write_text.ensures a.at kids (element_kids x c.node_end-end.ensures)) in
+    let a = c.args in
+    let p = c.requires.0 in
+    let w = done c.in_ok-n.was (wrote_here _ _ _ p.0.3) in
+    (falls_in a.levels c.decreases (lit< tt), (p, (omega (arith, back_length a.text.now a.len c.requires.1.0 (shown_text a.opts p.0.2) w, c.requires.1.0), c.requires.1.1), subst (λ (o : FormatOpts). Fits o a.levels) (sym c.fresh-fresh.ensures) (omega (arith, c.requires.2)), c.requires.3))
+
+pub link-returns-then-n-eq0 : goal.link-returns-then-n-eq0
+link-returns-then-n-eq0 t c =
+    let wrote_here : (name : Bytes) (attrs : List Attr) (kids : Forest) → ElementAt c.args.self.now.sheet.now c.args.nodes.now c.args.at name attrs kids → Writes (length (lent c.args.text.now c.args.len)) c.write_text.new.text c.write_text.result (shown_text c.args.opts kids) = λ name attrs kids x. let a = c.args in subst (λ (o : FormatOpts). Writes (length (lent a.text.now a.len)) c.write_text.new.text c.write_text.result (write_text o kids [])) (c.skip_escape-plain.ensures ∙ ap skip_escape (c.include_node.ensures ∙ ap include_node c.fresh-fresh.ensures)) (c.write_text.ensures a.at kids (element_kids x c.node_end-end.ensures)) in
+    let bare_here : (name : Bytes) (attrs : List Attr) (kids : Forest) → ElementAt c.args.self.now.sheet.now c.args.nodes.now c.args.at name attrs kids → has_element 22 kids ≡ false = λ _ _ kids x. sym (c.has_element.ensures c.args.at kids (element_kids x c.node_end-end.ensures)) ∙ c.if-has_element.false in
+    let a = c.args in
+    let href = a.dest.now in record {
+      kept = c.body-then-n-eq0.ensures.kept;
+      writes_element = record {
+        for = λ name attrs kids anc x h.
+            let w = done c.in_ok-n.was (wrote_here _ _ _ x) in
+            alike (to_body (self_at a.self.now.skip a.levels) anc a.opts href name attrs kids (take a.len a.text.now) (bare_here _ _ _ x) (null_none (shown_text a.opts kids).text (sym w.count ∙ c.if-n-eq0.true)))
+            (subst₂ (λ (k : ℕ) (u : Bytes). Writes k c.body-then-n-eq0.new.text c.body-then-n-eq0.result (link_of attrs href (write_kids (self_at a.self.now.skip a.levels) anc (fresh a.opts) (element name attrs kids nothing) []) push u)) (back_length a.text.now a.len c.requires.1.0 (shown_text a.opts kids) w) (back_text a.text.now a.len c.requires.1.0 (shown_text a.opts kids) w)
+            (subst (λ (o : FormatOpts). Writes (length (back a.text.now a.len c.write_text.new.text)) c.body-then-n-eq0.new.text c.body-then-n-eq0.result (link_of attrs href (write_kids (self_at a.self.now.skip a.levels) anc o (element name attrs kids nothing) []) push (take a.len (back a.text.now a.len c.write_text.new.text)))) c.fresh-fresh.ensures (c.body-then-n-eq0.ensures.writes_element.for name attrs kids anc x h)));
+      };
+    }
+
+pub link-node_place-place-requires : goal.link-node_place-place-requires
+link-node_place-place-requires t c =
+    (placed_node c.args.self.now.sheet.now c.args.nodes.now c.args.at c.requires.0).inside
+
+pub link-push_text_link-requires : goal.link-push_text_link-requires
+link-push_text_link-requires t c =
+    let wrote_here : (name : Bytes) (attrs : List Attr) (kids : Forest) → ElementAt c.args.self.now.sheet.now c.args.nodes.now c.args.at name attrs kids → Writes (length (lent c.args.text.now c.args.len)) c.write_text.new.text c.write_text.result (shown_text c.args.opts kids) = λ name attrs kids x. let a = c.args in subst (λ (o : FormatOpts). Writes (length (lent a.text.now a.len)) c.write_text.new.text c.write_text.result (write_text o kids [])) (c.skip_escape-plain.ensures ∙ ap skip_escape (c.include_node.ensures ∙ ap include_node c.fresh-fresh.ensures)) (c.write_text.ensures a.at kids (element_kids x c.node_end-end.ensures)) in
+    let p = c.requires.0 in
+    (nest-fits c.args.text.now c.args.len c.requires.1.0 (wrote_here _ _ _ p.0.3) c.in_ok-n.was, omega (arith, c.node_place-place.ensures, (placed_node c.args.self.now.sheet.now c.args.nodes.now c.args.at p).placed), c.requires.3)
+
+pub link-returns-else-n-eq0 : goal.link-returns-else-n-eq0
+link-returns-else-n-eq0 t c =
+    let wrote_here : (name : Bytes) (attrs : List Attr) (kids : Forest) → ElementAt c.args.self.now.sheet.now c.args.nodes.now c.args.at name attrs kids → Writes (length (lent c.args.text.now c.args.len)) c.write_text.new.text c.write_text.result (shown_text c.args.opts kids) = λ name attrs kids x. let a = c.args in subst (λ (o : FormatOpts). Writes (length (lent a.text.now a.len)) c.write_text.new.text c.write_text.result (write_text o kids [])) (c.skip_escape-plain.ensures ∙ ap skip_escape (c.include_node.ensures ∙ ap include_node c.fresh-fresh.ensures)) (c.write_text.ensures a.at kids (element_kids x c.node_end-end.ensures)) in
+    let bare_here : (name : Bytes) (attrs : List Attr) (kids : Forest) → ElementAt c.args.self.now.sheet.now c.args.nodes.now c.args.at name attrs kids → has_element 22 kids ≡ false = λ _ _ kids x. sym (c.has_element.ensures c.args.at kids (element_kids x c.node_end-end.ensures)) ∙ c.if-has_element.false in
+    let a = c.args in
+    let href = a.dest.now in record {
+      kept = kept_none a.nodes.now;
+      writes_element = record {
+        for = λ name attrs kids anc x h.
+            let w = done c.in_ok-n.was (wrote_here _ _ _ x) in
+            alike (to_text (self_at a.self.now.skip a.levels) anc a.opts href name attrs kids (take a.len a.text.now) (bare_here _ _ _ x) (null_more (shown_text a.opts kids).text (λ z. c.if-n-eq0.false (w.count ∙ z))))
+            (nest-done a.text.now a.len c.requires.1.0 (wrote_here _ _ _ x) (λ z. text_link_step a.opts attrs href z) c.in_ok-n.was
+            (subst (λ (l : List Attr). Writes (length (back a.text.now a.len c.write_text.new.text)) c.push_text_link.new.text c.push_text_link.result (text_link_step a.opts l href (take c.in_ok-n.n (drop a.len (back a.text.now a.len c.write_text.new.text))) (take a.len (back a.text.now a.len c.write_text.new.text)))) (ap (attrs_behind a.self.now.sheet.now) c.node_place-place.ensures ∙ sym x.attrs_are) c.push_text_link.ensures));
+      };
+    }
+
+pub link-returns-in_err-n : goal.link-returns-in_err-n
+link-returns-in_err-n t c =
+    let bare_here : (name : Bytes) (attrs : List Attr) (kids : Forest) → ElementAt c.args.self.now.sheet.now c.args.nodes.now c.args.at name attrs kids → has_element 22 kids ≡ false = λ _ _ kids x. sym (c.has_element.ensures c.args.at kids (element_kids x c.node_end-end.ensures)) ∙ c.if-has_element.false in
+    let wrote_here : (name : Bytes) (attrs : List Attr) (kids : Forest) → ElementAt c.args.self.now.sheet.now c.args.nodes.now c.args.at name attrs kids → Writes (length (lent c.args.text.now c.args.len)) c.write_text.new.text c.write_text.result (shown_text c.args.opts kids) = λ name attrs kids x. let a = c.args in subst (λ (o : FormatOpts). Writes (length (lent a.text.now a.len)) c.write_text.new.text c.write_text.result (write_text o kids [])) (c.skip_escape-plain.ensures ∙ ap skip_escape (c.include_node.ensures ∙ ap include_node c.fresh-fresh.ensures)) (c.write_text.ensures a.at kids (element_kids x c.node_end-end.ensures)) in
+    let a = c.args in
+    let href = a.dest.now in record {
+      kept = kept_none a.nodes.now;
+      writes_element = stops_element c.from_residual.ensures.0 (record {
+        for = λ name attrs kids anc x h.
+            alike (to_text (self_at a.self.now.skip a.levels) anc a.opts href name attrs kids (take a.len a.text.now) (bare_here _ _ _ x) (shown_null (shown_text a.opts kids) (text_grown (skip_escape (include_node (fresh a.opts))) kids []) (full c.in_err-n.was (wrote_here _ _ _ x))))
+            (nest-full a.text.now a.len c.requires.1.0 (wrote_here _ _ _ x) (text_link_step a.opts attrs href (shown_text a.opts kids).text) c.in_err-n.was);
+      });
+    }
+
+pub link-slice_bounds-write_text-count : goal.link-slice_bounds-write_text-count
+link-slice_bounds-write_text-count t c =
+    c.requires.1.0
+
+pub link-slice_bounds-write_text-start : goal.link-slice_bounds-write_text-start
+link-slice_bounds-write_text-start t c =
+    c.requires.1.0
+
+pub node-node_place-place-requires : goal.node-node_place-place-requires
+node-node_place-place-requires t c =
+    let here_here : NodeAt c.args.self.now.sheet.now c.args.nodes.now c.args.at = placeds_at c.requires.0.alone c.requires.0.later in
+    (here_here).inside
+
+pub node-tag_at-requires : goal.node-tag_at-requires
+node-tag_at-requires t c =
+    let here_here : NodeAt c.args.self.now.sheet.now c.args.nodes.now c.args.at = placeds_at c.requires.0.alone c.requires.0.later in
+    omega (arith, (here_here).placed, c.node_place-place.ensures)
+
+pub node-node_is_skipped-requires : goal.node-node_is_skipped-requires
+node-node_is_skipped-requires t c =
+    let here_here : NodeAt c.args.self.now.sheet.now c.args.nodes.now c.args.at = placeds_at c.requires.0.alone c.requires.0.later in
+    here_here
+
+pub node-write_text_node-requires : goal.node-write_text_node-requires
+node-write_text_node-requires t c =
+    let here_here : NodeAt c.args.self.now.sheet.now c.args.nodes.now c.args.at = placeds_at c.requires.0.alone c.requires.0.later in
+    (here_here, c.requires.1.0)
+
+pub node-returns-then-tag_at-ne1 : goal.node-returns-then-tag_at-ne1
+node-returns-then-tag_at-ne1 t c =
+    let a = c.args in
+    let u = c.unpacked-opts in
+    record {
+      kept = kept_none a.nodes.now;
+      writes_forest = record { for = λ parent f anc h q. alike (ap (λ (o : FormatOpts). write_nodes (self_at a.self.now.skip a.levels) anc o f (take a.len a.text.now)) (sym u.ensures) ∙ node_text a.self.now.sheet.now a.nodes.now parent a.at c.requires.0.later (self_at a.self.now.skip a.levels) anc u.result (take a.len a.text.now) f h (λ e. c.if-tag_at-ne1.true (c.tag_at.ensures ∙ ap (λ (k : ℕ). get_or a.self.now.sheet.now k 0) c.node_place-place.ensures ∙ e))) c.write_text_node.ensures };
+    }
+
+pub node-returns-then-node_is_skipped : goal.node-returns-then-node_is_skipped
+unfolding serializer
+node-returns-then-node_is_skipped t c =
+    let tagged_here : get_or c.args.self.now.sheet.now (place_at c.args.nodes.now c.args.at) 0 ≡ 1 = omega (arith, c.if-tag_at-ne1.false, c.tag_at.ensures ∙ ap (λ (k : ℕ). get_or c.args.self.now.sheet.now k 0) c.node_place-place.ensures) in
+    let tagged_here_2 : get_or c.args.self.now.sheet.now (place_at c.args.nodes.now c.args.at) 0 ≡ 1 = omega (arith, c.if-tag_at-ne1.false, c.tag_at.ensures ∙ ap (λ (k : ℕ). get_or c.args.self.now.sheet.now k 0) c.node_place-place.ensures) in
+    let skips_here : among (body_at c.args.self.now.sheet.now (place_at c.args.nodes.now c.args.at)) (tags_to_skip (skip_of c.args.self.now.skip)) ≡ c.node_is_skipped.result = let a = c.args in sym (first_skipped a.self.now.sheet.now (place_at a.nodes.now a.at) (tags_to_skip (skip_of a.self.now.skip)) (tagged_here_2)) ∙ sym c.node_is_skipped.ensures in
+    let a = c.args in record {
+      kept = kept_none a.nodes.now;
+      writes_forest = record {
+        for = λ parent f anc h q.
+            alike (ap (λ (g : Forest). write_nodes (self_at a.self.now.skip a.levels) anc (unpacked a.bits) g (take a.len a.text.now)) (alone_element a.self.now.sheet.now a.nodes.now parent a.at c.requires.0.later f h (tagged_here))
+            ∙ element_skipped (self_at a.self.now.skip a.levels) anc (unpacked a.bits) (body_at a.self.now.sheet.now (place_at a.nodes.now a.at)) (attrs_behind a.self.now.sheet.now (place_at a.nodes.now a.at)) (kids_of f) (take a.len a.text.now) (skips_here ∙ c.if-node_is_skipped.true))
+            (record { says = keeps a.text.now a.len c.requires.1.0 });
+      };
+    }
+
+pub node-opened-requires : goal.node-opened-requires
+node-opened-requires t c =
+    let tagged_here : get_or c.args.self.now.sheet.now (place_at c.args.nodes.now c.args.at) 0 ≡ 1 = omega (arith, c.if-tag_at-ne1.false, c.tag_at.ensures ∙ ap (λ (k : ℕ). get_or c.args.self.now.sheet.now k 0) c.node_place-place.ensures) in
+    let placed_here : Placed c.args.self.now.sheet.now c.args.nodes.now c.args.at = node_placed c.requires.0 (tagged_here) in
+    ((placed_here).0, c.requires.1.0)
+
+pub node-inside-requires : goal.node-inside-requires
+node-inside-requires t c =
+    let tagged_here : get_or c.args.self.now.sheet.now (place_at c.args.nodes.now c.args.at) 0 ≡ 1 = omega (arith, c.if-tag_at-ne1.false, c.tag_at.ensures ∙ ap (λ (k : ℕ). get_or c.args.self.now.sheet.now k 0) c.node_place-place.ensures) in
+    let placed_here : Placed c.args.self.now.sheet.now c.args.nodes.now c.args.at = node_placed c.requires.0 (tagged_here) in
+    let p = placed_here in
+    (falls_in c.args.levels c.decreases (lit< tt), (p, (reaches (done c.in_ok-n.was (c.opened.ensures p.0.0 p.0.1 p.0.2 p.0.3)), c.requires.1.1), c.requires.2))
+
+pub node-returns : goal.node-returns
+unfolding serializer
+node-returns t c =
+    let tagged_here : get_or c.args.self.now.sheet.now (place_at c.args.nodes.now c.args.at) 0 ≡ 1 = omega (arith, c.if-tag_at-ne1.false, c.tag_at.ensures ∙ ap (λ (k : ℕ). get_or c.args.self.now.sheet.now k 0) c.node_place-place.ensures) in
+    let tagged_here_2 : get_or c.args.self.now.sheet.now (place_at c.args.nodes.now c.args.at) 0 ≡ 1 = omega (arith, c.if-tag_at-ne1.false, c.tag_at.ensures ∙ ap (λ (k : ℕ). get_or c.args.self.now.sheet.now k 0) c.node_place-place.ensures) in
+    let skips_here : among (body_at c.args.self.now.sheet.now (place_at c.args.nodes.now c.args.at)) (tags_to_skip (skip_of c.args.self.now.skip)) ≡ c.node_is_skipped.result = let a = c.args in sym (first_skipped a.self.now.sheet.now (place_at a.nodes.now a.at) (tags_to_skip (skip_of a.self.now.skip)) (tagged_here_2)) ∙ sym c.node_is_skipped.ensures in
+    let goes_here : (parent : ℕ) (f : Forest) (anc : Ancestors) → Rep c.args.self.now.sheet.now c.args.nodes.now parent c.args.at (end_at c.args.nodes.now c.args.at) f → write_nodes (self_at c.args.self.now.skip c.args.levels) anc (unpacked c.args.bits) f (take c.args.len c.args.text.now) ≡ and_then (opened (unpacked c.args.bits) (tag_of (body_at c.args.self.now.sheet.now (place_at c.args.nodes.now c.args.at))) (attrs_behind c.args.self.now.sheet.now (place_at c.args.nodes.now c.args.at)) (kids_of f) (take c.args.len c.args.text.now)) (in_element (self_at c.args.self.now.skip c.args.levels) anc (unpacked c.args.bits) (body_at c.args.self.now.sheet.now (place_at c.args.nodes.now c.args.at)) (attrs_behind c.args.self.now.sheet.now (place_at c.args.nodes.now c.args.at)) (kids_of f)) = λ parent f anc h. let a = c.args in ap (λ (g : Forest). write_nodes (self_at a.self.now.skip a.levels) anc (unpacked a.bits) g (take a.len a.text.now)) (alone_element a.self.now.sheet.now a.nodes.now parent a.at c.requires.0.later f h (tagged_here)) ∙ element_opened (self_at a.self.now.skip a.levels) anc (unpacked a.bits) (body_at a.self.now.sheet.now (place_at a.nodes.now a.at)) (attrs_behind a.self.now.sheet.now (place_at a.nodes.now a.at)) (kids_of f) (take a.len a.text.now) (skips_here ∙ c.if-node_is_skipped.false) in
+    let tagged_here_3 : get_or c.args.self.now.sheet.now (place_at c.args.nodes.now c.args.at) 0 ≡ 1 = omega (arith, c.if-tag_at-ne1.false, c.tag_at.ensures ∙ ap (λ (k : ℕ). get_or c.args.self.now.sheet.now k 0) c.node_place-place.ensures) in
+    let opens_here : (parent : ℕ) (f : Forest) → Rep c.args.self.now.sheet.now c.args.nodes.now parent c.args.at (end_at c.args.nodes.now c.args.at) f → Writes (length c.args.text.now) c.opened.new.text c.opened.result (opened (unpacked c.args.bits) (tag_of (body_at c.args.self.now.sheet.now (place_at c.args.nodes.now c.args.at))) (attrs_behind c.args.self.now.sheet.now (place_at c.args.nodes.now c.args.at)) (kids_of f) (take c.args.len c.args.text.now)) = λ parent f h. let a = c.args in subst (λ (o : FormatOpts). Writes (length a.text.now) c.opened.new.text c.opened.result (opened o (tag_of (body_at a.self.now.sheet.now (place_at a.nodes.now a.at))) (attrs_behind a.self.now.sheet.now (place_at a.nodes.now a.at)) (kids_of f) (take a.len a.text.now))) c.unpacked-opts-2.ensures (c.opened.ensures (body_at c.args.self.now.sheet.now (place_at c.args.nodes.now c.args.at)) (attrs_behind c.args.self.now.sheet.now (place_at c.args.nodes.now c.args.at)) (kids_of f) (node_element c.args.self.now.sheet.now c.args.nodes.now parent c.args.at (end_at c.args.nodes.now c.args.at) f h c.requires.0.later c.requires.0.alone.positive (tagged_here_3))) in
+    let tagged_here_4 : get_or c.args.self.now.sheet.now (place_at c.args.nodes.now c.args.at) 0 ≡ 1 = omega (arith, c.if-tag_at-ne1.false, c.tag_at.ensures ∙ ap (λ (k : ℕ). get_or c.args.self.now.sheet.now k 0) c.node_place-place.ensures) in
+    let a = c.args in record {
+      kept = c.inside.ensures.kept;
+      writes_forest = record {
+        for = λ parent f anc h q.
+            both-done a.text.now a.len c.requires.1.0 (write_nodes (self_at a.self.now.skip a.levels) anc (unpacked a.bits) f) (opened (unpacked a.bits) (tag_of (body_at a.self.now.sheet.now (place_at a.nodes.now a.at))) (attrs_behind a.self.now.sheet.now (place_at a.nodes.now a.at)) (kids_of f))
+            (in_element (self_at a.self.now.skip a.levels) anc (unpacked a.bits) (body_at a.self.now.sheet.now (place_at a.nodes.now a.at)) (attrs_behind a.self.now.sheet.now (place_at a.nodes.now a.at)) (kids_of f)) (goes_here parent f anc h) (opens_here parent f h) c.in_ok-n.was
+            (alone_writes c.requires.0 (tagged_here_4) c.inside.ensures.writes_element parent f anc h q);
+      };
+    }
+
+pub node-returns-in_err-n : goal.node-returns-in_err-n
+unfolding serializer
+node-returns-in_err-n t c =
+    let tagged_here : get_or c.args.self.now.sheet.now (place_at c.args.nodes.now c.args.at) 0 ≡ 1 = omega (arith, c.if-tag_at-ne1.false, c.tag_at.ensures ∙ ap (λ (k : ℕ). get_or c.args.self.now.sheet.now k 0) c.node_place-place.ensures) in
+    let tagged_here_2 : get_or c.args.self.now.sheet.now (place_at c.args.nodes.now c.args.at) 0 ≡ 1 = omega (arith, c.if-tag_at-ne1.false, c.tag_at.ensures ∙ ap (λ (k : ℕ). get_or c.args.self.now.sheet.now k 0) c.node_place-place.ensures) in
+    let skips_here : among (body_at c.args.self.now.sheet.now (place_at c.args.nodes.now c.args.at)) (tags_to_skip (skip_of c.args.self.now.skip)) ≡ c.node_is_skipped.result = let a = c.args in sym (first_skipped a.self.now.sheet.now (place_at a.nodes.now a.at) (tags_to_skip (skip_of a.self.now.skip)) (tagged_here_2)) ∙ sym c.node_is_skipped.ensures in
+    let goes_here : (parent : ℕ) (f : Forest) (anc : Ancestors) → Rep c.args.self.now.sheet.now c.args.nodes.now parent c.args.at (end_at c.args.nodes.now c.args.at) f → write_nodes (self_at c.args.self.now.skip c.args.levels) anc (unpacked c.args.bits) f (take c.args.len c.args.text.now) ≡ and_then (opened (unpacked c.args.bits) (tag_of (body_at c.args.self.now.sheet.now (place_at c.args.nodes.now c.args.at))) (attrs_behind c.args.self.now.sheet.now (place_at c.args.nodes.now c.args.at)) (kids_of f) (take c.args.len c.args.text.now)) (in_element (self_at c.args.self.now.skip c.args.levels) anc (unpacked c.args.bits) (body_at c.args.self.now.sheet.now (place_at c.args.nodes.now c.args.at)) (attrs_behind c.args.self.now.sheet.now (place_at c.args.nodes.now c.args.at)) (kids_of f)) = λ parent f anc h. let a = c.args in ap (λ (g : Forest). write_nodes (self_at a.self.now.skip a.levels) anc (unpacked a.bits) g (take a.len a.text.now)) (alone_element a.self.now.sheet.now a.nodes.now parent a.at c.requires.0.later f h (tagged_here)) ∙ element_opened (self_at a.self.now.skip a.levels) anc (unpacked a.bits) (body_at a.self.now.sheet.now (place_at a.nodes.now a.at)) (attrs_behind a.self.now.sheet.now (place_at a.nodes.now a.at)) (kids_of f) (take a.len a.text.now) (skips_here ∙ c.if-node_is_skipped.false) in
+    let tagged_here_3 : get_or c.args.self.now.sheet.now (place_at c.args.nodes.now c.args.at) 0 ≡ 1 = omega (arith, c.if-tag_at-ne1.false, c.tag_at.ensures ∙ ap (λ (k : ℕ). get_or c.args.self.now.sheet.now k 0) c.node_place-place.ensures) in
+    let opens_here : (parent : ℕ) (f : Forest) → Rep c.args.self.now.sheet.now c.args.nodes.now parent c.args.at (end_at c.args.nodes.now c.args.at) f → Writes (length c.args.text.now) c.opened.new.text c.opened.result (opened (unpacked c.args.bits) (tag_of (body_at c.args.self.now.sheet.now (place_at c.args.nodes.now c.args.at))) (attrs_behind c.args.self.now.sheet.now (place_at c.args.nodes.now c.args.at)) (kids_of f) (take c.args.len c.args.text.now)) = λ parent f h. let a = c.args in subst (λ (o : FormatOpts). Writes (length a.text.now) c.opened.new.text c.opened.result (opened o (tag_of (body_at a.self.now.sheet.now (place_at a.nodes.now a.at))) (attrs_behind a.self.now.sheet.now (place_at a.nodes.now a.at)) (kids_of f) (take a.len a.text.now))) c.unpacked-opts-2.ensures (c.opened.ensures (body_at c.args.self.now.sheet.now (place_at c.args.nodes.now c.args.at)) (attrs_behind c.args.self.now.sheet.now (place_at c.args.nodes.now c.args.at)) (kids_of f) (node_element c.args.self.now.sheet.now c.args.nodes.now parent c.args.at (end_at c.args.nodes.now c.args.at) f h c.requires.0.later c.requires.0.alone.positive (tagged_here_3))) in
+    let a = c.args in record {
+      kept = kept_none a.nodes.now;
+      writes_forest = stops_forest c.from_residual.ensures.0 (record {
+        for = λ parent f anc h q.
+            both-full a.text.now a.len c.requires.1.0 (write_nodes (self_at a.self.now.skip a.levels) anc (unpacked a.bits) f) (opened (unpacked a.bits) (tag_of (body_at a.self.now.sheet.now (place_at a.nodes.now a.at))) (attrs_behind a.self.now.sheet.now (place_at a.nodes.now a.at)) (kids_of f))
+            (in_element (self_at a.self.now.skip a.levels) anc (unpacked a.bits) (body_at a.self.now.sheet.now (place_at a.nodes.now a.at)) (attrs_behind a.self.now.sheet.now (place_at a.nodes.now a.at)) (kids_of f)) (goes_here parent f anc h) (opens_here parent f h) c.in_err-n.was;
+      });
+    }
+
+pub row-node_end-to-requires : goal.row-node_end-to-requires
+row-node_end-to-requires t c =
+    c.requires.0.1.is_element.inside
+
+pub row-overflow_add-tr : goal.row-overflow_add-tr
+row-overflow_add-tr t c =
+    let x = c.requires.0.1 in
+    omega (arith, rep_le c.args.self.now.sheet.now c.args.nodes.now c.args.tr (c.args.tr + 1) (end_at c.args.nodes.now c.args.tr) x.kids x.is_element.kids_are, c.node_end-to.ensures)
+
+pub row-next_cell-c-requires : goal.row-next_cell-c-requires
+row-next_cell-c-requires t c =
+    let x = c.requires.0.1 in
+    (c.args.tr, x.kids, subst (λ (j : ℕ). Rep c.args.self.now.sheet.now c.args.nodes.now c.args.tr (c.args.tr + 1) j x.kids) (sym c.node_end-to.ensures) x.is_element.kids_are)
+
+pub row-loop-c-init : goal.row-loop-c-init
+row-loop-c-init t c =
+    let a = c.args in
+    row_start (serializer (tags_to_skip (skip_of a.self.now.skip)) a.levels) a.opts c.requires.0 c.node_end-to.ensures c.next_cell-c.ensures.later c.next_cell-c.ensures.cells a.text.now a.len c.requires.1.0
+
+pub row-slice_bounds-cell-count : goal.row-slice_bounds-cell-count
+row-slice_bounds-cell-count t c =
+    omega (arith, row_reach c.loop-c.invariant)
+
+pub row-slice_bounds-cell-start : goal.row-slice_bounds-cell-start
+row-slice_bounds-cell-start t c =
+    omega (arith, row_reach c.loop-c.invariant)
+
+pub row-slice_bounds-cell-end : goal.row-slice_bounds-cell-end
+row-slice_bounds-cell-end t c =
+    omega (arith, row_reach c.loop-c.invariant)
+
+pub row-cell-requires : goal.row-cell-requires
+row-cell-requires t c =
+    (falls_in c.args.levels c.decreases (lit< tt), (row_placed c.loop-c.invariant c.loop-c-test.true, c.requires.1.1, c.requires.2))
+
+pub row-store_span-requires : goal.row-store_span-requires
+row-store_span-requires t c =
+    omega (arith, row_inside c.loop-c.invariant c.loop-c-test.true, c.cell.ensures.kept.long)
+
+pub row-overflow_add-end : goal.row-overflow_add-end
+row-overflow_add-end t c =
+    let p = c.loop-c.invariant in
+    let w = done c.in_ok-n.was (row_writes p c.loop-c-test.true c.cell.ensures.writes p.some.0 p.some.1) in
+    omega (arith, temp_fits c.loop-c.text c.loop-c.end (row_reach p) _ w, back_length c.loop-c.text c.loop-c.end (row_reach p) _ w, row_long p, c.well_formed)
+
+pub row-returns-in_err-n : goal.row-returns-in_err-n
+row-returns-in_err-n t c =
+    let p = c.loop-c.invariant in
+    record {
+      kept = row_kept p c.loop-c-test.true c.cell.ensures.kept;
+      row_writes = λ cells x. stops_row c.from_residual.ensures.0 (row_stop p c.loop-c-test.true (row_writes p c.loop-c-test.true c.cell.ensures.writes) c.in_err-n.was _ _ cells x);
+    }
+
+pub row-node_end-after-requires : goal.row-node_end-after-requires
+row-node_end-after-requires t c =
+    omega (arith, row_inside c.loop-c.invariant c.loop-c-test.true, c.cell.ensures.kept.long, c.store_span.ensures.0.long)
+
+pub row-next_cell-c-requires-in-loop-c : goal.row-next_cell-c-requires-in-loop-c
+row-next_cell-c-requires-in-loop-c t c =
+    row_behind c.loop-c.invariant c.loop-c-test.true c.cell.ensures.kept c.store_span.ensures.0 c.node_end-after.ensures
+
+pub row-loop-c-smaller : goal.row-loop-c-smaller
+row-loop-c-smaller t c =
+    omega (arith, row_later c.loop-c.invariant c.loop-c-test.true c.cell.ensures.kept c.store_span.ensures.0 c.node_end-after.ensures, c.next_cell-c-in-loop-c.ensures.later, c.loop-c-test.true)
+
+pub row-loop-c-preserved : goal.row-loop-c-preserved
+row-loop-c-preserved t c =
+    let p = c.loop-c.invariant in
+    row_on p c.loop-c-test.true (row_writes p c.loop-c-test.true c.cell.ensures.writes) c.in_ok-n.was c.cell.ensures.kept c.store_span.ensures.0 c.store_span.ensures.2 c.node_end-after.ensures c.next_cell-c-in-loop-c.ensures.later c.next_cell-c-in-loop-c.ensures.cells
+
+pub row-shape_of-nodes : goal.row-shape_of-nodes
+row-shape_of-nodes t c =
+    c.loop-c.invariant.kept.long
+
+pub row-shape_of-text : goal.row-shape_of-text
+row-shape_of-text t c =
+    row_long c.loop-c.invariant
+
+pub row-returns : goal.row-returns
+row-returns t c =
+    record {
+      kept = subst (λ (j : ℕ). Kept (c.args.tr + 1) j c.args.nodes.now c.loop-c.nodes) c.loop-c.invariant.to_is c.loop-c.invariant.kept;
+      row_writes = row_end c.loop-c.invariant c.loop-c-test.false;
+    }
+
+pub siblings-is_one_text-requires : goal.siblings-is_one_text-requires
+siblings-is_one_text-requires t c =
+    let p = c.requires.0 in
+    (rep_le c.args.self.now.sheet.now c.args.nodes.now p.parent c.args.from c.args.to p.forest p.rep, λ l. placeds_at p l)
+
+pub siblings-write_text_node-requires : goal.siblings-write_text_node-requires
+siblings-write_text_node-requires t c =
+    (placeds_at c.requires.0 (omega (arith, (c.is_one_text.ensures (some_one c.args.levels c.is_one_text.result c.if-levels-is_one_text.true).1).0)), c.requires.1.0)
+
+pub siblings-returns-then-levels-is_one_text : goal.siblings-returns-then-levels-is_one_text
+siblings-returns-then-levels-is_one_text t c =
+    let a = c.args in
+    let u = c.unpacked-opts in
+    let b = some_one a.levels c.is_one_text.result c.if-levels-is_one_text.true in
+    let o = c.is_one_text.ensures b.1 in record {
+      kept = kept_none a.nodes.now;
+      writes_forest = record {
+        for = λ parent f anc h q.
+            alike (ap (λ (o : FormatOpts). write_at (tags_to_skip (skip_of a.self.now.skip)) a.levels anc o f (take a.len a.text.now)) (sym u.ensures)
+            ∙ write_some (tags_to_skip (skip_of a.self.now.skip)) a.levels anc u.result f (take a.len a.text.now) b.0
+            ∙ one_is a.self.now.sheet.now a.nodes.now parent a.from a.to o.0 o.1 (self_at a.self.now.skip (a.levels - 1)) anc u.result (take a.len a.text.now) f h)
+            c.write_text_node.ensures;
+      };
+    }
+
+pub siblings-write-requires : goal.siblings-write-requires
+siblings-write-requires t c =
+    (falls_in c.args.levels c.decreases (lit< tt), c.requires)
+
+pub siblings-returns : goal.siblings-returns
+siblings-returns t c =
+    c.write.ensures
+
+pub write-returns-then-levels-eq0 : goal.write-returns-then-levels-eq0
+write-returns-then-levels-eq0 t c =
+    record {
+      kept = kept_none c.args.nodes.now;
+      writes_forest = record { for = λ parent f anc h a. alike (write_none (tags_to_skip (skip_of c.args.self.now.skip)) c.args.levels anc (unpacked c.args.bits) f (take c.args.len c.args.text.now) c.if-levels-eq0.true) (record { says = keeps c.args.text.now c.args.len c.requires.1.0 }) };
+    }
+
+pub write-loop-at-init : goal.write-loop-at-init
+write-loop-at-init t c = (
+  c.requires.1.0,
+  refl,
+  kept_none c.args.nodes.now,
+  omega arith,
+  c.requires.0,
+  turn_first c.args.self.now.sheet.now c.args.nodes.now c.args.from c.args.to (λ anc f. write_nodes (self_at c.args.self.now.skip (c.args.levels - 1)) anc (unpacked c.args.bits) f) c.args.text.now c.args.len c.requires.1.0,
+)
+
+pub write-overflow_sub-levels : goal.write-overflow_sub-levels
+write-overflow_sub-levels t c =
+    omega (arith, c.if-levels-eq0.false)
+
+pub write-node-requires : goal.write-node-requires
+write-node-requires t c =
+    let l = c.loop-at in
+    let p : 0 < c.args.levels = omega (arith, c.if-levels-eq0.false) in
+    (falls_out c.args.levels c.decreases p (lit< tt), (node_kept l.invariant.2 (placeds_first l.invariant.4 c.loop-at-test.true), (l.invariant.0, c.requires.1.1), omega (arith, p, c.requires.2)))
+
+pub write-returns-in_err-end : goal.write-returns-in_err-end
+write-returns-in_err-end t c =
+    let kept_here : Kept c.args.from c.args.to c.args.nodes.now c.node.new.nodes = let l = c.loop-at in let lt = c.loop-at-test.true in kept_then l.invariant.2 (kept_in l.invariant.3 (omega (arith, end_kept l.invariant.2 l.at, placeds_within l.invariant.4 lt)) c.node.ensures.kept) in
+    let wrote_here : WritesForest c.args.self.now.sheet.now c.args.nodes.now c.loop-at.at (end_at c.args.nodes.now c.loop-at.at) (λ anc f. write_nodes (self_at c.args.self.now.skip (c.args.levels - 1)) anc (unpacked c.args.bits) f) (take c.loop-at.end c.loop-at.text) (length c.loop-at.text) c.node.new.text c.node.result = writes_before c.loop-at.invariant.2 c.node.ensures.writes_forest in
+    record {
+      kept = kept_here;
+      writes_forest = stops_forest c.from_residual.ensures.0 (record {
+        for = λ parent f anc h a. alike (write_some (tags_to_skip (skip_of c.args.self.now.skip)) c.args.levels anc (unpacked c.args.bits) f (take c.args.len c.args.text.now) (omega (arith, c.if-levels-eq0.false)))
+            (turn_stop c.loop-at.invariant.5 (λ anc f. write_nodes (self_at c.args.self.now.skip (c.args.levels - 1)) anc (unpacked c.args.bits) f) (λ anc f. write_nodes (self_at c.args.self.now.skip (c.args.levels - 1)) anc (unpacked c.args.bits) f) (λ parent anc g h u. nodes_first (self_at c.args.self.now.skip (c.args.levels - 1)) anc (unpacked c.args.bits) g u) c.loop-at-test.true (wrote_here) c.in_err-end.was parent f anc h a);
+      });
+    }
+
+pub write-node_end-at-requires : goal.write-node_end-at-requires
+write-node_end-at-requires t c =
+    let kept_here : Kept c.args.from c.args.to c.args.nodes.now c.node.new.nodes = let l = c.loop-at in let lt = c.loop-at-test.true in kept_then l.invariant.2 (kept_in l.invariant.3 (omega (arith, end_kept l.invariant.2 l.at, placeds_within l.invariant.4 lt)) c.node.ensures.kept) in
+    omega (arith, (placeds_at c.loop-at.invariant.4 c.loop-at-test.true).inside, (kept_here).long)
+
+pub write-loop-at-smaller : goal.write-loop-at-smaller
+write-loop-at-smaller t c =
+    let kept_here : Kept c.args.from c.args.to c.args.nodes.now c.node.new.nodes = let l = c.loop-at in let lt = c.loop-at-test.true in kept_then l.invariant.2 (kept_in l.invariant.3 (omega (arith, end_kept l.invariant.2 l.at, placeds_within l.invariant.4 lt)) c.node.ensures.kept) in
+    omega (arith, placeds_later c.loop-at.invariant.4 c.loop-at-test.true, c.node_end-at.ensures, end_kept (kept_here) c.loop-at.at, c.loop-at-test.true)
+
+pub write-loop-at-preserved : goal.write-loop-at-preserved
+write-loop-at-preserved t c =
+    let kept_here : Kept c.args.from c.args.to c.args.nodes.now c.node.new.nodes = let l = c.loop-at in let lt = c.loop-at-test.true in kept_then l.invariant.2 (kept_in l.invariant.3 (omega (arith, end_kept l.invariant.2 l.at, placeds_within l.invariant.4 lt)) c.node.ensures.kept) in
+    let wrote_here : WritesForest c.args.self.now.sheet.now c.args.nodes.now c.loop-at.at (end_at c.args.nodes.now c.loop-at.at) (λ anc f. write_nodes (self_at c.args.self.now.skip (c.args.levels - 1)) anc (unpacked c.args.bits) f) (take c.loop-at.end c.loop-at.text) (length c.loop-at.text) c.node.new.text c.node.result = writes_before c.loop-at.invariant.2 c.node.ensures.writes_forest in
+    let l = c.loop-at in
+    let lt = c.loop-at-test.true in
+    let K = kept_here in
+    let q = c.node_end-at.ensures ∙ end_kept K l.at in
+    let d = done c.in_ok-end.was (c.node.ensures.writes_forest.for (node_kept l.invariant.2 (placeds_first l.invariant.4 lt)).alone.parent (node_kept l.invariant.2 (placeds_first l.invariant.4 lt)).alone.forest (node_kept l.invariant.2 (placeds_first l.invariant.4 lt)).alone.anc (node_kept l.invariant.2 (placeds_first l.invariant.4 lt)).alone.rep (node_kept l.invariant.2 (placeds_first l.invariant.4 lt)).alone.around) in (
+      reaches d,
+      d.long ∙ l.invariant.1,
+      K,
+      omega (arith, placeds_later l.invariant.4 lt, l.invariant.3, q),
+      subst (λ (k : ℕ). Placeds c.args.self.now.sheet.now c.args.nodes.now k c.args.to) (sym q) (placeds_on l.invariant.4 lt),
+      turn_on l.invariant.5 (λ anc f. write_nodes (self_at c.args.self.now.skip (c.args.levels - 1)) anc (unpacked c.args.bits) f) (λ anc f. write_nodes (self_at c.args.self.now.skip (c.args.levels - 1)) anc (unpacked c.args.bits) f) (λ parent anc g h u. nodes_first (self_at c.args.self.now.skip (c.args.levels - 1)) anc (unpacked c.args.bits) g u) lt (wrote_here) q c.in_ok-end.was,
+    )
+
+pub write-returns : goal.write-returns
+write-returns t c =
+    let l = c.loop-at in record {
+      kept = l.invariant.2;
+      writes_forest = record {
+        for = λ parent f anc h a. alike (write_some (tags_to_skip (skip_of c.args.self.now.skip)) c.args.levels anc (unpacked c.args.bits) f (take c.args.len c.args.text.now) (omega (arith, c.if-levels-eq0.false)))
+            (turn_last l.invariant.5 c.loop-at-test.false (λ anc u. nodes_none (self_at c.args.self.now.skip (c.args.levels - 1)) anc (unpacked c.args.bits) u) parent f anc h a);
+      };
+    }
+
+pub write_element-write_list-requires : goal.write_element-write_list-requires
+write_element-write_list-requires t c =
+    let u = c.unpacked-opts in
+    (falls_in c.args.levels c.decreases (lit< tt), (c.requires.0, c.requires.1, c.requires.2, subst (λ (o : FormatOpts). Fits o (c.args.levels + 1)) (sym u.ensures) c.requires.3))
+
+pub write_element-returns-then-is_list : goal.write_element-returns-then-is_list
+write_element-returns-then-is_list t c =
+    let named_here : (name : Bytes) (attrs : List Attr) (kids : Forest) → ElementAt c.args.self.now.sheet.now c.args.nodes.now c.args.at name attrs kids → c.args.name ≡ tag_of name = λ _ _ _ x. c.requires.1 ∙ element_name x in
+    let u = c.unpacked-opts in
+    let a = c.args in record {
+      kept = c.write_list.ensures.kept;
+      writes_element = record {
+        for = λ name attrs kids anc x h.
+            alike (ap (λ (o : FormatOpts). write_element (self_at a.self.now.skip a.levels) anc o name attrs kids (take a.len a.text.now)) (sym u.ensures) ∙ by_list (self_at a.self.now.skip a.levels) anc u.result name attrs kids (take a.len a.text.now) (named_here _ _ _ x) (sym c.is_list.ensures ∙ c.if-is_list.true)) (c.write_list.ensures.writes_element.for name attrs kids anc x h);
+      };
+    }
+
+pub write_element-write_link-requires : goal.write_element-write_link-requires
+write_element-write_link-requires t c =
+    let u = c.unpacked-opts in
+    (falls_in c.args.levels c.decreases (lit< tt), (c.requires.0, c.requires.2, subst (λ (o : FormatOpts). Fits o (c.args.levels + 1)) (sym u.ensures) c.requires.3))
+
+pub write_element-write_table-requires : goal.write_element-write_table-requires
+write_element-write_table-requires t c =
+    let u = c.unpacked-opts in
+    (falls_in c.args.levels c.decreases (lit< tt), (c.requires.0, c.requires.2, subst (λ (o : FormatOpts). Fits o (c.args.levels + 1)) (sym u.ensures) c.requires.3))
+
+pub write_element-returns-then-name-eq21 : goal.write_element-returns-then-name-eq21
+write_element-returns-then-name-eq21 t c =
+    let named_here : (name : Bytes) (attrs : List Attr) (kids : Forest) → ElementAt c.args.self.now.sheet.now c.args.nodes.now c.args.at name attrs kids → c.args.name ≡ tag_of name = λ _ _ _ x. c.requires.1 ∙ element_name x in
+    let u = c.unpacked-opts in
+    let a = c.args in record {
+      kept = c.write_link.ensures.kept;
+      writes_element = record {
+        for = λ name attrs kids anc x h.
+            alike (ap (λ (o : FormatOpts). write_element (self_at a.self.now.skip a.levels) anc o name attrs kids (take a.len a.text.now)) (sym u.ensures) ∙ by_link (self_at a.self.now.skip a.levels) anc u.result name attrs kids (take a.len a.text.now) (named_here _ _ _ x) (sym c.is_list.ensures ∙ c.if-is_list.false) c.if-name-eq21.true) (c.write_link.ensures.writes_element.for name attrs kids anc x h);
+      };
+    }
+
+pub write_element-node_place-place-requires : goal.write_element-node_place-place-requires
+write_element-node_place-place-requires t c =
+    (placed_node c.args.self.now.sheet.now c.args.nodes.now c.args.at c.requires.0).inside
+
+pub write_element-write_img-requires : goal.write_element-write_img-requires
+write_element-write_img-requires t c =
+    (c.requires.2.0, omega (arith, c.node_place-place.ensures, (placed_node c.args.self.now.sheet.now c.args.nodes.now c.args.at c.requires.0).placed), c.requires.2.1)
+
+pub write_element-returns-then-name-eq22 : goal.write_element-returns-then-name-eq22
+write_element-returns-then-name-eq22 t c =
+    let named_here : (name : Bytes) (attrs : List Attr) (kids : Forest) → ElementAt c.args.self.now.sheet.now c.args.nodes.now c.args.at name attrs kids → c.args.name ≡ tag_of name = λ _ _ _ x. c.requires.1 ∙ element_name x in
+    let u = c.unpacked-opts in
+    let a = c.args in record {
+      kept = kept_none a.nodes.now;
+      writes_element = record {
+        for = λ name attrs kids anc x h.
+            alike (ap (λ (o : FormatOpts). write_element (self_at a.self.now.skip a.levels) anc o name attrs kids (take a.len a.text.now)) (sym u.ensures) ∙ by_img (self_at a.self.now.skip a.levels) anc u.result name attrs kids (take a.len a.text.now) (named_here _ _ _ x) (sym c.is_list.ensures ∙ c.if-is_list.false) c.if-name-eq22.true
+            ∙ ap (λ (l : List Attr). write_img l (take a.len a.text.now)) (x.attrs_are ∙ ap (attrs_behind a.self.now.sheet.now) (sym c.node_place-place.ensures))) c.write_img.ensures;
+      };
+    }
+
+pub write_element-write_pre-requires : goal.write_element-write_pre-requires
+write_element-write_pre-requires t c =
+    (c.requires.0, c.requires.2.0)
+
+pub write_element-returns-then-name-eq23 : goal.write_element-returns-then-name-eq23
+write_element-returns-then-name-eq23 t c =
+    let named_here : (name : Bytes) (attrs : List Attr) (kids : Forest) → ElementAt c.args.self.now.sheet.now c.args.nodes.now c.args.at name attrs kids → c.args.name ≡ tag_of name = λ _ _ _ x. c.requires.1 ∙ element_name x in
+    let u = c.unpacked-opts in
+    let a = c.args in record {
+      kept = kept_none a.nodes.now;
+      writes_element = record {
+        for = λ name attrs kids anc x h.
+            alike (ap (λ (o : FormatOpts). write_element (self_at a.self.now.skip a.levels) anc o name attrs kids (take a.len a.text.now)) (sym u.ensures) ∙ by_pre (self_at a.self.now.skip a.levels) anc u.result name attrs kids (take a.len a.text.now) (named_here _ _ _ x) (sym c.is_list.ensures ∙ c.if-is_list.false) c.if-name-eq23.true) (c.write_pre.ensures name attrs kids anc x h);
+      };
+    }
+
+pub write_element-returns-then-name-eq14 : goal.write_element-returns-then-name-eq14
+write_element-returns-then-name-eq14 t c =
+    let named_here : (name : Bytes) (attrs : List Attr) (kids : Forest) → ElementAt c.args.self.now.sheet.now c.args.nodes.now c.args.at name attrs kids → c.args.name ≡ tag_of name = λ _ _ _ x. c.requires.1 ∙ element_name x in
+    let u = c.unpacked-opts in
+    let a = c.args in record {
+      kept = c.write_table.ensures.kept;
+      writes_element = record {
+        for = λ name attrs kids anc x h.
+            alike (ap (λ (o : FormatOpts). write_element (self_at a.self.now.skip a.levels) anc o name attrs kids (take a.len a.text.now)) (sym u.ensures) ∙ by_table (self_at a.self.now.skip a.levels) anc u.result name attrs kids (take a.len a.text.now) (named_here _ _ _ x) (sym c.is_list.ensures ∙ c.if-is_list.false) c.if-name-eq14.true) (c.write_table.ensures.writes_element.for name attrs kids anc x h);
+      };
+    }
+
+pub write_element-write_code-requires : goal.write_element-write_code-requires
+write_element-write_code-requires t c =
+    (c.requires.0, c.requires.2.0)
+
+pub write_element-returns-then-name-eq24 : goal.write_element-returns-then-name-eq24
+write_element-returns-then-name-eq24 t c =
+    let named_here : (name : Bytes) (attrs : List Attr) (kids : Forest) → ElementAt c.args.self.now.sheet.now c.args.nodes.now c.args.at name attrs kids → c.args.name ≡ tag_of name = λ _ _ _ x. c.requires.1 ∙ element_name x in
+    let u = c.unpacked-opts in
+    let a = c.args in record {
+      kept = kept_none a.nodes.now;
+      writes_element = record {
+        for = λ name attrs kids anc x h.
+            alike (ap (λ (o : FormatOpts). write_element (self_at a.self.now.skip a.levels) anc o name attrs kids (take a.len a.text.now)) (sym u.ensures) ∙ by_code (self_at a.self.now.skip a.levels) anc u.result name attrs kids (take a.len a.text.now) (named_here _ _ _ x) (sym c.is_list.ensures ∙ c.if-is_list.false) c.if-name-eq24.true) (c.write_code.ensures a.levels name attrs kids anc x h);
+      };
+    }
+
+pub write_element-write_emphasis-requires : goal.write_element-write_emphasis-requires
+write_element-write_emphasis-requires t c =
+    let u = c.unpacked-opts in
+    (falls_in c.args.levels c.decreases (lit< tt), (c.requires.0, c.requires.1, c.requires.2, subst (λ (o : FormatOpts). Fits o (c.args.levels + 1)) (sym u.ensures) c.requires.3))
+
+pub write_element-returns : goal.write_element-returns
+write_element-returns t c =
+    let named_here : (name : Bytes) (attrs : List Attr) (kids : Forest) → ElementAt c.args.self.now.sheet.now c.args.nodes.now c.args.at name attrs kids → c.args.name ≡ tag_of name = λ _ _ _ x. c.requires.1 ∙ element_name x in
+    let u = c.unpacked-opts in
+    let a = c.args in record {
+      kept = c.write_emphasis.ensures.kept;
+      writes_element = record {
+        for = λ name attrs kids anc x h.
+            alike (ap (λ (o : FormatOpts). write_element (self_at a.self.now.skip a.levels) anc o name attrs kids (take a.len a.text.now)) (sym u.ensures) ∙ by_emphasis (self_at a.self.now.skip a.levels) anc u.result name attrs kids (take a.len a.text.now) (named_here _ _ _ x) (sym c.is_list.ensures ∙ c.if-is_list.false) c.if-name-eq21.false c.if-name-eq22.false c.if-name-eq23.false c.if-name-eq14.false c.if-name-eq24.false) (c.write_emphasis.ensures.writes_element.for name attrs kids anc x h);
+      };
+    }
+
+pub write_emphasis-node_end-to-requires : goal.write_emphasis-node_end-to-requires
+write_emphasis-node_end-to-requires t c =
+    (placed_node c.args.self.now.sheet.now c.args.nodes.now c.args.at c.requires.0).inside
+
+pub write_emphasis-overflow_add-at : goal.write_emphasis-overflow_add-at
+write_emphasis-overflow_add-at t c =
+    omega (arith, (placed_node c.args.self.now.sheet.now c.args.nodes.now c.args.at c.requires.0).inside, c.well_formed)
+
+pub write_emphasis-packed-requires : goal.write_emphasis-packed-requires
+write_emphasis-packed-requires t c =
+    omega (arith, subst (λ (o : FormatOpts). Fits o c.args.levels) (sym c.emphasis_opts-inner.ensures) (omega (arith, c.requires.3)))
+
+pub write_emphasis-write-requires : goal.write_emphasis-write-requires
+write_emphasis-write-requires t c = (
+  falls_in c.args.levels c.decreases (lit< tt),
+  (
+    placed_kids c.args.self.now.sheet.now c.args.nodes.now c.args.at c.requires.0 c.node_end-to.ensures,
+    (omega arith, c.requires.2.1),
+    subst (λ (o : FormatOpts). Fits o c.args.levels) (sym (c.packed.ensures ∙ c.emphasis_opts-inner.ensures)) (omega (arith, c.requires.3)),
+  ),
+)
+
+pub write_emphasis-push_emphasis_by-requires : goal.write_emphasis-push_emphasis_by-requires
+write_emphasis-push_emphasis_by-requires t c =
+    let wrote_here : (name : Bytes) (attrs : List Attr) (kids : Forest) (anc : Ancestors) → ElementAt c.args.self.now.sheet.now c.args.nodes.now c.args.at name attrs kids → Around c.args.self.now.sheet.now c.args.nodes.now (parent_at c.args.nodes.now c.args.at) anc → Writes (length (lent c.args.text.now c.args.len)) c.write.new.text c.write.result ((self_at c.args.self.now.skip c.args.levels).below (attrs ∷ anc) (emphasis_scope (scope_of (md_emphasis (tag_of name))) (inline (include_node c.args.opts))) kids []) = λ name attrs kids anc x h. let a = c.args in subst (λ (o : FormatOpts). Writes (length (lent a.text.now a.len)) c.write.new.text c.write.result ((self_at a.self.now.skip a.levels).below (attrs ∷ anc) o kids [])) (c.packed.ensures ∙ c.emphasis_opts-inner.ensures ∙ ap (λ (k : ℕ). emphasis_scope (scope_of (md_emphasis k)) (inline (include_node a.opts))) (c.requires.1 ∙ element_name x)) (below-wrote a.self.now.skip a.levels (unpacked c.packed.result) anc x h c.node_end-to.ensures c.write.ensures.writes_forest) in
+    let p = c.requires.0 in
+    nest-fits c.args.text.now c.args.len c.requires.2.0 (wrote_here _ _ _ p.1.0 p.0.3 p.1.1) c.in_ok-n.was
+
+pub write_emphasis-returns : goal.write_emphasis-returns
+write_emphasis-returns t c =
+    let wrote_here : (name : Bytes) (attrs : List Attr) (kids : Forest) (anc : Ancestors) → ElementAt c.args.self.now.sheet.now c.args.nodes.now c.args.at name attrs kids → Around c.args.self.now.sheet.now c.args.nodes.now (parent_at c.args.nodes.now c.args.at) anc → Writes (length (lent c.args.text.now c.args.len)) c.write.new.text c.write.result ((self_at c.args.self.now.skip c.args.levels).below (attrs ∷ anc) (emphasis_scope (scope_of (md_emphasis (tag_of name))) (inline (include_node c.args.opts))) kids []) = λ name attrs kids anc x h. let a = c.args in subst (λ (o : FormatOpts). Writes (length (lent a.text.now a.len)) c.write.new.text c.write.result ((self_at a.self.now.skip a.levels).below (attrs ∷ anc) o kids [])) (c.packed.ensures ∙ c.emphasis_opts-inner.ensures ∙ ap (λ (k : ℕ). emphasis_scope (scope_of (md_emphasis k)) (inline (include_node a.opts))) (c.requires.1 ∙ element_name x)) (below-wrote a.self.now.skip a.levels (unpacked c.packed.result) anc x h c.node_end-to.ensures c.write.ensures.writes_forest) in
+    let a = c.args in record {
+      kept = kept_in (omega arith) (omega (arith, c.node_end-to.ensures)) c.write.ensures.kept;
+      writes_element = record {
+        for = λ name attrs kids anc x h. alike (ap (λ (f : Step). f (take a.len a.text.now)) (emphasis_is (self_at a.self.now.skip a.levels) anc a.opts (tag_of name) attrs kids))
+            (nest-done a.text.now a.len c.requires.2.0 (wrote_here _ _ _ anc x h) (λ z. emphasis_step a.opts (tag_of name) z) c.in_ok-n.was
+            (subst (λ (k : ℕ). Writes (length (back a.text.now a.len c.write.new.text)) c.push_emphasis_by.new.text c.push_emphasis_by.result (emphasis_step a.opts k (take c.in_ok-n.n (drop a.len (back a.text.now a.len c.write.new.text))) (take a.len (back a.text.now a.len c.write.new.text)))) (c.requires.1 ∙ element_name x) c.push_emphasis_by.ensures));
+      };
+    }
+
+pub write_emphasis-returns-in_err-n : goal.write_emphasis-returns-in_err-n
+write_emphasis-returns-in_err-n t c =
+    let wrote_here : (name : Bytes) (attrs : List Attr) (kids : Forest) (anc : Ancestors) → ElementAt c.args.self.now.sheet.now c.args.nodes.now c.args.at name attrs kids → Around c.args.self.now.sheet.now c.args.nodes.now (parent_at c.args.nodes.now c.args.at) anc → Writes (length (lent c.args.text.now c.args.len)) c.write.new.text c.write.result ((self_at c.args.self.now.skip c.args.levels).below (attrs ∷ anc) (emphasis_scope (scope_of (md_emphasis (tag_of name))) (inline (include_node c.args.opts))) kids []) = λ name attrs kids anc x h. let a = c.args in subst (λ (o : FormatOpts). Writes (length (lent a.text.now a.len)) c.write.new.text c.write.result ((self_at a.self.now.skip a.levels).below (attrs ∷ anc) o kids [])) (c.packed.ensures ∙ c.emphasis_opts-inner.ensures ∙ ap (λ (k : ℕ). emphasis_scope (scope_of (md_emphasis k)) (inline (include_node a.opts))) (c.requires.1 ∙ element_name x)) (below-wrote a.self.now.skip a.levels (unpacked c.packed.result) anc x h c.node_end-to.ensures c.write.ensures.writes_forest) in
+    let a = c.args in record {
+      kept = kept_in (omega arith) (omega (arith, c.node_end-to.ensures)) c.write.ensures.kept;
+      writes_element = stops_element c.from_residual.ensures.0 (record {
+        for = λ name attrs kids anc x h. alike (ap (λ (f : Step). f (take a.len a.text.now)) (emphasis_is (self_at a.self.now.skip a.levels) anc a.opts (tag_of name) attrs kids))
+            (nest-full a.text.now a.len c.requires.2.0 (wrote_here _ _ _ anc x h) (emphasis_step a.opts (tag_of name) ((self_at a.self.now.skip a.levels).below (attrs ∷ anc) (emphasis_scope (scope_of (md_emphasis (tag_of name))) (inline (include_node a.opts))) kids []).text) c.in_err-n.was);
+      });
+    }
+
+pub write_link-node_place-place-requires : goal.write_link-node_place-place-requires
+write_link-node_place-place-requires t c =
+    (placed_node c.args.self.now.sheet.now c.args.nodes.now c.args.at c.requires.0).inside
+
+pub write_link-attribute-requires : goal.write_link-attribute-requires
+write_link-attribute-requires t c =
+    omega (arith, c.node_place-place.ensures, (placed_node c.args.self.now.sheet.now c.args.nodes.now c.args.at c.requires.0).placed)
+
+pub write_link-link-requires : goal.write_link-link-requires
+write_link-link-requires t c =
+    let k = c.in-Some.ensures in
+    (falls_in c.args.levels c.decreases (lit< tt), (c.requires.0, c.requires.1, c.requires.2, omega (arith, part_short c.args.self.now.sheet.now c.in-Some.dest.now k.inside, c.requires.1.1)))
+
+pub write_link-returns-in-Some : goal.write_link-returns-in-Some
+write_link-returns-in-Some t c =
+    let a = c.args in
+    let k = c.in-Some.ensures in record {
+      kept = c.link.ensures.kept;
+      writes_element = record {
+        for = λ name attrs kids anc x h.
+            alike (link_some (self_at a.self.now.skip a.levels) anc a.opts c.in-Some.dest.now name attrs kids (take a.len a.text.now)
+            (ap (attr (ascii "href")) (x.attrs_are ∙ ap (attrs_behind a.self.now.sheet.now) (sym c.node_place-place.ensures)) ∙ k.value_is)) (c.link.ensures.writes_element.for name attrs kids anc x h);
+      };
+    }
+
+pub write_link-packed-bits-requires : goal.write_link-packed-bits-requires
+write_link-packed-bits-requires t c =
+    omega (arith, subst (λ (o : FormatOpts). Fits o c.args.levels) (sym c.fresh-fresh.ensures) (omega (arith, c.requires.2)))
+
+pub write_link-kids-requires : goal.write_link-kids-requires
+write_link-kids-requires t c =
+    (falls_in c.args.levels c.decreases (lit< tt), (c.requires.0, c.requires.1, subst (λ (o : FormatOpts). Fits o c.args.levels) (sym (c.packed-bits.ensures ∙ c.fresh-fresh.ensures)) (omega (arith, c.requires.2))))
+
+pub write_link-returns-in-None : goal.write_link-returns-in-None
+write_link-returns-in-None t c =
+    let a = c.args in record {
+      kept = c.kids.ensures.kept;
+      writes_element = record {
+        for = λ name attrs kids anc x h.
+            alike (link_none (self_at a.self.now.skip a.levels) anc a.opts name attrs kids (take a.len a.text.now)
+            (ap (attr (ascii "href")) (x.attrs_are ∙ ap (attrs_behind a.self.now.sheet.now) (sym c.node_place-place.ensures)) ∙ (c.in-None.ensures).value_is))
+            (subst (λ (o : FormatOpts). Writes (length a.text.now) c.kids.new.text c.kids.result (write_kids (self_at a.self.now.skip a.levels) anc o (element name attrs kids nothing) (take a.len a.text.now))) (c.packed-bits.ensures ∙ c.fresh-fresh.ensures) (c.kids.ensures.writes_element.for name attrs kids anc x h));
+      };
+    }
+
+pub write_list-node_place-place-requires : goal.write_list-node_place-place-requires
+write_list-node_place-place-requires t c =
+    let node_here : NodeAt c.args.self.now.sheet.now c.args.nodes.now c.args.at = placed_node c.args.self.now.sheet.now c.args.nodes.now c.args.at c.requires.0 in
+    (node_here).inside
+
+pub write_list-node_end-to-requires : goal.write_list-node_end-to-requires
+write_list-node_end-to-requires t c =
+    let node_here : NodeAt c.args.self.now.sheet.now c.args.nodes.now c.args.at = placed_node c.args.self.now.sheet.now c.args.nodes.now c.args.at c.requires.0 in
+    (node_here).inside
+
+pub write_list-kind_of-kind-requires : goal.write_list-kind_of-kind-requires
+write_list-kind_of-kind-requires t c =
+    let node_here : NodeAt c.args.self.now.sheet.now c.args.nodes.now c.args.at = placed_node c.args.self.now.sheet.now c.args.nodes.now c.args.at c.requires.0 in
+    omega (arith, c.node_place-place.ensures, (node_here).placed)
+
+pub write_list-new-ctx-requires : goal.write_list-new-ctx-requires
+write_list-new-ctx-requires t c =
+    omega (arith, c.requires.3)
+
+pub write_list-overflow_add-at : goal.write_list-overflow_add-at
+write_list-overflow_add-at t c =
+    let node_here : NodeAt c.args.self.now.sheet.now c.args.nodes.now c.args.at = placed_node c.args.self.now.sheet.now c.args.nodes.now c.args.at c.requires.0 in
+    omega (arith, (node_here).inside, c.well_formed)
+
+pub write_list-items-requires : goal.write_list-items-requires
+write_list-items-requires t c =
+    (falls_in c.args.levels c.decreases (lit< tt), (placed_kids c.args.self.now.sheet.now c.args.nodes.now c.args.at c.requires.0 c.node_end-to.ensures, c.requires.2, fits_begun c.args.self.now.sheet.now c.node_place-place.result c.args.name c.args.opts c.new-ctx.ensures c.kind_of-kind.ensures c.args.levels c.requires.3))
+
+pub write_list-end_list-requires : goal.write_list-end_list-requires
+write_list-end_list-requires t c =
+    forest-reaches c.items.ensures.writes_forest (placed_kids c.args.self.now.sheet.now c.args.nodes.now c.args.at c.requires.0 c.node_end-to.ensures) c.in_ok-n.was
+
+pub write_list-returns : goal.write_list-returns
+write_list-returns t c =
+    let a = c.args in
+    let self = self_at a.self.now.skip a.levels in record {
+      kept = kept_in (omega arith) (omega (arith, c.node_end-to.ensures)) c.items.ensures.kept;
+      writes_element = record {
+        for = λ name attrs kids anc x h.
+            both-done a.text.now a.len c.requires.2.0 (write_list self anc a.opts (tag_of name) attrs kids) (list_children self (attrs ∷ anc) kids c.new-ctx.result) (ended_list a.opts)
+            (list_parts a.self.now.sheet.now c.node_place-place.result a.name a.opts c.new-ctx.ensures c.kind_of-kind.ensures self anc (take a.len a.text.now) c.node_place-place.ensures c.requires.1 x)
+            (c.items.ensures.writes_forest.for a.at kids (attrs ∷ anc) (element_kids x c.node_end-to.ensures) (around_it anc x h)) c.in_ok-n.was c.end_list.ensures;
+      };
+    }
+
+pub write_list-returns-in_err-n : goal.write_list-returns-in_err-n
+write_list-returns-in_err-n t c =
+    let a = c.args in
+    let self = self_at a.self.now.skip a.levels in record {
+      kept = kept_in (omega arith) (omega (arith, c.node_end-to.ensures)) c.items.ensures.kept;
+      writes_element = stops_element c.from_residual.ensures.0 (record {
+        for = λ name attrs kids anc x h.
+            both-full a.text.now a.len c.requires.2.0 (write_list self anc a.opts (tag_of name) attrs kids) (list_children self (attrs ∷ anc) kids c.new-ctx.result) (ended_list a.opts)
+            (list_parts a.self.now.sheet.now c.node_place-place.result a.name a.opts c.new-ctx.ensures c.kind_of-kind.ensures self anc (take a.len a.text.now) c.node_place-place.ensures c.requires.1 x)
+            (c.items.ensures.writes_forest.for a.at kids (attrs ∷ anc) (element_kids x c.node_end-to.ensures) (around_it anc x h)) c.in_err-n.was;
+      });
+    }
+
+pub write_table-node_end-to-requires : goal.write_table-node_end-to-requires
+write_table-node_end-to-requires t c =
+    (placed_node c.args.self.now.sheet.now c.args.nodes.now c.args.at c.requires.0).inside
+
+pub write_table-overflow_add-at : goal.write_table-overflow_add-at
+write_table-overflow_add-at t c =
+    omega (arith, (placed_node c.args.self.now.sheet.now c.args.nodes.now c.args.at c.requires.0).inside, c.well_formed)
+
+pub write_table-overflow_add-at-2 : goal.write_table-overflow_add-at-2
+write_table-overflow_add-at-2 t c =
+    omega (arith, (placed_node c.args.self.now.sheet.now c.args.nodes.now c.args.at c.requires.0).inside, c.well_formed)
+
+pub write_table-next_filled_row-first-requires : goal.write_table-next_filled_row-first-requires
+write_table-next_filled_row-first-requires t c =
+    let rows_here : (name : Bytes) (attrs : List Attr) (kids : Forest) (anc : Ancestors) → ElementAt c.args.self.now.sheet.now c.args.nodes.now c.args.at name attrs kids → Around c.args.self.now.sheet.now c.args.nodes.now (parent_at c.args.nodes.now c.args.at) anc → Rows c.args.self.now.sheet.now c.args.nodes.now (c.args.at + 1) c.node_end-to.result (rows_of (attrs ∷ anc) kids) = λ name attrs kids anc x h. let a = c.args in rows_of_lem a.self.now.sheet.now a.nodes.now a.at (a.at + 1) c.node_end-to.result kids (attrs ∷ anc) (element_kids x c.node_end-to.ensures) (around_it anc x h) (omega arith) in
+    let p = c.requires.0 in
+    (rows_of (p.0.1 ∷ p.1.0) p.0.2, rows_here _ _ _ p.1.0 p.0.3 p.1.1)
+
+pub write_table-is_table_node_writable-requires : goal.write_table-is_table_node_writable-requires
+write_table-is_table_node_writable-requires t c =
+    let rows_here : (name : Bytes) (attrs : List Attr) (kids : Forest) (anc : Ancestors) → ElementAt c.args.self.now.sheet.now c.args.nodes.now c.args.at name attrs kids → Around c.args.self.now.sheet.now c.args.nodes.now (parent_at c.args.nodes.now c.args.at) anc → Rows c.args.self.now.sheet.now c.args.nodes.now (c.args.at + 1) c.node_end-to.result (rows_of (attrs ∷ anc) kids) = λ name attrs kids anc x h. let a = c.args in rows_of_lem a.self.now.sheet.now a.nodes.now a.at (a.at + 1) c.node_end-to.result kids (attrs ∷ anc) (element_kids x c.node_end-to.ensures) (around_it anc x h) (omega arith) in
+    let filled_here : (name : Bytes) (attrs : List Attr) (kids : Forest) (anc : Ancestors) → ElementAt c.args.self.now.sheet.now c.args.nodes.now c.args.at name attrs kids → Around c.args.self.now.sheet.now c.args.nodes.now (parent_at c.args.nodes.now c.args.at) anc → RowsAt c.args.self.now.sheet.now c.args.nodes.now c.next_filled_row-first.result c.node_end-to.result (from_cells (rows_of (attrs ∷ anc) kids)) = λ name attrs kids anc x h. c.next_filled_row-first.ensures.rows (rows_of (attrs ∷ anc) kids) (rows_here _ _ _ anc x h) in
+    let p = c.requires.0 in
+    let k = placed_kids c.args.self.now.sheet.now c.args.nodes.now c.args.at p c.node_end-to.ensures in
+    ((k.parent, k.forest, k.rep), (from_cells (rows_of (p.0.1 ∷ p.1.0) p.0.2), filled_here _ _ _ p.1.0 p.0.3 p.1.1))
+
+pub write_table-packed-bits-requires : goal.write_table-packed-bits-requires
+write_table-packed-bits-requires t c =
+    omega (arith, subst (λ (o : FormatOpts). Fits o c.args.levels) (sym c.fresh-fresh.ensures) (omega (arith, c.requires.2)))
+
+pub write_table-kids-requires : goal.write_table-kids-requires
+write_table-kids-requires t c =
+    (falls_in c.args.levels c.decreases (lit< tt), (c.requires.0, c.requires.1, subst (λ (o : FormatOpts). Fits o c.args.levels) (sym (c.packed-bits.ensures ∙ c.fresh-fresh.ensures)) (omega (arith, c.requires.2))))
+
+pub write_table-returns-then-not-is_table_node_writable : goal.write_table-returns-then-not-is_table_node_writable
+write_table-returns-then-not-is_table_node_writable t c =
+    let rows_here : (name : Bytes) (attrs : List Attr) (kids : Forest) (anc : Ancestors) → ElementAt c.args.self.now.sheet.now c.args.nodes.now c.args.at name attrs kids → Around c.args.self.now.sheet.now c.args.nodes.now (parent_at c.args.nodes.now c.args.at) anc → Rows c.args.self.now.sheet.now c.args.nodes.now (c.args.at + 1) c.node_end-to.result (rows_of (attrs ∷ anc) kids) = λ name attrs kids anc x h. let a = c.args in rows_of_lem a.self.now.sheet.now a.nodes.now a.at (a.at + 1) c.node_end-to.result kids (attrs ∷ anc) (element_kids x c.node_end-to.ensures) (around_it anc x h) (omega arith) in
+    let filled_here : (name : Bytes) (attrs : List Attr) (kids : Forest) (anc : Ancestors) → ElementAt c.args.self.now.sheet.now c.args.nodes.now c.args.at name attrs kids → Around c.args.self.now.sheet.now c.args.nodes.now (parent_at c.args.nodes.now c.args.at) anc → RowsAt c.args.self.now.sheet.now c.args.nodes.now c.next_filled_row-first.result c.node_end-to.result (from_cells (rows_of (attrs ∷ anc) kids)) = λ name attrs kids anc x h. c.next_filled_row-first.ensures.rows (rows_of (attrs ∷ anc) kids) (rows_here _ _ _ anc x h) in
+    let writable_here : (name : Bytes) (attrs : List Attr) (kids : Forest) (anc : Ancestors) → ElementAt c.args.self.now.sheet.now c.args.nodes.now c.args.at name attrs kids → Around c.args.self.now.sheet.now c.args.nodes.now (parent_at c.args.nodes.now c.args.at) anc → c.is_table_node_writable.result ≡ is_table_node_writable kids (from_cells (rows_of (attrs ∷ anc) kids)) = λ name attrs kids anc x h. c.is_table_node_writable.ensures c.args.at kids (from_cells (rows_of (attrs ∷ anc) kids)) (element_kids x c.node_end-to.ensures) (filled_here _ _ _ anc x h) in
+    let a = c.args in record {
+      kept = c.kids.ensures.kept;
+      writes_element = record {
+        for = λ name attrs kids anc x h.
+            alike (table_flat (self_at a.self.now.skip a.levels) anc a.opts name attrs kids (take a.len a.text.now) (sym (writable_here _ _ _ anc x h) ∙ c.if-not-is_table_node_writable.true))
+            (subst (λ (o : FormatOpts). Writes (length a.text.now) c.kids.new.text c.kids.result (write_kids (self_at a.self.now.skip a.levels) anc o (element name attrs kids nothing) (take a.len a.text.now))) (c.packed-bits.ensures ∙ c.fresh-fresh.ensures) (c.kids.ensures.writes_element.for name attrs kids anc x h));
+      };
+    }
+
+pub write_table-cells-requires : goal.write_table-cells-requires
+write_table-cells-requires t c =
+    let rows_here : (name : Bytes) (attrs : List Attr) (kids : Forest) (anc : Ancestors) → ElementAt c.args.self.now.sheet.now c.args.nodes.now c.args.at name attrs kids → Around c.args.self.now.sheet.now c.args.nodes.now (parent_at c.args.nodes.now c.args.at) anc → Rows c.args.self.now.sheet.now c.args.nodes.now (c.args.at + 1) c.node_end-to.result (rows_of (attrs ∷ anc) kids) = λ name attrs kids anc x h. let a = c.args in rows_of_lem a.self.now.sheet.now a.nodes.now a.at (a.at + 1) c.node_end-to.result kids (attrs ∷ anc) (element_kids x c.node_end-to.ensures) (around_it anc x h) (omega arith) in
+    let filled_here : (name : Bytes) (attrs : List Attr) (kids : Forest) (anc : Ancestors) → ElementAt c.args.self.now.sheet.now c.args.nodes.now c.args.at name attrs kids → Around c.args.self.now.sheet.now c.args.nodes.now (parent_at c.args.nodes.now c.args.at) anc → RowsAt c.args.self.now.sheet.now c.args.nodes.now c.next_filled_row-first.result c.node_end-to.result (from_cells (rows_of (attrs ∷ anc) kids)) = λ name attrs kids anc x h. c.next_filled_row-first.ensures.rows (rows_of (attrs ∷ anc) kids) (rows_here _ _ _ anc x h) in
+    let p = c.requires.0 in
+    let R = from_cells (rows_of (p.0.1 ∷ p.1.0) p.0.2) in (
+      falls_in c.args.levels c.decreases (lit< tt),
+      (
+        (R, rows_at c.args.self.now.sheet.now c.args.nodes.now c.next_filled_row-first.result c.node_end-to.result R (filled_here _ _ _ p.1.0 p.0.3 p.1.1)),
+        (λ j l m. ends_in c.args.self.now.sheet.now c.args.nodes.now c.args.at (c.args.at + 1) c.node_end-to.result p.0.2 (element_kids p.0.3 c.node_end-to.ensures) j (omega (arith, l, c.next_filled_row-first.ensures.later)) m),
+        c.requires.1,
+        c.requires.2,
+      ),
+    )
+
+pub write_table-overflow_sub-end : goal.write_table-overflow_sub-end
+write_table-overflow_sub-end t c =
+    let rows_here : (name : Bytes) (attrs : List Attr) (kids : Forest) (anc : Ancestors) → ElementAt c.args.self.now.sheet.now c.args.nodes.now c.args.at name attrs kids → Around c.args.self.now.sheet.now c.args.nodes.now (parent_at c.args.nodes.now c.args.at) anc → Rows c.args.self.now.sheet.now c.args.nodes.now (c.args.at + 1) c.node_end-to.result (rows_of (attrs ∷ anc) kids) = λ name attrs kids anc x h. let a = c.args in rows_of_lem a.self.now.sheet.now a.nodes.now a.at (a.at + 1) c.node_end-to.result kids (attrs ∷ anc) (element_kids x c.node_end-to.ensures) (around_it anc x h) (omega arith) in
+    let filled_here : (name : Bytes) (attrs : List Attr) (kids : Forest) (anc : Ancestors) → ElementAt c.args.self.now.sheet.now c.args.nodes.now c.args.at name attrs kids → Around c.args.self.now.sheet.now c.args.nodes.now (parent_at c.args.nodes.now c.args.at) anc → RowsAt c.args.self.now.sheet.now c.args.nodes.now c.next_filled_row-first.result c.node_end-to.result (from_cells (rows_of (attrs ∷ anc) kids)) = λ name attrs kids anc x h. c.next_filled_row-first.ensures.rows (rows_of (attrs ∷ anc) kids) (rows_here _ _ _ anc x h) in
+    let wrote_here : (name : Bytes) (attrs : List Attr) (kids : Forest) (anc : Ancestors) → ElementAt c.args.self.now.sheet.now c.args.nodes.now c.args.at name attrs kids → Around c.args.self.now.sheet.now c.args.nodes.now (parent_at c.args.nodes.now c.args.at) anc → RowsWrites (length c.args.text.now) c.cells.new.text (table_lengths c.args.self.now.sheet.now c.cells.new.nodes c.next_filled_row-first.result c.node_end-to.result) c.cells.result (rows_texts (self_at c.args.self.now.skip c.args.levels) c.args.opts (from_cells (rows_of (attrs ∷ anc) kids))) (take c.args.len c.args.text.now) = λ name attrs kids anc x h. let a = c.args in c.cells.ensures.rows_writes (from_cells (rows_of (attrs ∷ anc) kids)) (rows_at a.self.now.sheet.now a.nodes.now c.next_filled_row-first.result c.node_end-to.result (from_cells (rows_of (attrs ∷ anc) kids)) (filled_here _ _ _ anc x h)) in
+    let a = c.args in
+    let p = c.requires.0 in
+    omega (arith, behind_count a.text.now a.len (concat (rows_texts (self_at a.self.now.skip a.levels) a.opts (from_cells (rows_of (p.0.1 ∷ p.1.0) p.0.2)))) c.requires.1.0 (done c.in_ok-end.was (wrote_here _ _ _ p.1.0 p.0.3 p.1.1).writes))
+
+pub write_table-push_table-requires : goal.write_table-push_table-requires
+write_table-push_table-requires t c =
+    let rows_here : (name : Bytes) (attrs : List Attr) (kids : Forest) (anc : Ancestors) → ElementAt c.args.self.now.sheet.now c.args.nodes.now c.args.at name attrs kids → Around c.args.self.now.sheet.now c.args.nodes.now (parent_at c.args.nodes.now c.args.at) anc → Rows c.args.self.now.sheet.now c.args.nodes.now (c.args.at + 1) c.node_end-to.result (rows_of (attrs ∷ anc) kids) = λ name attrs kids anc x h. let a = c.args in rows_of_lem a.self.now.sheet.now a.nodes.now a.at (a.at + 1) c.node_end-to.result kids (attrs ∷ anc) (element_kids x c.node_end-to.ensures) (around_it anc x h) (omega arith) in
+    let filled_here : (name : Bytes) (attrs : List Attr) (kids : Forest) (anc : Ancestors) → ElementAt c.args.self.now.sheet.now c.args.nodes.now c.args.at name attrs kids → Around c.args.self.now.sheet.now c.args.nodes.now (parent_at c.args.nodes.now c.args.at) anc → RowsAt c.args.self.now.sheet.now c.args.nodes.now c.next_filled_row-first.result c.node_end-to.result (from_cells (rows_of (attrs ∷ anc) kids)) = λ name attrs kids anc x h. c.next_filled_row-first.ensures.rows (rows_of (attrs ∷ anc) kids) (rows_here _ _ _ anc x h) in
+    let wrote_here : (name : Bytes) (attrs : List Attr) (kids : Forest) (anc : Ancestors) → ElementAt c.args.self.now.sheet.now c.args.nodes.now c.args.at name attrs kids → Around c.args.self.now.sheet.now c.args.nodes.now (parent_at c.args.nodes.now c.args.at) anc → RowsWrites (length c.args.text.now) c.cells.new.text (table_lengths c.args.self.now.sheet.now c.cells.new.nodes c.next_filled_row-first.result c.node_end-to.result) c.cells.result (rows_texts (self_at c.args.self.now.skip c.args.levels) c.args.opts (from_cells (rows_of (attrs ∷ anc) kids))) (take c.args.len c.args.text.now) = λ name attrs kids anc x h. let a = c.args in c.cells.ensures.rows_writes (from_cells (rows_of (attrs ∷ anc) kids)) (rows_at a.self.now.sheet.now a.nodes.now c.next_filled_row-first.result c.node_end-to.result (from_cells (rows_of (attrs ∷ anc) kids)) (filled_here _ _ _ anc x h)) in
+    let rows_here_2 : (name : Bytes) (attrs : List Attr) (kids : Forest) (anc : Ancestors) → ElementAt c.args.self.now.sheet.now c.args.nodes.now c.args.at name attrs kids → Around c.args.self.now.sheet.now c.args.nodes.now (parent_at c.args.nodes.now c.args.at) anc → Rows c.args.self.now.sheet.now c.args.nodes.now (c.args.at + 1) c.node_end-to.result (rows_of (attrs ∷ anc) kids) = λ name attrs kids anc x h. let a = c.args in rows_of_lem a.self.now.sheet.now a.nodes.now a.at (a.at + 1) c.node_end-to.result kids (attrs ∷ anc) (element_kids x c.node_end-to.ensures) (around_it anc x h) (omega arith) in
+    let filled_here_2 : (name : Bytes) (attrs : List Attr) (kids : Forest) (anc : Ancestors) → ElementAt c.args.self.now.sheet.now c.args.nodes.now c.args.at name attrs kids → Around c.args.self.now.sheet.now c.args.nodes.now (parent_at c.args.nodes.now c.args.at) anc → RowsAt c.args.self.now.sheet.now c.args.nodes.now c.next_filled_row-first.result c.node_end-to.result (from_cells (rows_of (attrs ∷ anc) kids)) = λ name attrs kids anc x h. c.next_filled_row-first.ensures.rows (rows_of (attrs ∷ anc) kids) (rows_here_2 _ _ _ anc x h) in
+    let writable_here : (name : Bytes) (attrs : List Attr) (kids : Forest) (anc : Ancestors) → ElementAt c.args.self.now.sheet.now c.args.nodes.now c.args.at name attrs kids → Around c.args.self.now.sheet.now c.args.nodes.now (parent_at c.args.nodes.now c.args.at) anc → c.is_table_node_writable.result ≡ is_table_node_writable kids (from_cells (rows_of (attrs ∷ anc) kids)) = λ name attrs kids anc x h. c.is_table_node_writable.ensures c.args.at kids (from_cells (rows_of (attrs ∷ anc) kids)) (element_kids x c.node_end-to.ensures) (filled_here_2 _ _ _ anc x h) in
+    let rows_here_3 : (name : Bytes) (attrs : List Attr) (kids : Forest) (anc : Ancestors) → ElementAt c.args.self.now.sheet.now c.args.nodes.now c.args.at name attrs kids → Around c.args.self.now.sheet.now c.args.nodes.now (parent_at c.args.nodes.now c.args.at) anc → Rows c.args.self.now.sheet.now c.args.nodes.now (c.args.at + 1) c.node_end-to.result (rows_of (attrs ∷ anc) kids) = λ name attrs kids anc x h. let a = c.args in rows_of_lem a.self.now.sheet.now a.nodes.now a.at (a.at + 1) c.node_end-to.result kids (attrs ∷ anc) (element_kids x c.node_end-to.ensures) (around_it anc x h) (omega arith) in
+    let filled_here_3 : (name : Bytes) (attrs : List Attr) (kids : Forest) (anc : Ancestors) → ElementAt c.args.self.now.sheet.now c.args.nodes.now c.args.at name attrs kids → Around c.args.self.now.sheet.now c.args.nodes.now (parent_at c.args.nodes.now c.args.at) anc → RowsAt c.args.self.now.sheet.now c.args.nodes.now c.next_filled_row-first.result c.node_end-to.result (from_cells (rows_of (attrs ∷ anc) kids)) = λ name attrs kids anc x h. c.next_filled_row-first.ensures.rows (rows_of (attrs ∷ anc) kids) (rows_here_3 _ _ _ anc x h) in
+    let some_here : c.next_filled_row-first.result < c.node_end-to.result = let p = c.requires.0 in first_before c.next_filled_row-first.result c.node_end-to.result (c.if-not-is_table_node_writable.false) (λ l. writable_here _ _ _ p.1.0 p.0.3 p.1.1 ∙ writable_none c.args.self.now.sheet.now c.args.nodes.now c.next_filled_row-first.result c.node_end-to.result p.0.2 (from_cells (rows_of (p.0.1 ∷ p.1.0) p.0.2)) (filled_here_3 _ _ _ p.1.0 p.0.3 p.1.1) l) in
+    let rows_here_4 : (name : Bytes) (attrs : List Attr) (kids : Forest) (anc : Ancestors) → ElementAt c.args.self.now.sheet.now c.args.nodes.now c.args.at name attrs kids → Around c.args.self.now.sheet.now c.args.nodes.now (parent_at c.args.nodes.now c.args.at) anc → Rows c.args.self.now.sheet.now c.args.nodes.now (c.args.at + 1) c.node_end-to.result (rows_of (attrs ∷ anc) kids) = λ name attrs kids anc x h. let a = c.args in rows_of_lem a.self.now.sheet.now a.nodes.now a.at (a.at + 1) c.node_end-to.result kids (attrs ∷ anc) (element_kids x c.node_end-to.ensures) (around_it anc x h) (omega arith) in
+    let filled_here_4 : (name : Bytes) (attrs : List Attr) (kids : Forest) (anc : Ancestors) → ElementAt c.args.self.now.sheet.now c.args.nodes.now c.args.at name attrs kids → Around c.args.self.now.sheet.now c.args.nodes.now (parent_at c.args.nodes.now c.args.at) anc → RowsAt c.args.self.now.sheet.now c.args.nodes.now c.next_filled_row-first.result c.node_end-to.result (from_cells (rows_of (attrs ∷ anc) kids)) = λ name attrs kids anc x h. c.next_filled_row-first.ensures.rows (rows_of (attrs ∷ anc) kids) (rows_here_4 _ _ _ anc x h) in
+    let a = c.args in
+    let p = c.requires.0 in
+    let R = from_cells (rows_of (p.0.1 ∷ p.1.0) p.0.2) in
+    let k = c.cells.ensures.kept in
+    let w = wrote_here _ _ _ p.1.0 p.0.3 p.1.1 in
+    let d = done c.in_ok-end.was w.writes in (
+      table_at a.self.now.sheet.now c.cells.new.nodes a.at (a.at + 1) c.next_filled_row-first.result c.node_end-to.result p.0.2 (p.0.1 ∷ p.1.0)
+          (rep_kept k a.self.now.sheet.now a.at (a.at + 1) c.node_end-to.result p.0.2 (element_kids p.0.3 c.node_end-to.ensures)) (omega arith) c.next_filled_row-first.ensures.later (some_here)
+          (rows_at_kept k a.self.now.sheet.now c.next_filled_row-first.result c.node_end-to.result R (filled_here_4 _ _ _ p.1.0 p.0.3 p.1.1)),
+      omega (arith, reaches d, behind_count a.text.now a.len (concat (rows_texts (self_at a.self.now.skip a.levels) a.opts R)) c.requires.1.0 d),
+      table_sum (self_at a.self.now.skip a.levels) a.opts R a.text.now a.len c.requires.1.0 d (w.lengths_are c.in_ok-end.end c.in_ok-end.was),
+    )
+
+pub write_table-returns : goal.write_table-returns
+write_table-returns t c =
+    let rows_here : (name : Bytes) (attrs : List Attr) (kids : Forest) (anc : Ancestors) → ElementAt c.args.self.now.sheet.now c.args.nodes.now c.args.at name attrs kids → Around c.args.self.now.sheet.now c.args.nodes.now (parent_at c.args.nodes.now c.args.at) anc → Rows c.args.self.now.sheet.now c.args.nodes.now (c.args.at + 1) c.node_end-to.result (rows_of (attrs ∷ anc) kids) = λ name attrs kids anc x h. let a = c.args in rows_of_lem a.self.now.sheet.now a.nodes.now a.at (a.at + 1) c.node_end-to.result kids (attrs ∷ anc) (element_kids x c.node_end-to.ensures) (around_it anc x h) (omega arith) in
+    let filled_here : (name : Bytes) (attrs : List Attr) (kids : Forest) (anc : Ancestors) → ElementAt c.args.self.now.sheet.now c.args.nodes.now c.args.at name attrs kids → Around c.args.self.now.sheet.now c.args.nodes.now (parent_at c.args.nodes.now c.args.at) anc → RowsAt c.args.self.now.sheet.now c.args.nodes.now c.next_filled_row-first.result c.node_end-to.result (from_cells (rows_of (attrs ∷ anc) kids)) = λ name attrs kids anc x h. c.next_filled_row-first.ensures.rows (rows_of (attrs ∷ anc) kids) (rows_here _ _ _ anc x h) in
+    let wrote_here : (name : Bytes) (attrs : List Attr) (kids : Forest) (anc : Ancestors) → ElementAt c.args.self.now.sheet.now c.args.nodes.now c.args.at name attrs kids → Around c.args.self.now.sheet.now c.args.nodes.now (parent_at c.args.nodes.now c.args.at) anc → RowsWrites (length c.args.text.now) c.cells.new.text (table_lengths c.args.self.now.sheet.now c.cells.new.nodes c.next_filled_row-first.result c.node_end-to.result) c.cells.result (rows_texts (self_at c.args.self.now.skip c.args.levels) c.args.opts (from_cells (rows_of (attrs ∷ anc) kids))) (take c.args.len c.args.text.now) = λ name attrs kids anc x h. let a = c.args in c.cells.ensures.rows_writes (from_cells (rows_of (attrs ∷ anc) kids)) (rows_at a.self.now.sheet.now a.nodes.now c.next_filled_row-first.result c.node_end-to.result (from_cells (rows_of (attrs ∷ anc) kids)) (filled_here _ _ _ anc x h)) in
+    let rows_here_2 : (name : Bytes) (attrs : List Attr) (kids : Forest) (anc : Ancestors) → ElementAt c.args.self.now.sheet.now c.args.nodes.now c.args.at name attrs kids → Around c.args.self.now.sheet.now c.args.nodes.now (parent_at c.args.nodes.now c.args.at) anc → Rows c.args.self.now.sheet.now c.args.nodes.now (c.args.at + 1) c.node_end-to.result (rows_of (attrs ∷ anc) kids) = λ name attrs kids anc x h. let a = c.args in rows_of_lem a.self.now.sheet.now a.nodes.now a.at (a.at + 1) c.node_end-to.result kids (attrs ∷ anc) (element_kids x c.node_end-to.ensures) (around_it anc x h) (omega arith) in
+    let filled_here_2 : (name : Bytes) (attrs : List Attr) (kids : Forest) (anc : Ancestors) → ElementAt c.args.self.now.sheet.now c.args.nodes.now c.args.at name attrs kids → Around c.args.self.now.sheet.now c.args.nodes.now (parent_at c.args.nodes.now c.args.at) anc → RowsAt c.args.self.now.sheet.now c.args.nodes.now c.next_filled_row-first.result c.node_end-to.result (from_cells (rows_of (attrs ∷ anc) kids)) = λ name attrs kids anc x h. c.next_filled_row-first.ensures.rows (rows_of (attrs ∷ anc) kids) (rows_here_2 _ _ _ anc x h) in
+    let writable_here : (name : Bytes) (attrs : List Attr) (kids : Forest) (anc : Ancestors) → ElementAt c.args.self.now.sheet.now c.args.nodes.now c.args.at name attrs kids → Around c.args.self.now.sheet.now c.args.nodes.now (parent_at c.args.nodes.now c.args.at) anc → c.is_table_node_writable.result ≡ is_table_node_writable kids (from_cells (rows_of (attrs ∷ anc) kids)) = λ name attrs kids anc x h. c.is_table_node_writable.ensures c.args.at kids (from_cells (rows_of (attrs ∷ anc) kids)) (element_kids x c.node_end-to.ensures) (filled_here_2 _ _ _ anc x h) in
+    let rows_here_3 : (name : Bytes) (attrs : List Attr) (kids : Forest) (anc : Ancestors) → ElementAt c.args.self.now.sheet.now c.args.nodes.now c.args.at name attrs kids → Around c.args.self.now.sheet.now c.args.nodes.now (parent_at c.args.nodes.now c.args.at) anc → Rows c.args.self.now.sheet.now c.args.nodes.now (c.args.at + 1) c.node_end-to.result (rows_of (attrs ∷ anc) kids) = λ name attrs kids anc x h. let a = c.args in rows_of_lem a.self.now.sheet.now a.nodes.now a.at (a.at + 1) c.node_end-to.result kids (attrs ∷ anc) (element_kids x c.node_end-to.ensures) (around_it anc x h) (omega arith) in
+    let filled_here_3 : (name : Bytes) (attrs : List Attr) (kids : Forest) (anc : Ancestors) → ElementAt c.args.self.now.sheet.now c.args.nodes.now c.args.at name attrs kids → Around c.args.self.now.sheet.now c.args.nodes.now (parent_at c.args.nodes.now c.args.at) anc → RowsAt c.args.self.now.sheet.now c.args.nodes.now c.next_filled_row-first.result c.node_end-to.result (from_cells (rows_of (attrs ∷ anc) kids)) = λ name attrs kids anc x h. c.next_filled_row-first.ensures.rows (rows_of (attrs ∷ anc) kids) (rows_here_3 _ _ _ anc x h) in
+    let a = c.args in record {
+      kept = kept_in (omega (arith, c.next_filled_row-first.ensures.later)) (omega (arith, c.node_end-to.ensures)) c.cells.ensures.kept;
+      writes_element = record {
+        for = λ name attrs kids anc x h.
+            let R = from_cells (rows_of (attrs ∷ anc) kids) in
+            let w = wrote_here _ _ _ anc x h in
+            let d = done c.in_ok-end.was w.writes in
+            alike (table_written (self_at a.self.now.skip a.levels) anc a.opts name attrs kids (take a.len a.text.now) (sym (writable_here _ _ _ anc x h) ∙ c.if-not-is_table_node_writable.false))
+            (table_done (self_at a.self.now.skip a.levels) a.opts R a.text.now a.len c.requires.1.0 d
+            (c.push_table.ensures (self_at a.self.now.skip a.levels) a.opts R (rows_at_kept c.cells.ensures.kept a.self.now.sheet.now c.next_filled_row-first.result c.node_end-to.result R (filled_here_3 _ _ _ anc x h)) (w.lengths_are c.in_ok-end.end c.in_ok-end.was)
+            (behind_bytes a.text.now a.len (concat (rows_texts (self_at a.self.now.skip a.levels) a.opts R)) c.requires.1.0 d)));
+      };
+    }
+
+pub write_table-returns-in_err-end : goal.write_table-returns-in_err-end
+write_table-returns-in_err-end t c =
+    let rows_here : (name : Bytes) (attrs : List Attr) (kids : Forest) (anc : Ancestors) → ElementAt c.args.self.now.sheet.now c.args.nodes.now c.args.at name attrs kids → Around c.args.self.now.sheet.now c.args.nodes.now (parent_at c.args.nodes.now c.args.at) anc → Rows c.args.self.now.sheet.now c.args.nodes.now (c.args.at + 1) c.node_end-to.result (rows_of (attrs ∷ anc) kids) = λ name attrs kids anc x h. let a = c.args in rows_of_lem a.self.now.sheet.now a.nodes.now a.at (a.at + 1) c.node_end-to.result kids (attrs ∷ anc) (element_kids x c.node_end-to.ensures) (around_it anc x h) (omega arith) in
+    let filled_here : (name : Bytes) (attrs : List Attr) (kids : Forest) (anc : Ancestors) → ElementAt c.args.self.now.sheet.now c.args.nodes.now c.args.at name attrs kids → Around c.args.self.now.sheet.now c.args.nodes.now (parent_at c.args.nodes.now c.args.at) anc → RowsAt c.args.self.now.sheet.now c.args.nodes.now c.next_filled_row-first.result c.node_end-to.result (from_cells (rows_of (attrs ∷ anc) kids)) = λ name attrs kids anc x h. c.next_filled_row-first.ensures.rows (rows_of (attrs ∷ anc) kids) (rows_here _ _ _ anc x h) in
+    let writable_here : (name : Bytes) (attrs : List Attr) (kids : Forest) (anc : Ancestors) → ElementAt c.args.self.now.sheet.now c.args.nodes.now c.args.at name attrs kids → Around c.args.self.now.sheet.now c.args.nodes.now (parent_at c.args.nodes.now c.args.at) anc → c.is_table_node_writable.result ≡ is_table_node_writable kids (from_cells (rows_of (attrs ∷ anc) kids)) = λ name attrs kids anc x h. c.is_table_node_writable.ensures c.args.at kids (from_cells (rows_of (attrs ∷ anc) kids)) (element_kids x c.node_end-to.ensures) (filled_here _ _ _ anc x h) in
+    let rows_here_2 : (name : Bytes) (attrs : List Attr) (kids : Forest) (anc : Ancestors) → ElementAt c.args.self.now.sheet.now c.args.nodes.now c.args.at name attrs kids → Around c.args.self.now.sheet.now c.args.nodes.now (parent_at c.args.nodes.now c.args.at) anc → Rows c.args.self.now.sheet.now c.args.nodes.now (c.args.at + 1) c.node_end-to.result (rows_of (attrs ∷ anc) kids) = λ name attrs kids anc x h. let a = c.args in rows_of_lem a.self.now.sheet.now a.nodes.now a.at (a.at + 1) c.node_end-to.result kids (attrs ∷ anc) (element_kids x c.node_end-to.ensures) (around_it anc x h) (omega arith) in
+    let filled_here_2 : (name : Bytes) (attrs : List Attr) (kids : Forest) (anc : Ancestors) → ElementAt c.args.self.now.sheet.now c.args.nodes.now c.args.at name attrs kids → Around c.args.self.now.sheet.now c.args.nodes.now (parent_at c.args.nodes.now c.args.at) anc → RowsAt c.args.self.now.sheet.now c.args.nodes.now c.next_filled_row-first.result c.node_end-to.result (from_cells (rows_of (attrs ∷ anc) kids)) = λ name attrs kids anc x h. c.next_filled_row-first.ensures.rows (rows_of (attrs ∷ anc) kids) (rows_here_2 _ _ _ anc x h) in
+    let wrote_here : (name : Bytes) (attrs : List Attr) (kids : Forest) (anc : Ancestors) → ElementAt c.args.self.now.sheet.now c.args.nodes.now c.args.at name attrs kids → Around c.args.self.now.sheet.now c.args.nodes.now (parent_at c.args.nodes.now c.args.at) anc → RowsWrites (length c.args.text.now) c.cells.new.text (table_lengths c.args.self.now.sheet.now c.cells.new.nodes c.next_filled_row-first.result c.node_end-to.result) c.cells.result (rows_texts (self_at c.args.self.now.skip c.args.levels) c.args.opts (from_cells (rows_of (attrs ∷ anc) kids))) (take c.args.len c.args.text.now) = λ name attrs kids anc x h. let a = c.args in c.cells.ensures.rows_writes (from_cells (rows_of (attrs ∷ anc) kids)) (rows_at a.self.now.sheet.now a.nodes.now c.next_filled_row-first.result c.node_end-to.result (from_cells (rows_of (attrs ∷ anc) kids)) (filled_here_2 _ _ _ anc x h)) in
+    let a = c.args in record {
+      kept = kept_in (omega (arith, c.next_filled_row-first.ensures.later)) (omega (arith, c.node_end-to.ensures)) c.cells.ensures.kept;
+      writes_element = stops_element c.from_residual.ensures.0 (record {
+        for = λ name attrs kids anc x h.
+            let R = from_cells (rows_of (attrs ∷ anc) kids) in
+            alike (table_written (self_at a.self.now.skip a.levels) anc a.opts name attrs kids (take a.len a.text.now) (sym (writable_here _ _ _ anc x h) ∙ c.if-not-is_table_node_writable.false))
+            (record { says = table_full (self_at a.self.now.skip a.levels) a.opts R a.text.now a.len (full c.in_err-end.was (wrote_here _ _ _ anc x h).writes) });
+      });
+    }
