@@ -4,13 +4,13 @@ use native.Mathlib.Omega.{arith}
 use mathlib.Core.Path.{◌≡◌, refl, ap}
 use mathlib.Core.Bool.{Bool, true, false}
 use mathlib.Core.List.{List, [], ◌∷◌, ◌++◌}
-use lib.ListN.{length, take, drop, set, length-append}
-use lib.Seq.{drop-set-lt}
+use lib.ListN.{length, take, drop, length-append}
 use Rattle.spec.specs.Bytes.{Bytes}
-use Rattle.tables.specs.Puts.{Puts, bar, bars}
+use Rattle.text.specs.declared.text.Text.{Text}
+use Rattle.tables.specs.Puts.{PutsTo, bar, bars}
 use Rattle.tables.specs.Spans.{cuts}
 use Rattle.tables.specs.Columns.{column, columns}
-use Rattle.tables.proofs.Putting.{Due, due_room, due_on, puts_as, puts_behind, length_bar}
+use Rattle.tables.proofs.Putting.{Due, due_room, due_on, puts_text, puts_behind, length_bar}
 use Rattle.tables.proofs.Cutting.{cuts_first, cuts_none, unders_first, unders_none}
 
 columns_first : (under : Bool) {l m : List ℕ} {n : ℕ} → l ≡ n ∷ m → (at : ℕ) (d : Bytes)
@@ -27,22 +27,22 @@ column_as : (under : Bool) (n : ℕ) {s t : Bytes} → (under ≡ false → s �
 column_as true n h = refl
 column_as false n h = ap (take n) (h refl)
 
--- the same behind another byte
-pub columns_behind : (under : Bool) (l : List ℕ) (src len b : ℕ) (d : Bytes) → (under ≡ false → len < src)
-    → columns under l (drop src (set d len b)) ≡ columns under l (drop src d)
-columns_behind true l src len b d h = refl
-columns_behind false l src len b d h = ap (cuts l) (drop-set-lt src d len b (h refl))
+-- the same behind what is put before the texts
+pub columns_behind : (under : Bool) (l : List ℕ) (src : ℕ) {a b : Text} {x : Bytes} → PutsTo a b x → (under ≡ false → b.len ≤ src)
+    → columns under l (drop src b.room.now) ≡ columns under l (drop src a.room.now)
+columns_behind true l src p h = refl
+columns_behind false l src p h = ap (cuts l) (puts_behind src p (h refl))
 
 -- the cell of the first length, where the line ends before the texts
-module _ (under : Bool) {l m : List ℕ} {n : ℕ} (e : l ≡ n ∷ m) {a b : Bytes} {len end : ℕ} (at : ℕ) {whole : Bytes}
-    (p : Due a b len end (bars (columns under l (drop at a))) whole) (far : under ≡ false → len + length whole ≤ at) where
-  column_same : column under n (drop at b) ≡ column under n (drop at a)
+module _ (under : Bool) {l m : List ℕ} {n : ℕ} (e : l ≡ n ∷ m) {a b : Text} (at : ℕ) {whole : Bytes}
+    (p : Due a b (bars (columns under l (drop at a.room.now))) whole) (far : under ≡ false → a.len + length whole ≤ at) where
+  column_same : column under n (drop at b.room.now) ≡ column under n (drop at a.room.now)
   column_same = column_as under n (λ q. puts_behind at p.puts (omega (arith, due_room p, far q)))
 
-  pub column_room : end + length (column under n (drop at b)) + 3 ≤ len + length whole
+  pub column_room : b.len + length (column under n (drop at b.room.now)) + 3 ≤ a.len + length whole
   column_room =
       omega
-      (arith, due_room p, ap length column_same, ap length (columns_first under e at a), length-append (bar (column under n (drop at a))) (bars (columns under m (drop (at + n) a))), length_bar (column under n (drop at a)))
+      (arith, due_room p, ap length column_same, ap length (columns_first under e at a.room.now), length-append (bar (column under n (drop at a.room.now))) (bars (columns under m (drop (at + n) a.room.now))), length_bar (column under n (drop at a.room.now)))
 
-  pub column_on : {c : Bytes} {k : ℕ} → Puts b c end k (bar (column under n (drop at b))) → Due a c len k (bars (columns under m (drop (at + n) a))) whole
-  column_on q = due_on p (columns_first under e at a) (puts_as (ap bar column_same) q)
+  pub column_on : {c : Text} → PutsTo b c (bar (column under n (drop at b.room.now))) → Due a c (bars (columns under m (drop (at + n) a.room.now))) whole
+  column_on q = due_on p (columns_first under e at a.room.now) (puts_text (ap bar column_same) q)

@@ -9,7 +9,8 @@ use borrow.Rule.Slice.PartMut.{put_mid, same_len_mid}
 use Rattle.std.proofs.lemmas.Slice.{take-put_mid, drop-put_mid}
 use lib.Seq.{length-take-le, take-suc-set, drop-set-lt, drop-drop}
 use Rattle.spec.specs.Bytes.{Bytes}
-use Rattle.tables.specs.Puts.{Puts, bar, bars}
+use Rattle.text.specs.declared.text.Text.{Text}
+use Rattle.tables.specs.Puts.{Puts, PutsTo, bar, bars}
 
 -- what is the same from n on is the same from m on
 pub drop_later : (a b : List ℕ) (n m : ℕ) → n ≤ m → drop n b ≡ drop n a → drop m b ≡ drop m a
@@ -38,12 +39,6 @@ puts_byte d len b h =
       behind = drop-set-lt (len + 1) d len b (omega arith);
     }
 
-pub puts_two : (d : List ℕ) (len a b : ℕ) → len + 2 ≤ length d → Puts d (set (set d len a) (len + 1) b) len (len + 2) (a ∷ b ∷ [])
-puts_two d len a b h =
-    let e : len + 1 + 1 ≡ len + 2 = omega arith in
-    subst (λ (k : ℕ). Puts d (set (set d len a) (len + 1) b) len k (a ∷ b ∷ [])) e
-    (puts_then (puts_byte d len a (omega arith)) (puts_byte (set d len a) (len + 1) b (omega (arith, length-set d len a))))
-
 -- the same bytes in other words
 pub puts_as : {a b : List ℕ} {len m : ℕ} {x y : List ℕ} → x ≡ y → Puts a b len m x → Puts a b len m y
 puts_as {a} {b} {len} {m} e p = subst (λ (z : List ℕ). Puts a b len m z) e p
@@ -52,8 +47,8 @@ pub part_length : (d : List ℕ) (src n : ℕ) → src + n ≤ length d → leng
 part_length d src n h = length-take-le n (drop src d) (omega (arith, length-drop src d))
 
 -- what is read behind is as it was
-pub puts_behind : {a b : List ℕ} {len m : ℕ} {x : List ℕ} (src : ℕ) → Puts a b len m x → m ≤ src → drop src b ≡ drop src a
-puts_behind {a} {b} {len} {m} src p h = drop_later a b m src h p.behind
+pub puts_behind : {a b : Text} {x : List ℕ} (src : ℕ) → PutsTo a b x → b.len ≤ src → drop src b.room.now ≡ drop src a.room.now
+puts_behind {a} {b} src p h = drop_later a.room.now b.room.now b.len src h p.puts.behind
 
 -- the bytes from `len` on are replaced by s, as a write to `text[len..len + k]` leaves them
 pub puts_mid : (d s : List ℕ) (len k : ℕ) → k ≡ length s → len + k ≤ length d → Puts d (put_mid len (len + k - len) d s) len (len + k) s
@@ -65,29 +60,47 @@ puts_mid d s len k q h =
       behind = drop-put_mid len (len + k - len) d s (len + k) (omega arith) (omega arith) (omega arith);
     }
 
+-- ---- the same of texts
+
+pub puts_next : {a b c : Text} {x y : List ℕ} → PutsTo a b x → PutsTo b c y → PutsTo a c (x ++ y)
+puts_next p q = record { room_is = q.room_is ∙ p.room_is; puts = puts_then p.puts q.puts }
+
+pub puts_text : {a b : Text} {x y : List ℕ} → x ≡ y → PutsTo a b x → PutsTo a b y
+puts_text e p = record { room_is = p.room_is; puts = puts_as e p.puts }
+
+-- how far the text reaches then
+pub puts_end : {a b : Text} {x : List ℕ} → PutsTo a b x → b.len ≡ a.len + length x
+puts_end p = p.puts.count
+
+pub puts_long : {a b : Text} {x : List ℕ} → PutsTo a b x → length b.room.now ≡ length a.room.now
+puts_long p = p.puts.long
+
 -- ---- a loop that puts `whole`, of which `rest` is left
-pub record Due (before now : List ℕ) (len end : ℕ) (rest whole : List ℕ) : Type 0 where
+pub record Due (before now : Text) (rest whole : List ℕ) : Type 0 where
   pub done : List ℕ
-  pub puts : Puts before now len end done
+  pub puts : PutsTo before now done
   pub whole_is : whole ≡ done ++ rest
 
-pub due_all : (d : List ℕ) (len : ℕ) (x : List ℕ) → Due d d len len x x
-due_all d len x = record { done = []; puts = puts_none d len; whole_is = refl }
+pub puts_nothing : (a : Text) → PutsTo a a []
+puts_nothing a = record { room_is = refl; puts = puts_none a.room.now a.len }
 
-module _ {a b : List ℕ} {len end : ℕ} {rest whole : List ℕ} (p : Due a b len end rest whole) where
-  pub due_room : end + length rest ≡ len + length whole
-  due_room = omega (arith, p.puts.count, length-append p.done rest, ap length p.whole_is)
+pub due_all : (a : Text) (x : List ℕ) → Due a a x x
+due_all a x = record { done = []; puts = puts_nothing a; whole_is = refl }
 
-  pub due_on : {c : List ℕ} {m : ℕ} {x y : List ℕ} → rest ≡ x ++ y → Puts b c end m x → Due a c len m y whole
-  due_on {c} {m} {x} {y} e q =
+module _ {a b : Text} {rest whole : List ℕ} (p : Due a b rest whole) where
+  pub due_room : b.len + length rest ≡ a.len + length whole
+  due_room = omega (arith, puts_end p.puts, length-append p.done rest, ap length p.whole_is)
+
+  pub due_on : {c : Text} {x y : List ℕ} → rest ≡ x ++ y → PutsTo b c x → Due a c y whole
+  due_on {c} {x} {y} e q =
       record {
         done = p.done ++ x;
-        puts = puts_then p.puts q;
+        puts = puts_next p.puts q;
         whole_is = p.whole_is ∙ ap (λ (z : List ℕ). p.done ++ z) e ∙ sym (append_assoc p.done x y);
       }
 
-  pub due_done : rest ≡ [] → Puts a b len end whole
-  due_done e = puts_as (sym (p.whole_is ∙ ap (λ (z : List ℕ). p.done ++ z) e ∙ append-nil p.done)) p.puts
+  pub due_done : rest ≡ [] → PutsTo a b whole
+  due_done e = puts_text (sym (p.whole_is ∙ ap (λ (z : List ℕ). p.done ++ z) e ∙ append-nil p.done)) p.puts
 
 -- ---- cells
 

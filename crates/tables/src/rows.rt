@@ -124,12 +124,7 @@ pub fn data_from(tree: &Tree, first: usize) -> usize
 }
 
 // Whether the table from number `from` up to `to` is one of Markdown; `first` is its first row that has cells.
-pub fn is_table_node_writable(
-    tree: &Tree,
-    from: usize,
-    to: usize,
-    first: usize,
-) -> bool
+pub fn is_table_node_writable(tree: &Tree, from: usize, to: usize, first: usize) -> bool
     requires { Siblings tree.now.sheet.now tree.now.nodes.now from to × ((rows : List (List def.Cell)) × RowsAt tree.now.sheet.now tree.now.nodes.now first to rows) }
     ensures { (parent : ℕ) (kids : Forest) (rows : List (List def.Cell)) → Rep tree.now.sheet.now tree.now.nodes.now parent from to kids → RowsAt tree.now.sheet.now tree.now.nodes.now first to rows → result ≡ def.is_table_node_writable kids rows }
 {

@@ -5,18 +5,18 @@ ghost use Rattle.spec.specs.Md.Elements.Table.{Cell, concat, texts, row_texts, t
 ghost use Rattle.spec.specs.declared.ctx.FormatOpts.{FormatOpts};
 ghost use Rattle.tree.specs.Memory.{start_at, length_at, Kept};
 ghost use Rattle.nodes.specs.Stands.{Siblings};
-ghost use Rattle.tables.specs.Puts.{Puts, bars, bar_line, bar_lines};
+ghost use Rattle.tables.specs.Puts.{PutsTo, bars, bar_line, bar_lines};
 ghost use Rattle.tables.specs.Rows.{SomeRows, RowsAt};
 ghost use Rattle.tables.specs.Spans.{lengths_to, table_lengths, line_lengths, sum, zeros, cuts, cut_rows, unders, marks, width, table_bytes, Kids, NextCell};
 ghost use Rattle.tables.specs.Columns.{columns};
 ghost use Rattle.tables.specs.TableSteps.{rows_texts, rows_lengths, table_step, table_sized, TableAt};
-ghost use Rattle.text.specs.Writes.{Writes};
+ghost use Rattle.text.specs.Texts.{WritesTo};
 
-use crate::bars::{at_least_one, put_byte_cells, put_column};
+use crate::bars::{at_least_one, put_byte, put_byte_cells, put_column};
 use crate::rows::{all_th, count_cells, is_table_cell, next_filled_row};
 use nodes::nodes::node_name;
-use text::buffer::{Full, Wrote, lift};
-use text::by_len::push_byte;
+use text::buffer::{Full, lift};
+use text::text::Text;
 use tree::memory::{read, store};
 use tree::nodes::Tree;
 
@@ -85,105 +85,69 @@ fn row_bytes(tree: &Tree, row: usize, to: usize) -> usize
 }
 
 // Puts the cells of a row up to number `to`: hyphens where `under`, else their texts, which stand at `src`.
-fn put_columns(
-    tree: &Tree,
-    text: &mut [u8],
-    len: usize,
-    row: usize,
-    to: usize,
-    src: usize,
-    under: bool,
-) -> usize
-    requires { Kids tree.now.sheet.now tree.now.nodes.now row to × (len + length (bars (columns under (lengths_to tree.now.sheet.now tree.now.nodes.now row to) (drop src text.old))) ≤ length text.old) × (src + sum (lengths_to tree.now.sheet.now tree.now.nodes.now row to) ≤ length text.old) × (under ≡ false → len + length (bars (columns under (lengths_to tree.now.sheet.now tree.now.nodes.now row to) (drop src text.old))) ≤ src) }
-    ensures { Puts text.old text.new len result (bars (columns under (lengths_to tree.now.sheet.now tree.now.nodes.now row to) (drop src text.old))) }
+fn put_columns(tree: &Tree, text: &mut Text, row: usize, to: usize, src: usize, under: bool)
+    requires { Kids tree.now.sheet.now tree.now.nodes.now row to × (text.old.len + length (bars (columns under (lengths_to tree.now.sheet.now tree.now.nodes.now row to) (drop src text.old.room.now))) ≤ length text.old.room.now) × (src + sum (lengths_to tree.now.sheet.now tree.now.nodes.now row to) ≤ length text.old.room.now) × (under ≡ false → text.old.len + length (bars (columns under (lengths_to tree.now.sheet.now tree.now.nodes.now row to) (drop src text.old.room.now))) ≤ src) }
+    ensures { PutsTo text.old text.new (bars (columns under (lengths_to tree.now.sheet.now tree.now.nodes.now row to) (drop src text.old.room.now))) }
 {
-    let mut end = len;
     let mut at = src;
     let mut c = next_cell(tree, row + 1, to);
     while c < to {
         let n = read::<8>(tree.nodes, c * 24 + 16);
-        end = put_column(text, end, at, n, under);
+        put_column(text, at, n, under);
         at += n;
         c = next_cell(tree, tree.node_end(c), to);
     }
-    end
 }
 
 // Puts a line of a row: its cells up to number `to`, as `put_columns` does, and then so many cells of the byte `fill`.
 fn put_line(
     tree: &Tree,
-    text: &mut [u8],
-    len: usize,
+    text: &mut Text,
     row: usize,
     to: usize,
     src: usize,
     under: bool,
     fill: u8,
     blanks: usize,
-) -> usize
-    requires { Kids tree.now.sheet.now tree.now.nodes.now row to × (len + length (bars (columns under (lengths_to tree.now.sheet.now tree.now.nodes.now row to) (drop src text.old))) + 4 * blanks + 2 ≤ length text.old) × (src + sum (lengths_to tree.now.sheet.now tree.now.nodes.now row to) ≤ length text.old) × (under ≡ false → len + length (bars (columns under (lengths_to tree.now.sheet.now tree.now.nodes.now row to) (drop src text.old))) + 2 ≤ src) }
-    ensures { Puts text.old text.new len result (bar_line (columns under (lengths_to tree.now.sheet.now tree.now.nodes.now row to) (drop src text.old) ++ replicate blanks (fill ∷ []))) }
+)
+    requires { Kids tree.now.sheet.now tree.now.nodes.now row to × (text.old.len + length (bars (columns under (lengths_to tree.now.sheet.now tree.now.nodes.now row to) (drop src text.old.room.now))) + 4 * blanks + 2 ≤ length text.old.room.now) × (src + sum (lengths_to tree.now.sheet.now tree.now.nodes.now row to) ≤ length text.old.room.now) × (under ≡ false → text.old.len + length (bars (columns under (lengths_to tree.now.sheet.now tree.now.nodes.now row to) (drop src text.old.room.now))) + 2 ≤ src) }
+    ensures { PutsTo text.old text.new (bar_line (columns under (lengths_to tree.now.sheet.now tree.now.nodes.now row to) (drop src text.old.room.now) ++ replicate blanks (fill ∷ []))) }
 {
-    text[len] = b'|';
-    let a = put_columns(tree, text, len + 1, row, to, src, under);
-    let b = put_byte_cells(text, a, fill, blanks);
-    text[b] = b'\n';
-    b + 1
+    put_byte(text, b'|');
+    put_columns(tree, text, row, to, src, under);
+    put_byte_cells(text, fill, blanks);
+    put_byte(text, b'\n');
 }
 
 // Puts the line of a row, with the cells up to number `to` and then so many blank ones.
-fn put_row(
-    tree: &Tree,
-    text: &mut [u8],
-    len: usize,
-    row: usize,
-    to: usize,
-    src: usize,
-    blanks: usize,
-) -> usize
-    requires { Kids tree.now.sheet.now tree.now.nodes.now row to × (len + sum (lengths_to tree.now.sheet.now tree.now.nodes.now row to) + 3 * length (lengths_to tree.now.sheet.now tree.now.nodes.now row to) + 4 * blanks + 2 ≤ src) × (src + sum (lengths_to tree.now.sheet.now tree.now.nodes.now row to) ≤ length text.old) }
-    ensures { Puts text.old text.new len result (bar_line (cuts (lengths_to tree.now.sheet.now tree.now.nodes.now row to) (drop src text.old) ++ replicate blanks (32 ∷ []))) }
+fn put_row(tree: &Tree, text: &mut Text, row: usize, to: usize, src: usize, blanks: usize)
+    requires { Kids tree.now.sheet.now tree.now.nodes.now row to × (text.old.len + sum (lengths_to tree.now.sheet.now tree.now.nodes.now row to) + 3 * length (lengths_to tree.now.sheet.now tree.now.nodes.now row to) + 4 * blanks + 2 ≤ src) × (src + sum (lengths_to tree.now.sheet.now tree.now.nodes.now row to) ≤ length text.old.room.now) }
+    ensures { PutsTo text.old text.new (bar_line (cuts (lengths_to tree.now.sheet.now tree.now.nodes.now row to) (drop src text.old.room.now) ++ replicate blanks (32 ∷ []))) }
 {
-    put_line(tree, text, len, row, to, src, false, b' ', blanks)
+    put_line(tree, text, row, to, src, false, b' ', blanks)
 }
 
 // Puts the line under the headings.
-fn put_rule(
-    tree: &Tree,
-    text: &mut [u8],
-    len: usize,
-    row: usize,
-    to: usize,
-    blanks: usize,
-) -> usize
-    requires { Kids tree.now.sheet.now tree.now.nodes.now row to × (len + sum (lengths_to tree.now.sheet.now tree.now.nodes.now row to) + zeros (lengths_to tree.now.sheet.now tree.now.nodes.now row to) + 3 * length (lengths_to tree.now.sheet.now tree.now.nodes.now row to) + 4 * blanks + 2 ≤ length text.old) }
-    ensures { Puts text.old text.new len result (bar_line (unders (lengths_to tree.now.sheet.now tree.now.nodes.now row to) ++ replicate blanks (45 ∷ []))) }
+fn put_rule(tree: &Tree, text: &mut Text, row: usize, to: usize, blanks: usize)
+    requires { Kids tree.now.sheet.now tree.now.nodes.now row to × (text.old.len + sum (lengths_to tree.now.sheet.now tree.now.nodes.now row to) + zeros (lengths_to tree.now.sheet.now tree.now.nodes.now row to) + 3 * length (lengths_to tree.now.sheet.now tree.now.nodes.now row to) + 4 * blanks + 2 ≤ length text.old.room.now) }
+    ensures { PutsTo text.old text.new (bar_line (unders (lengths_to tree.now.sheet.now tree.now.nodes.now row to) ++ replicate blanks (45 ∷ []))) }
 {
-    put_line(tree, text, len, row, to, 0, true, b'-', blanks)
+    put_line(tree, text, row, to, 0, true, b'-', blanks)
 }
 
 // Puts the lines of the rows that have cells; the cells' texts stand at `src`.
-fn put_lines(
-    tree: &Tree,
-    text: &mut [u8],
-    len: usize,
-    from: usize,
-    to: usize,
-    src: usize,
-) -> usize
-    requires { SomeRows tree.now.sheet.now tree.now.nodes.now from to × (len + sum (concat (line_lengths tree.now.sheet.now tree.now.nodes.now from to)) + marks (line_lengths tree.now.sheet.now tree.now.nodes.now from to) ≤ src) × (src + sum (concat (line_lengths tree.now.sheet.now tree.now.nodes.now from to)) ≤ length text.old) }
-    ensures { Puts text.old text.new len result (bar_lines (cut_rows (line_lengths tree.now.sheet.now tree.now.nodes.now from to) (drop src text.old))) }
+fn put_lines(tree: &Tree, text: &mut Text, from: usize, to: usize, src: usize)
+    requires { SomeRows tree.now.sheet.now tree.now.nodes.now from to × (text.old.len + sum (concat (line_lengths tree.now.sheet.now tree.now.nodes.now from to)) + marks (line_lengths tree.now.sheet.now tree.now.nodes.now from to) ≤ src) × (src + sum (concat (line_lengths tree.now.sheet.now tree.now.nodes.now from to)) ≤ length text.old.room.now) }
+    ensures { PutsTo text.old text.new (bar_lines (cut_rows (line_lengths tree.now.sheet.now tree.now.nodes.now from to) (drop src text.old.room.now))) }
 {
-    let mut end = len;
     let mut at = src;
     let mut r = next_filled_row(tree, from, to);
     while r < to {
         let last = tree.node_end(r);
-        end = put_row(tree, text, end, r, last, at, 0);
+        put_row(tree, text, r, last, at, 0);
         at += row_bytes(tree, r, last);
         r = next_filled_row(tree, r + 1, to);
     }
-    end
 }
 
 // What the lines of the rows that have cells take besides the cells' texts.
@@ -206,11 +170,7 @@ fn first_width(tree: &Tree, from: usize, to: usize) -> usize
     ensures { result ≡ width (line_lengths tree.now.sheet.now tree.now.nodes.now from to) }
 {
     let r = next_filled_row(tree, from, to);
-    if r < to {
-        count_cells(tree, r)
-    } else {
-        0
-    }
+    if r < to { count_cells(tree, r) } else { 0 }
 }
 
 // Whether three numbers together are at most `room`.
@@ -223,8 +183,7 @@ fn has_room(room: usize, a: usize, b: usize, c: usize) -> bool
 // Puts the table; the cells' texts stand at `src`, those of the headings first.
 fn put_table(
     tree: &Tree,
-    text: &mut [u8],
-    len: usize,
+    text: &mut Text,
     src: usize,
     row: usize,
     end: usize,
@@ -232,22 +191,21 @@ fn put_table(
     to: usize,
     bytes: usize,
     blanks: usize,
-) -> usize
-    requires { Kids tree.now.sheet.now tree.now.nodes.now row end × SomeRows tree.now.sheet.now tree.now.nodes.now from to × (bytes ≡ sum (lengths_to tree.now.sheet.now tree.now.nodes.now row end)) × (blanks ≡ width (line_lengths tree.now.sheet.now tree.now.nodes.now from to) - length (lengths_to tree.now.sheet.now tree.now.nodes.now row end)) × (len + 5 + 2 * bytes + zeros (lengths_to tree.now.sheet.now tree.now.nodes.now row end) + 6 * length (lengths_to tree.now.sheet.now tree.now.nodes.now row end) + 8 * blanks + sum (concat (line_lengths tree.now.sheet.now tree.now.nodes.now from to)) + marks (line_lengths tree.now.sheet.now tree.now.nodes.now from to) ≤ src) × (src + bytes + sum (concat (line_lengths tree.now.sheet.now tree.now.nodes.now from to)) ≤ length text.old) }
-    ensures { Puts text.old text.new len result (table_bytes (lengths_to tree.now.sheet.now tree.now.nodes.now row end) (line_lengths tree.now.sheet.now tree.now.nodes.now from to) (drop src text.old)) }
+)
+    requires { Kids tree.now.sheet.now tree.now.nodes.now row end × SomeRows tree.now.sheet.now tree.now.nodes.now from to × (bytes ≡ sum (lengths_to tree.now.sheet.now tree.now.nodes.now row end)) × (blanks ≡ width (line_lengths tree.now.sheet.now tree.now.nodes.now from to) - length (lengths_to tree.now.sheet.now tree.now.nodes.now row end)) × (text.old.len + 5 + 2 * bytes + zeros (lengths_to tree.now.sheet.now tree.now.nodes.now row end) + 6 * length (lengths_to tree.now.sheet.now tree.now.nodes.now row end) + 8 * blanks + sum (concat (line_lengths tree.now.sheet.now tree.now.nodes.now from to)) + marks (line_lengths tree.now.sheet.now tree.now.nodes.now from to) ≤ src) × (src + bytes + sum (concat (line_lengths tree.now.sheet.now tree.now.nodes.now from to)) ≤ length text.old.room.now) }
+    ensures { PutsTo text.old text.new (table_bytes (lengths_to tree.now.sheet.now tree.now.nodes.now row end) (line_lengths tree.now.sheet.now tree.now.nodes.now from to) (drop src text.old.room.now)) }
 {
-    text[len] = b'\n';
-    let a = put_row(tree, text, len + 1, row, end, src, blanks);
-    let b = put_rule(tree, text, a, row, end, blanks);
-    put_lines(tree, text, b, from, to, src + bytes)
+    put_byte(text, b'\n');
+    put_row(tree, text, row, end, src, blanks);
+    put_rule(tree, text, row, end, blanks);
+    put_lines(tree, text, from, to, src + bytes);
 }
 
 // Appends the table, whose cells' texts are the n bytes behind the text. The heading has the cells of node `row` up to number
 // `end`; the other rows are those from number `from` on.
 fn push_sized(
     tree: &Tree,
-    text: &mut [u8],
-    len: usize,
+    text: &mut Text,
     n: usize,
     row: usize,
     end: usize,
@@ -256,42 +214,39 @@ fn push_sized(
     cells: usize,
     bytes: usize,
     empty: usize,
-) -> Wrote
-    requires { Kids tree.now.sheet.now tree.now.nodes.now row end × SomeRows tree.now.sheet.now tree.now.nodes.now from to × (cells ≡ length (lengths_to tree.now.sheet.now tree.now.nodes.now row end)) × (bytes ≡ sum (lengths_to tree.now.sheet.now tree.now.nodes.now row end)) × (empty ≡ zeros (lengths_to tree.now.sheet.now tree.now.nodes.now row end)) × (len + n ≤ length text.old) × (n ≡ bytes + sum (concat (line_lengths tree.now.sheet.now tree.now.nodes.now from to))) × (20 * cells + 20 * length (concat (table_lengths tree.now.sheet.now tree.now.nodes.now from to)) + 5 < 18446744073709551616) }
-    ensures { Writes (length text.old) text.new result (table_sized (lengths_to tree.now.sheet.now tree.now.nodes.now row end) (line_lengths tree.now.sheet.now tree.now.nodes.now from to) (take n (drop len text.old)) (take len text.old)) }
+) -> Result<(), Full>
+    requires { Kids tree.now.sheet.now tree.now.nodes.now row end × SomeRows tree.now.sheet.now tree.now.nodes.now from to × (cells ≡ length (lengths_to tree.now.sheet.now tree.now.nodes.now row end)) × (bytes ≡ sum (lengths_to tree.now.sheet.now tree.now.nodes.now row end)) × (empty ≡ zeros (lengths_to tree.now.sheet.now tree.now.nodes.now row end)) × (text.old.len + n ≤ length text.old.room.now) × (n ≡ bytes + sum (concat (line_lengths tree.now.sheet.now tree.now.nodes.now from to))) × (20 * cells + 20 * length (concat (table_lengths tree.now.sheet.now tree.now.nodes.now from to)) + 5 < 18446744073709551616) }
+    ensures { WritesTo text.old text.new result (table_sized (lengths_to tree.now.sheet.now tree.now.nodes.now row end) (line_lengths tree.now.sheet.now tree.now.nodes.now from to) (take n (drop text.old.len text.old.room.now))) }
 {
     let wide = first_width(tree, from, to);
     let blanks = wide.saturating_sub(cells);
     let extra = lines_marks(tree, from, to);
     let more = 5 + 6 * cells + 9 * blanks + empty + extra;
-    let room = text.len();
-    if !has_room(room - len - n, n, bytes, more) {
+    let room = text.room.len();
+    if !has_room(room - text.len - n, n, bytes, more) {
         return Err(Full);
     }
     let base = room - n;
-    lift(text, len, n, base);
-    let done = put_table(
-        tree, text, len, base, row, end, from, to, bytes, blanks,
-    );
-    push_byte(text, done, b'\n')
+    lift(text.room, text.len, n, base);
+    put_table(tree, text, base, row, end, from, to, bytes, blanks);
+    text.push_byte(b'\n')
 }
 
 fn push_headed(
     tree: &Tree,
-    text: &mut [u8],
-    len: usize,
+    text: &mut Text,
     n: usize,
     row: usize,
     end: usize,
     from: usize,
     to: usize,
-) -> Wrote
-    requires { Kids tree.now.sheet.now tree.now.nodes.now row end × SomeRows tree.now.sheet.now tree.now.nodes.now from to × (len + n ≤ length text.old) × (n ≡ sum (lengths_to tree.now.sheet.now tree.now.nodes.now row end) + sum (concat (line_lengths tree.now.sheet.now tree.now.nodes.now from to))) × (20 * length (lengths_to tree.now.sheet.now tree.now.nodes.now row end) + 20 * length (concat (table_lengths tree.now.sheet.now tree.now.nodes.now from to)) + 5 < 18446744073709551616) }
-    ensures { Writes (length text.old) text.new result (table_sized (lengths_to tree.now.sheet.now tree.now.nodes.now row end) (line_lengths tree.now.sheet.now tree.now.nodes.now from to) (take n (drop len text.old)) (take len text.old)) }
+) -> Result<(), Full>
+    requires { Kids tree.now.sheet.now tree.now.nodes.now row end × SomeRows tree.now.sheet.now tree.now.nodes.now from to × (text.old.len + n ≤ length text.old.room.now) × (n ≡ sum (lengths_to tree.now.sheet.now tree.now.nodes.now row end) + sum (concat (line_lengths tree.now.sheet.now tree.now.nodes.now from to))) × (20 * length (lengths_to tree.now.sheet.now tree.now.nodes.now row end) + 20 * length (concat (table_lengths tree.now.sheet.now tree.now.nodes.now from to)) + 5 < 18446744073709551616) }
+    ensures { WritesTo text.old text.new result (table_sized (lengths_to tree.now.sheet.now tree.now.nodes.now row end) (line_lengths tree.now.sheet.now tree.now.nodes.now from to) (take n (drop text.old.len text.old.room.now))) }
 {
     let size = measure(tree, row, end);
     push_sized(
-        tree, text, len, n, row, end, from, to, size.cells, size.bytes, size.empty,
+        tree, text, n, row, end, from, to, size.cells, size.bytes, size.empty,
     )
 }
 
@@ -299,18 +254,17 @@ fn push_headed(
 // text.
 pub fn push_table(
     tree: &Tree,
-    text: &mut [u8],
-    len: usize,
+    text: &mut Text,
     n: usize,
     first: usize,
     to: usize,
-) -> Wrote
-    requires { TableAt tree.now.sheet.now tree.now.nodes.now first to × (len + n ≤ length text.old) × (n ≡ sum (concat (table_lengths tree.now.sheet.now tree.now.nodes.now first to))) }
-    ensures { (self : MDSerializer) (opts : FormatOpts) (rows : List (List Cell)) → RowsAt tree.now.sheet.now tree.now.nodes.now first to rows → table_lengths tree.now.sheet.now tree.now.nodes.now first to ≡ rows_lengths (rows_texts self opts rows) → take n (drop len text.old) ≡ concat (texts (concat (rows_texts self opts rows))) → Writes (length text.old) text.new result (table_step (row_texts self opts (table_header_row rows)) (table_texts self opts (data_rows rows)) (take len text.old)) }
+) -> Result<(), Full>
+    requires { TableAt tree.now.sheet.now tree.now.nodes.now first to × (text.old.len + n ≤ length text.old.room.now) × (n ≡ sum (concat (table_lengths tree.now.sheet.now tree.now.nodes.now first to))) }
+    ensures { (self : MDSerializer) (opts : FormatOpts) (rows : List (List Cell)) → RowsAt tree.now.sheet.now tree.now.nodes.now first to rows → table_lengths tree.now.sheet.now tree.now.nodes.now first to ≡ rows_lengths (rows_texts self opts rows) → take n (drop text.old.len text.old.room.now) ≡ concat (texts (concat (rows_texts self opts rows))) → WritesTo text.old text.new result (table_step (row_texts self opts (table_header_row rows)) (table_texts self opts (data_rows rows))) }
 {
     if all_th(tree, first) {
         let end = tree.node_end(first);
-        return push_headed(tree, text, len, n, first, end, first + 1, to);
+        return push_headed(tree, text, n, first, end, first + 1, to);
     }
-    push_headed(tree, text, len, n, first, first + 1, first, to)
+    push_headed(tree, text, n, first, first + 1, first, to)
 }

@@ -1,20 +1,18 @@
 use mathlib.Core.List.{[], ◌∷◌}
 use Rattle.tables.specs.Puts.{bars}
-use Rattle.tables.proofs.Putting.{puts_none, puts_then, puts_as, bars_more, length_bars_bytes}
+use Rattle.tables.proofs.Putting.{puts_nothing, puts_next, puts_text, puts_end, puts_long, bars_more, length_bars_bytes}
 use native.Mathlib.Omega.{arith}
 use Rattle.tables.proofs.bars.put_byte_cells.Goals as goal
 
 pub loop-init : goal.loop-init
 unfolding bars
-loop-init c =
-    let a = c.args in puts_none a.text.now a.len
+loop-init c = puts_nothing c.args.text.now
 
-pub put_byte_cell-end-requires : goal.put_byte_cell-end-requires
-put_byte_cell-end-requires c =
-    let a = c.args in
-    omega (arith, c.loop.invariant.count, c.loop.invariant.long, length_bars_bytes a.b c.loop.counter, c.loop-test.true)
+pub put_byte_cell-requires : goal.put_byte_cell-requires
+put_byte_cell-requires c =
+    let l = c.loop in
+    omega (arith, puts_end l.invariant, puts_long l.invariant, length_bars_bytes c.args.b l.counter, c.loop-test.true, c.requires)
 
 pub loop-preserved : goal.loop-preserved
 loop-preserved c =
-    let a = c.args in
-    puts_as (bars_more (a.b ∷ []) c.loop.counter) (puts_then c.loop.invariant c.put_byte_cell-end.ensures)
+    puts_text (bars_more (c.args.b ∷ []) c.loop.counter) (puts_next c.loop.invariant c.put_byte_cell.ensures)

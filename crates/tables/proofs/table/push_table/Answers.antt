@@ -1,5 +1,6 @@
 use lib.ListN.{take, drop}
-use Rattle.text.proofs.Writing.{alike}
+use Rattle.text.specs.Texts.{bytes}
+use Rattle.text.proofs.Texts.{as_step}
 use Rattle.tables.proofs.TableRows.{rows_at}
 use Rattle.tables.proofs.TableTexts.{headed_yes, headed_no, first_row, headed_kids, headed_sum, headed_few, plain_kids, plain_sum, plain_few}
 use native.Mathlib.Omega.{arith}
@@ -23,7 +24,7 @@ pub returns-then-all_th : goal.returns-then-all_th
 returns-then-all_th c =
     let a = c.args in
     let x = c.requires.0 in
-    λ self opts rows r e f. alike (headed_yes self opts c.all_th.result c.all_th.ensures x.some_row x.some_cell (take a.n (drop a.len a.text.now)) (take a.len a.text.now) rows r e f c.node_end-end.result c.node_end-end.ensures c.if-all_th.true) c.push_headed.ensures
+    λ self opts rows r e f. as_step (headed_yes self opts c.all_th.result c.all_th.ensures x.some_row x.some_cell (take a.n (drop a.text.now.len a.text.now.room.now)) (bytes a.text.now) rows r e f c.node_end-end.result c.node_end-end.ensures c.if-all_th.true) c.push_headed.ensures
 
 pub push_headed-requires-2 : goal.push_headed-requires-2
 push_headed-requires-2 c =
@@ -40,4 +41,4 @@ pub returns : goal.returns
 returns c =
     let a = c.args in
     let x = c.requires.0 in
-    λ self opts rows r e f. alike (headed_no self opts c.all_th.result c.all_th.ensures x.some_row x.some_cell (take a.n (drop a.len a.text.now)) (take a.len a.text.now) rows r e f c.if-all_th.false) c.push_headed-2.ensures
+    λ self opts rows r e f. as_step (headed_no self opts c.all_th.result c.all_th.ensures x.some_row x.some_cell (take a.n (drop a.text.now.len a.text.now.room.now)) (bytes a.text.now) rows r e f c.if-all_th.false) c.push_headed-2.ensures

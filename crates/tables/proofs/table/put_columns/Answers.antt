@@ -27,16 +27,16 @@ pub read-n-requires : goal.read-n-requires
 read-n-requires c =
     (omega (arith, (from_first c.loop-c.invariant.0 c.loop-c-test.true).inside), omega arith)
 
-pub put_column-end-requires : goal.put_column-end-requires
-put_column-end-requires c =
+pub put_column-requires : goal.put_column-requires
+put_column-requires c =
     let a = c.args in
     let pre = c.requires in
     let l = c.loop-c in
     let e = from_turn l.invariant.0 c.loop-c-test.true refl (end_at a.tree.now.nodes.now l.c) (c.read-n.ensures.0 ∙ long_is _ _) refl in
     let room = column_room a.under e l.at l.invariant.1 (λ q. omega (arith, pre.3 q, l.invariant.2)) in (
       λ q. omega (arith, room, pre.3 q, l.invariant.2),
-      omega (arith, room, l.invariant.1.puts.long, pre.1),
-      omega (arith, l.invariant.1.puts.long, sum_first e, l.invariant.3, pre.2),
+      omega (arith, room, l.invariant.1.puts.puts.long, pre.1),
+      omega (arith, l.invariant.1.puts.puts.long, sum_first e, l.invariant.3, pre.2),
     )
 
 pub overflow_add-at : goal.overflow_add-at
@@ -66,7 +66,7 @@ loop-c-preserved c =
     let n = c.next_cell-c-in-loop-c.ensures.cells a.row (rest_of x.rest) (from_later x c.loop-c-test.true c.node_end.ensures) (from_rest x c.loop-c-test.true c.node_end.ensures) in
     let e = from_turn x c.loop-c-test.true c.node_end.ensures c.next_cell-c-in-loop-c.result (c.read-n.ensures.0 ∙ long_is _ _) n.1 in (
       n.0,
-      column_on a.under e l.at l.invariant.1 (λ q. omega (arith, c.requires.3 q, l.invariant.2)) c.put_column-end.ensures,
+      column_on a.under e l.at l.invariant.1 (λ q. omega (arith, c.requires.3 q, l.invariant.2)) c.put_column.ensures,
       omega arith,
       omega (arith, sum_first e, l.invariant.3),
     )
@@ -74,4 +74,4 @@ loop-c-preserved c =
 pub returns : goal.returns
 returns c =
     let a = c.args in
-    due_done c.loop-c.invariant.1 (columns_none a.under (drop c.loop-c.at a.text.now) (from_none c.loop-c.invariant.0 c.loop-c-test.false))
+    due_done c.loop-c.invariant.1 (columns_none a.under (drop c.loop-c.at a.text.now.room.now) (from_none c.loop-c.invariant.0 c.loop-c-test.false))

@@ -10,7 +10,7 @@ use Rattle.tables.proofs.table.put_lines.Given as goal
 
 abbrev pub invariant-loop-r : goal.invariant-loop-r
 invariant-loop-r l = LineFrom l.tree.sheet.now l.tree.nodes.now l.r l.to
-    × Due l.initial.text l.text l.len l.end (bar_lines (cut_rows (filled (table_lengths l.tree.sheet.now l.tree.nodes.now l.r l.to)) (drop l.at l.initial.text))) (bar_lines (cut_rows (filled (table_lengths l.tree.sheet.now l.tree.nodes.now l.from l.to)) (drop l.src l.initial.text)))
+    × Due l.initial.text l.text (bar_lines (cut_rows (filled (table_lengths l.tree.sheet.now l.tree.nodes.now l.r l.to)) (drop l.at l.initial.text.room.now))) (bar_lines (cut_rows (filled (table_lengths l.tree.sheet.now l.tree.nodes.now l.from l.to)) (drop l.src l.initial.text.room.now)))
     × (l.src ≤ l.at) × (l.at + sum (concat (filled (table_lengths l.tree.sheet.now l.tree.nodes.now l.r l.to))) ≡ l.src + sum (concat (filled (table_lengths l.tree.sheet.now l.tree.nodes.now l.from l.to))))
 
 abbrev pub decreases-loop-r : goal.decreases-loop-r
