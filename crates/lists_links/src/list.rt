@@ -7,7 +7,8 @@ ghost use Rattle.spec.specs.Md.Elements.List as def;
 ghost use Rattle.lists_links.specs.Items.{item_of, trimmed_start, rule_step, inline_lead, ended_item};
 ghost use Rattle.text.specs.Writes.{Writes, Written};
 
-use crate::ctx::{prefix_len, push_prefix};
+use crate::by_len::push_prefix;
+use crate::ctx::prefix_len;
 use normalized::by_len::push_linebreak;
 use normalized::text_utils::trim_trailing_space;
 use spec::ctx::ListContext;
