@@ -11,7 +11,6 @@ use Rattle.text.specs.Lifted.{Lifted}
 use Rattle.text.specs.Source.{WritesIn}
 use Rattle.text.specs.Writes.{Written, Refused, Says, Writes, Wrote}
 use Rattle.std.specs.Prelude.{Ok, Err}
-use Rattle.text.specs.declared.buffer.Full.{Full}
 use Rattle.text.proofs.Writing.{reaches}
 
 -- the part from len on, as `&mut text[len..]` lends it, and the memory with that part back as ys

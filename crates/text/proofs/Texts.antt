@@ -3,18 +3,19 @@ use Prim.Native.Nat.{ℕ, ◌+◌, ◌-◌, ◌≤◌, ◌<◌}
 use mathlib.Core.Path.{◌≡◌, refl, sym, subst, subst₂, ap, ◌∙◌}
 use mathlib.Core.Bool.{false≢true}
 use mathlib.Core.List.{List, [], ◌++◌}
-use native.Mathlib.Omega.{arith}
 use borrow.Rule.Slice.PartMut.{put_mid}
 use lib.ListN.{length, take, drop}
 use Rattle.std.specs.Prelude.{Result, Ok, Err}
 use Rattle.std.specs.Result.{IsErr}
-use Rattle.spec.specs.Out.{Step, and_then, keep, push}
+use Rattle.spec.specs.Out.{Step, and_then, cut, keep, push}
 use Rattle.text.specs.declared.buffer.Full.{Full}
 use Rattle.text.specs.declared.text.Text.{Text}
 use Rattle.text.specs.Source.{WritesIn}
+use Rattle.text.specs.Trimmed.{Trimmed}
 use Rattle.text.specs.Writes.{Written, Refused, Says, Writes, Wrote}
 use Rattle.text.specs.Texts.{bytes, wrote, WritesTo}
 use Rattle.text.proofs.Pushing.{put_done, push_full}
+use Rattle.text.proofs.Spaces.{cut_done}
 use Rattle.text.proofs.Sourcing.{lent_front, stops_in}
 use Rattle.text.proofs.Writing.{alike, then, refused, keeps, keeps_nothing, push_both}
 
@@ -44,6 +45,7 @@ stop {a} {b} {q} {r} {x} {f} g e w h = go r h
   where
     over : Refused (length a.room.now) (f (bytes a))
     over = subst (λ (y : Answer). Says (length a.room.now) b.room.now (wrote b y) (f (bytes a))) e w.writes.says
+
     go : (r : Answer) → IsErr r → WritesTo a b r (λ t. and_then (f t) g)
     go (Ok n) h = absurd (false≢true h)
     go (Err y) h = record { room_is = w.room_is; long = w.long; writes = record { says = refused g over } }
@@ -82,6 +84,11 @@ as_over {a} {b} {r} {f} n l w h = go r h
     go : (r : Answer) → IsErr r → WritesTo a b r f
     go (Ok u) h = absurd (false≢true h)
     go (Err e) h = record { room_is = n; long = l; writes = record { says = w } }
+
+-- the text is made shorter: s is what was read of it
+pub cuts : {a b : Text} {s : List ℕ} {n : ℕ} (g : List ℕ → List ℕ) → s ≡ bytes a → Trimmed s n (g s) → b.room.ghost_name ≡ a.room.ghost_name → b.room.now ≡ a.room.now → b.len ≡ n → WritesTo a b (Ok tt) (cut g)
+cuts {a} {b} {s} {n} g e t i d l =
+    as_done i (subst₂ (λ (x : List ℕ) (k : ℕ). Written (length a.room.now) x k (cut g (bytes a))) (sym d) (sym l) (cut_done g a.room.now a.len n a.fits (subst (λ (x : List ℕ). Trimmed x n (g x)) e t)))
 
 -- two strings, one behind the other
 pub pushes_both : {a b c : Text} {q r : Answer} {u : Unit {0}} (x y : List ℕ) → q ≡ Ok u → WritesTo a b q (push x) → WritesTo b c r (push y) → WritesTo a c r (push (x ++ y))

@@ -1,5 +1,5 @@
 use Prim.Native.Nat.{◌+◌, ◌%◌}
-use mathlib.Core.Path.{sym, subst}
+use mathlib.Core.Path.{subst}
 use mathlib.Core.List.{[], ◌∷◌}
 use Rattle.spec.specs.Out.{push}
 use Rattle.text.specs.declared.text.Text.{Text}

@@ -7,7 +7,7 @@ use lib.Dec.{eqb}
 use Rattle.spec.specs.Bytes.{starts_with}
 use Rattle.spec.specs.Out.{push}
 use Rattle.spec.specs.Md.TextUtils.{each_byte, html_from, html_escape, is_nbsp}
-use Rattle.lists_links.specs.Url.{url_byte, piece_of}
+use Rattle.lists_links.specs.Url.{url_byte}
 use Rattle.text.specs.Texts.{bytes}
 use Rattle.text.proofs.Reading.{rest_part}
 use Rattle.text.proofs.Texts.{as_step, pushes_nothing, owes_all, owes_step, owes_stop, owes_last}
