@@ -52,10 +52,9 @@ pub fn item_from(ctx: ListContext, next: ListContext, start: usize) -> Item
     requires { (ctx.list_indent + 12 < 2 ^ 64) × (next ≡ advance_ol_number ctx) }
     ensures { (begun : Out) → start ≡ length begun.text → item_of result ≡ def.item_from ctx begun }
 {
-    let indent = ctx.list_indent + prefix_len(ctx);
     Item {
         ctx: next,
-        indent,
+        indent: ctx.list_indent + prefix_len(ctx),
         start,
     }
 }

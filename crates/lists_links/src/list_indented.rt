@@ -42,29 +42,21 @@ fn truncate(t: &[u8], n: usize) -> usize
 fn at_line_start(t: &[u8], item: Item) -> bool
     ensures { result ≡ def.at_line_start (item_of item) t.now }
 {
-    let indent = item.indent;
     if t.len() == item.start {
         return true;
     }
-    if t.len() < indent {
+    if t.len() < item.indent {
         return false;
     }
-    let n = t.len() - indent;
-    if !all_in::<Blank>(&t[n..]) {
-        return false;
-    }
-    ends_with_byte(&t[..n], b'\n')
+    let n = t.len() - item.indent;
+    all_in::<Blank>(&t[n..]) & ends_with_byte(&t[..n], b'\n')
 }
 
 // Cuts White_Space at the end of t, but nothing of what stands before the item's content.
 fn trim_item_end(t: &[u8], start: usize) -> usize
     ensures { Trimmed t.now result (def.truncate (max (length (trim_end t.now)) start) t.now) }
 {
-    let n = trim_end(t);
-    if n < start {
-        return truncate(t, start);
-    }
-    truncate(t, n)
+    truncate(t, trim_end(t).max(start))
 }
 
 // Goes to a line of its own behind other content.
@@ -82,13 +74,11 @@ fn own_line(text: &mut Text, item: Item) -> Result<(), Full>
 fn push_line_byte(text: &mut Text, b: u8, empty: bool, item: Item) -> Result<(), Full>
     ensures { WritesTo text.old text.new result (push (line_byte (item_of item) empty b)) }
 {
-    if b != b'\n' {
-        return text.push_byte(b);
+    match b {
+        b'\n' if empty => push_linebreak(text, item.ctx.opts.table_cell),
+        b'\n' => push_line_start(text, item),
+        _ => text.push_byte(b),
     }
-    if empty {
-        return push_linebreak(text, item.ctx.opts.table_cell);
-    }
-    push_line_start(text, item)
 }
 
 // Whether the first line of t is empty.
