@@ -16,6 +16,7 @@ use Rattle.lists_links.specs.Parsed.{parsed_of, signed, unsigned}
 use Rattle.text.specs.Trimmed.{Skipped}
 use Rattle.std.specs.Prelude.{Some, None}
 use Rattle.text.proofs.Writing.{yes}
+use Rattle.input.proofs.Rules.{null_length}
 use Rattle.text.proofs.Reading.{null_none, null_some, rest_part}
 
 -- what is skipped, and what is left
@@ -70,36 +71,25 @@ has_sign (x ∷ v) e = record { within = omega arith; is = sym (yes v (x ∷ v) 
 pub sign_some : (v : List ℕ) {a b : Bool} → a ≡ starts_with (45 ∷ []) v → b ≡ starts_with (43 ∷ []) v → a || b ≡ true → Skipped v 1 (unsigned v)
 sign_some v {a} {b} p q e = has_sign v (subst₂ (λ (x y : Bool). x || y ≡ true) p q e)
 
-module _ (v : List ℕ) (sign n : ℕ) (p : Skipped v sign (unsigned v)) (q : Skipped (take (length v - sign) (drop sign v)) n (trim_start_matches digit (take (length v - sign) (drop sign v)))) where
-  lent_is : take (length v - sign) (drop sign v) ≡ unsigned v
-  lent_is = rest_part sign v ∙ p.is
+pub digits_are : (v : List ℕ) (sign n : ℕ) → Skipped v sign (unsigned v) → Skipped (take (length v - sign) (drop sign v)) n (trim_start_matches digit (take (length v - sign) (drop sign v)))
+    → take n (take (length v - sign) (drop sign v)) ≡ take_while digit (unsigned v)
+digits_are v sign n p q =
+    let e : take (length v - sign) (drop sign v) ≡ unsigned v = rest_part sign v ∙ p.is in
+    ap (take n) e ∙ skipped_while digit (subst (λ (s : List ℕ). Skipped s n (trim_start_matches digit s)) e q)
 
-  pub digits_within : sign + n ≤ length v
-  digits_within = omega (arith, q.within, length-take-le (length v - sign) (drop sign v) (omega (arith, length-drop sign v)), p.within)
+module _ (v : List ℕ) {d : List ℕ} (e : d ≡ take_while digit (unsigned v)) {b : Bool} (l : b ≡ eqb (length d) 0) where
+  is_null : null (take_while digit (unsigned v)) ≡ b
+  is_null = ap null (sym e) ∙ null_length d ∙ sym l
 
-  digits_are : take n (unsigned v) ≡ take_while digit (unsigned v)
-  digits_are = skipped_while digit (subst (λ (s : List ℕ). Skipped s n (trim_start_matches digit s)) lent_is q)
+  pub signed_none : b ≡ true → None ≡ parsed_of (signed v)
+  signed_none z = rw (is_null, z)
 
-  digits_count : length (take_while digit (unsigned v)) ≡ n
-  digits_count =
-      ap length (sym digits_are ∙ ap (take n) (sym p.is))
-      ∙ length-take-le n (drop sign v) (omega (arith, length-drop sign v, digits_within))
-
-  pub signed_none : n ≡ 0 → None ≡ parsed_of (signed v)
-  signed_none e = rw (null_none (take_while digit (unsigned v)) (digits_count ∙ e))
-
-  module _ (h : n ≡ 0 → ⊥) where
-    not_null : null (take_while digit (unsigned v)) ≡ false
-    not_null = null_some (take_while digit (unsigned v)) (λ e. h (sym digits_count ∙ e))
-
+  module _ (z : b ≡ false) where
     pub signed_minus : starts_with (45 ∷ []) v ≡ true → Some 0 ≡ parsed_of (signed v)
-    signed_minus e = rw (not_null, e)
+    signed_minus m = rw (is_null, z, m)
 
-    pub signed_plus : starts_with (45 ∷ []) v ≡ false → (k : ℕ) → k ≡ clamped (trim_start_matches (λ b. eqb b 48) (take (sign + n - sign) (drop sign v)))
-        → Some k ≡ parsed_of (signed v)
-    signed_plus e k f =
-        let z : sign + n - sign ≡ n = omega arith in
-        let d : take (sign + n - sign) (drop sign v) ≡ take_while digit (unsigned v) = ap (λ (j : ℕ). take j (drop sign v)) z ∙ ap (take n) p.is ∙ digits_are in
+    pub signed_plus : starts_with (45 ∷ []) v ≡ false → (k : ℕ) → k ≡ clamped (trim_start_matches (λ b. eqb b 48) d) → Some k ≡ parsed_of (signed v)
+    signed_plus m k f =
         let x : ℕ = clamped (trim_start_matches (λ b. eqb b 48) (take_while digit (unsigned v))) in
-        ap Some (f ∙ ap (λ (s : List ℕ). clamped (trim_start_matches (λ b. eqb b 48) s)) d)
-        ∙ sym (ap (λ (t : Bool). parsed_of (cond t none (some (cond (starts_with (45 ∷ []) v) 0 x)))) not_null ∙ ap (λ (t : Bool). Some (cond t 0 x)) e)
+        ap Some (f ∙ ap (λ (s : List ℕ). clamped (trim_start_matches (λ b. eqb b 48) s)) e)
+        ∙ sym (ap (λ (t : Bool). parsed_of (cond t none (some (cond (starts_with (45 ∷ []) v) 0 x)))) (is_null ∙ z) ∙ ap (λ (t : Bool). Some (cond t 0 x)) m)

@@ -23,16 +23,15 @@ pub fn parse_list_number(value: &[u8]) -> Option<u32>
 fn parse_signed(value: &[u8]) -> Option<u32>
     ensures { result ≡ parsed_of (signed value.now) }
 {
-    let sign = sign_len(value);
-    let digits_len = trim_start_matches::<Digit>(&value[sign..]);
-    if digits_len == 0 {
+    let unsigned = &value[sign_len(value)..];
+    let digits = &unsigned[..trim_start_matches::<Digit>(unsigned)];
+    if digits.is_empty() {
         return None;
     }
     if starts_with_byte(value, b'-') {
         return Some(0);
     }
-    let end = sign + digits_len;
-    Some(clamped(&value[sign..end]))
+    Some(clamped(digits))
 }
 
 // How many bytes a sign takes at the front.
