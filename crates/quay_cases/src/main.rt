@@ -8,24 +8,26 @@ mod build;
 
 ghost use Rattle.std.specs.Prelude.{◌<◌, ◌^◌};
 
-use build::{field, fields, holding, two_cells};
+use build::Sheet;
 use input::refusal::Refusal;
+use input::tag::{CLOSE, COMMENT, NAME, OPEN, TEXT, VALUE};
 use md::call::serialize_md;
 use sheet_main::answer_to;
 use std::io;
 use text::buffer::front;
 
+// The memories that a case uses: for its sheet, for the nodes and for the text.
+#[derive(Drop)]
+struct Memories<'a> {
+    sheet: &'a mut [u8],
+    nodes: &'a mut [u8],
+    text: &'a mut [u8],
+}
+
 // The bytes, with `/` for LF.
 fn print_slashed(rt: &impl Print, s: &[u8]) -> io::Result<()> {
-    let mut i = 0;
-    while i < s.len() {
-        if s[i] == 10 {
-            rt.write_all(b"/")?;
-        } else {
-            let end = i + 1;
-            rt.write_all(&s[i..end])?;
-        }
-        i += 1;
+    for b in s {
+        rt.write_all(&[if *b == b'\n' { b'/' } else { *b }])?;
     }
     Ok(())
 }
@@ -44,6 +46,11 @@ fn print_answer(rt: &impl Print, answer: Result<usize, Refusal>, text: &[u8]) ->
     }
 }
 
+fn print_title(rt: &impl Print, title: &[u8]) -> io::Result<()> {
+    rt.write_all(title)?;
+    rt.write_all(b": ")
+}
+
 // A call with these memories, and its line.
 fn show(
     rt: &impl Print,
@@ -54,10 +61,36 @@ fn show(
     nodes: &mut [u8],
     text: &mut [u8],
 ) -> io::Result<()> {
-    rt.write_all(title)?;
-    rt.write_all(b": ")?;
+    print_title(rt, title)?;
     let answer = serialize_md(sheet, false, b"", start, with_node, nodes, text);
     print_answer(rt, answer, text)
+}
+
+// A whole sheet, from node 0 without it.
+fn show_whole(
+    rt: &impl Print,
+    title: &[u8],
+    sheet: &[u8],
+    nodes: &mut [u8],
+    text: &mut [u8],
+) -> io::Result<()> {
+    show(rt, title, sheet, 0, false, nodes, text)
+}
+
+fn link(rt: &impl Print, title: &[u8], href: &[u8], lent: &mut Memories) -> io::Result<()> {
+    let mut sheet = Sheet::new(lent.sheet);
+    sheet.field(OPEN, b"a");
+    sheet.field(NAME, b"href");
+    sheet.field(VALUE, href);
+    sheet.field(TEXT, b"x");
+    sheet.field(CLOSE, b"");
+    show_whole(rt, title, sheet.bytes(), lent.nodes, lent.text)
+}
+
+fn links(rt: &impl Print, lent: &mut Memories) -> io::Result<()> {
+    link(rt, b"link to a(b", b"a(b", lent)?;
+    link(rt, b"link to a(b)c", b"a(b)c", lent)?;
+    link(rt, b"link to a&b", b"a&b", lent)
 }
 
 // The same with the first bytes of the memories.
@@ -70,36 +103,10 @@ fn show_lent(
     text: &mut [u8],
     room: usize,
 ) -> io::Result<()> {
-    if memory <= nodes.len() {
-        if room <= text.len() {
-            return show(
-                rt,
-                title,
-                sheet,
-                0,
-                false,
-                &mut nodes[..memory],
-                &mut text[..room],
-            );
-        }
+    if nodes.len() < memory || text.len() < room {
+        return Ok(());
     }
-    Ok(())
-}
-
-fn link(
-    rt: &impl Print,
-    title: &[u8],
-    href: &[u8],
-    sheet: &mut [u8],
-    nodes: &mut [u8],
-    text: &mut [u8],
-) -> io::Result<()> {
-    let mut n = field(sheet, 0, 1, b"a");
-    n = field(sheet, n, 2, b"href");
-    n = field(sheet, n, 3, href);
-    n = field(sheet, n, 4, b"x");
-    n = field(sheet, n, 6, b"");
-    show(rt, title, front(sheet, n), 0, false, nodes, text)
+    show_whole(rt, title, sheet, &mut nodes[..memory], &mut text[..room])
 }
 
 fn starts(rt: &impl Print, sheet: &[u8], nodes: &mut [u8], text: &mut [u8]) -> io::Result<()> {
@@ -108,72 +115,69 @@ fn starts(rt: &impl Print, sheet: &[u8], nodes: &mut [u8], text: &mut [u8]) -> i
     show(rt, b"from node 1 with it", sheet, 1, true, nodes, text)
 }
 
-fn memories(rt: &impl Print, sheet: &[u8], nodes: &mut [u8], text: &mut [u8]) -> io::Result<()> {
+fn lent_nodes(rt: &impl Print, sheet: &[u8], nodes: &mut [u8], text: &mut [u8]) -> io::Result<()> {
     show_lent(rt, b"3 nodes, 192 bytes", sheet, nodes, 192, text, 100)?;
     show_lent(rt, b"3 nodes, 191 bytes", sheet, nodes, 191, text, 100)?;
     show_lent(rt, b"3 nodes, 63 bytes", sheet, nodes, 63, text, 100)
 }
 
-fn paragraph(
-    rt: &impl Print,
-    sheet: &mut [u8],
-    nodes: &mut [u8],
-    text: &mut [u8],
-) -> io::Result<()> {
-    let n = holding(sheet, 0, b"p", b"x");
-    starts(rt, front(sheet, n), nodes, text)?;
-    memories(rt, front(sheet, n), nodes, text)
+fn paragraph(rt: &impl Print, lent: &mut Memories) -> io::Result<()> {
+    let mut sheet = Sheet::new(lent.sheet);
+    sheet.holding(b"p", b"x");
+    starts(rt, sheet.bytes(), lent.nodes, lent.text)?;
+    lent_nodes(rt, sheet.bytes(), lent.nodes, lent.text)
 }
 
 // As many nodes, the fragment and empty texts.
-fn many(
-    rt: &impl Print,
-    title: &[u8],
-    texts: usize,
-    sheet: &mut [u8],
-    nodes: &mut [u8],
-    text: &mut [u8],
-) -> io::Result<()> {
-    let n = fields(sheet, 0, 4, b"", texts);
-    show(rt, title, front(sheet, n), 0, false, nodes, text)
+fn many(rt: &impl Print, title: &[u8], texts: usize, lent: &mut Memories) -> io::Result<()> {
+    let mut sheet = Sheet::new(lent.sheet);
+    sheet.fields(TEXT, b"", texts);
+    show_whole(rt, title, sheet.bytes(), lent.nodes, lent.text)
 }
 
 // As many elements, each in the one before it.
-fn deep(
-    rt: &impl Print,
-    title: &[u8],
-    count: usize,
-    sheet: &mut [u8],
-    nodes: &mut [u8],
-    text: &mut [u8],
-) -> io::Result<()> {
-    let mut n = fields(sheet, 0, 1, b"b", count);
-    n = field(sheet, n, 4, b"x");
-    n = fields(sheet, n, 6, b"", count);
-    show(rt, title, front(sheet, n), 0, false, nodes, text)
+fn deep(rt: &impl Print, title: &[u8], count: usize, lent: &mut Memories) -> io::Result<()> {
+    let mut sheet = Sheet::new(lent.sheet);
+    sheet.fields(OPEN, b"b", count);
+    sheet.field(TEXT, b"x");
+    sheet.fields(CLOSE, b"", count);
+    show_whole(rt, title, sheet.bytes(), lent.nodes, lent.text)
 }
 
-fn rooms(rt: &impl Print, sheet: &[u8], nodes: &mut [u8], text: &mut [u8]) -> io::Result<()> {
-    show_lent(rt, b"table, 47 bytes", sheet, nodes, 1000, text, 47)?;
-    show_lent(rt, b"table, 46 bytes", sheet, nodes, 1000, text, 46)
+fn limits(rt: &impl Print, lent: &mut Memories) -> io::Result<()> {
+    many(rt, b"65,535 nodes", 65534, lent)?;
+    many(rt, b"65,536 nodes", 65535, lent)?;
+    deep(rt, b"100 open", 100, lent)?;
+    deep(rt, b"101 open", 101, lent)
 }
 
-fn table(rt: &impl Print, sheet: &mut [u8], nodes: &mut [u8], text: &mut [u8]) -> io::Result<()> {
-    let n = two_cells(sheet);
-    rooms(rt, front(sheet, n), nodes, text)
-}
-
-fn links(rt: &impl Print, sheet: &mut [u8], nodes: &mut [u8], text: &mut [u8]) -> io::Result<()> {
-    link(rt, b"link to a(b", b"a(b", sheet, nodes, text)?;
-    link(rt, b"link to a(b)c", b"a(b)c", sheet, nodes, text)?;
-    link(rt, b"link to a&b", b"a&b", sheet, nodes, text)
-}
-
-fn limits(rt: &impl Print, sheet: &mut [u8], nodes: &mut [u8], text: &mut [u8]) -> io::Result<()> {
-    many(rt, b"65,535 nodes", 65534, sheet, nodes, text)?;
-    many(rt, b"65,536 nodes", 65535, sheet, nodes, text)?;
-    deep(rt, b"100 open", 100, sheet, nodes, text)?;
-    deep(rt, b"101 open", 101, sheet, nodes, text)
+// The table of document 01: one row of `td` "010" and "a|b".
+fn table(rt: &impl Print, lent: &mut Memories) -> io::Result<()> {
+    let mut sheet = Sheet::new(lent.sheet);
+    sheet.field(OPEN, b"table");
+    sheet.field(OPEN, b"tr");
+    sheet.holding(b"td", b"010");
+    sheet.holding(b"td", b"a|b");
+    sheet.fields(CLOSE, b"", 2);
+    let bytes = sheet.bytes();
+    show_lent(
+        rt,
+        b"table, 47 bytes",
+        bytes,
+        lent.nodes,
+        1000,
+        lent.text,
+        47,
+    )?;
+    show_lent(
+        rt,
+        b"table, 46 bytes",
+        bytes,
+        lent.nodes,
+        1000,
+        lent.text,
+        46,
+    )
 }
 
 // What the program `sheet` answers to an input, which may be longer than the sheet that it reads.
@@ -185,75 +189,55 @@ fn show_input(
     nodes: &mut [u8],
     text: &mut [u8],
 ) -> io::Result<()> {
-    rt.write_all(title)?;
-    rt.write_all(b": ")?;
+    print_title(rt, title)?;
     let answer = answer_to(sheet, longer, nodes, text);
     print_answer(rt, answer, text)
 }
 
 // 40,000 asterisks in texts of 125: each is escaped, so that their text is longer than the text memory.
-fn too_much(
-    rt: &impl Print,
-    asterisks: &[u8],
-    sheet: &mut [u8],
-    nodes: &mut [u8],
-    text: &mut [u8],
-) -> io::Result<()> {
-    let n = fields(sheet, 0, 4, asterisks, 320);
+fn too_much(rt: &impl Print, asterisks: &[u8], lent: &mut Memories) -> io::Result<()> {
+    let mut sheet = Sheet::new(lent.sheet);
+    sheet.fields(TEXT, asterisks, 320);
     show_input(
         rt,
         b"sheet, 40,000 asterisks",
-        front(sheet, n),
+        sheet.bytes(),
         false,
-        nodes,
-        text,
+        lent.nodes,
+        lent.text,
     )
 }
 
 // 512 fields of 128 bytes: comments and a text.
-fn longest(
-    rt: &impl Print,
-    asterisks: &[u8],
-    sheet: &mut [u8],
-    nodes: &mut [u8],
-    text: &mut [u8],
-) -> io::Result<()> {
-    let mut n = fields(sheet, 0, 5, asterisks, 511);
-    n = field(sheet, n, 4, asterisks);
+fn longest(rt: &impl Print, asterisks: &[u8], lent: &mut Memories) -> io::Result<()> {
+    let mut sheet = Sheet::new(lent.sheet);
+    sheet.fields(COMMENT, asterisks, 511);
+    sheet.field(TEXT, asterisks);
+    let bytes = sheet.bytes();
     show_input(
         rt,
         b"sheet, 65,536 bytes",
-        front(sheet, n),
+        bytes,
         false,
-        nodes,
-        text,
+        lent.nodes,
+        lent.text,
     )?;
-    show_input(rt, b"sheet, more bytes", front(sheet, n), true, nodes, text)
+    show_input(rt, b"sheet, more bytes", bytes, true, lent.nodes, lent.text)
 }
 
 // The memories of the program `sheet`, 65,536 bytes each.
-fn inputs(rt: &impl Print, asterisks: &[u8]) -> io::Result<()> {
+fn inputs(rt: &impl Print) -> io::Result<()> {
     let mut sheet = [0u8; 65536];
     let mut nodes = [0u8; 65536];
     let mut text = [0u8; 65536];
-    too_much(rt, asterisks, &mut sheet, &mut nodes, &mut text)?;
-    longest(rt, asterisks, &mut sheet, &mut nodes, &mut text)
-}
-
-fn show_all(
-    rt: &impl Print,
-    sheet: &mut [u8],
-    nodes: &mut [u8],
-    text: &mut [u8],
-) -> io::Result<()> {
-    links(rt, sheet, nodes, text)?;
-    paragraph(rt, sheet, nodes, text)?;
-    limits(rt, sheet, nodes, text)?;
-    table(rt, sheet, nodes, text)?;
-    inputs(
-        rt,
-        b"*****************************************************************************************************************************",
-    )
+    let mut lent = Memories {
+        sheet: &mut sheet,
+        nodes: &mut nodes,
+        text: &mut text,
+    };
+    let asterisks = [b'*'; 125];
+    too_much(rt, &asterisks, &mut lent)?;
+    longest(rt, &asterisks, &mut lent)
 }
 
 // The memories: S bytes for a sheet, and N for nodes.
@@ -264,7 +248,16 @@ fn show_in<const S: usize, const N: usize>(rt: &impl Print) -> io::Result<()>
     let mut sheet = [0u8; S];
     let mut nodes = [0u8; N];
     let mut text = [0u8; 4096];
-    show_all(rt, &mut sheet, &mut nodes, &mut text)
+    let mut lent = Memories {
+        sheet: &mut sheet,
+        nodes: &mut nodes,
+        text: &mut text,
+    };
+    links(rt, &mut lent)?;
+    paragraph(rt, &mut lent)?;
+    limits(rt, &mut lent)?;
+    table(rt, &mut lent)?;
+    inputs(rt)
 }
 
 // Room for 65,536 nodes: 3 bytes in the sheet for each empty text, and 64 of node memory.

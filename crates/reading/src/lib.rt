@@ -15,6 +15,7 @@ pub fn read_full<R: Read>(reader: &mut R, memory: &mut [u8]) -> Result<usize>
     ensures end { IfOk result (λ n. n < length memory.new → IsAtEnd (R.remaining reader.new)) }
 {
     let mut done = 0;
+    // a loop over a place: each read says how far it comes
     while done < memory.len() {
         let n = reader.read(&mut memory[done..])?;
         if n == 0 {

@@ -11,14 +11,17 @@ use std::io;
 use std::io::{Input, Read};
 use text::buffer::front;
 
+// The bytes of each of the three memories.
+const MEMORY: usize = 65_536;
+
 // Whether the input has a byte more.
 fn has_more<R: Read>(input: &mut R) -> io::Result<bool> {
     let mut next = [0u8; 1];
-    let n = read_full(input, &mut next)?;
-    Ok(n != 0)
+    Ok(read_full(input, &mut next)? != 0)
 }
 
 // The answer to a sheet; number 1, and no call, where the input is longer than the sheet that was read.
+#[tactic(auto, unfolding(crate::specs::Reply::reply, spec::specs::Call::refused))]
 pub fn answer_to(
     sheet: &[u8],
     longer: bool,
@@ -41,18 +44,14 @@ fn print_answer(rt: &impl Print, answer: Result<usize, Refusal>, text: &[u8]) ->
     }
 }
 
-// Reads at most 65,536 bytes, and asks for one more only where they are as many.
+// Reads at most as many bytes as the memory has, and asks for one more only where they are as many.
 pub fn run(rt: &(impl Input + Print)) -> io::Result<()> {
-    let mut sheet = [0u8; 65536];
-    let mut nodes = [0u8; 65536];
-    let mut text = [0u8; 65536];
+    let mut sheet = [0u8; MEMORY];
+    let mut nodes = [0u8; MEMORY];
+    let mut text = [0u8; MEMORY];
     let mut input = rt.reader();
     let n = read_full(&mut input, &mut sheet)?;
-    let longer = if n == 65536 {
-        has_more(&mut input)?
-    } else {
-        false
-    };
-    let answer = answer_to(front(&sheet, n), longer, &mut nodes, &mut text);
+    let longer = n == sheet.len() && has_more(&mut input)?;
+    let answer = answer_to(&sheet[..n], longer, &mut nodes, &mut text);
     print_answer(rt, answer, &text)
 }

@@ -126,8 +126,7 @@ impl FormatOpts {
     pub fn emphasis_scope(mut self, scope: EmphasisScope) -> Self
         ensures { result ≡ def.emphasis_scope scope self }
     {
-        let s = self.emphasis_scope.insert(scope);
-        self.emphasis_scope = s;
+        self.emphasis_scope = self.emphasis_scope.insert(scope);
         self
     }
 }
@@ -139,37 +138,42 @@ pub enum ListKind {
 }
 
 // How many digits n has in decimal.
+#[tactic(auto, using(crate::specs::Decimal::length_one, crate::proofs::Digits::length_log))]
 pub fn digits(n: u32) -> usize
     ensures { (result ≡ length (decimal n)) × (result ≤ 10) }
 {
-    let mut m = n;
-    let mut d = 1;
-    while 10 <= m {
-        m = m / 10;
-        d += 1;
+    match n.checked_ilog10() {
+        Some(log) => log as usize + 1,
+        None => 1,
     }
-    d
 }
 
+// A list steps at least as far.
+const STEP: usize = 4;
+
+// The dot and the blank behind a number.
+const NUMBER_END: usize = 2;
+
 impl ListKind {
+    #[tactic(auto, unfolding(crate::specs::Md::Ctx::offset_of))]
     pub fn offset(self) -> usize
         ensures { (result ≡ def.offset_of self) × (result ≤ 12) }
     {
         match self {
-            ListKind::Ul => 4,
-            ListKind::Ol(n) => {
-                let d = digits(n);
-                if d < 2 { 4 } else { d + 2 }
-            }
+            ListKind::Ul => STEP,
+            ListKind::Ol(n) => (digits(n) + NUMBER_END).max(STEP),
         }
     }
 }
+
+// No list number is larger.
+const LARGEST: u32 = 999_999_999;
 
 // The number behind n in a list.
 pub fn next_number(n: u32) -> u32
     ensures { result ≡ min (n + 1) MAX_LIST_NUMBER }
 {
-    if n < 999999999 { n + 1 } else { 999999999 }
+    n.saturating_add(1).min(LARGEST)
 }
 
 #[derive(Clone, Copy)]
@@ -180,36 +184,34 @@ pub struct ListContext {
 }
 
 impl ListContext {
+    #[tactic(auto, unfolding(crate::specs::Md::Ctx::list_context))]
     pub fn new(opts: FormatOpts, kind: ListKind) -> Self
         requires { opts.offset + 12 < 2 ^ 64 }
         ensures { result ≡ def.list_context opts kind }
     {
-        let indent = opts.offset;
-        let mut list_opts = opts.offset(indent + kind.offset());
+        let mut list_opts = opts.offset(opts.offset + kind.offset());
         // a list written as a node must not make its items write theirs
         list_opts.include_node = false;
         Self {
             opts: list_opts,
-            kind: kind,
-            list_indent: indent,
+            kind,
+            list_indent: opts.offset,
         }
     }
 
+    #[tactic(auto, unfolding(crate::specs::Md::Ctx::advance_ol_number, crate::specs::Md::Ctx::advanced))]
     pub fn advance_ol_number(self) -> Self
         requires { self.list_indent + 12 < 2 ^ 64 }
         ensures { result ≡ def.advance_ol_number self }
     {
-        let kind = self.kind;
-        match kind {
+        match self.kind {
             ListKind::Ul => self,
             ListKind::Ol(n) => {
-                let next = ListKind::Ol(next_number(n));
-                let opts = self.opts;
-                let indent = self.list_indent;
+                let kind = ListKind::Ol(next_number(n));
                 ListContext {
-                    opts: opts.offset(indent + next.offset()),
-                    kind: next,
-                    list_indent: indent,
+                    opts: self.opts.offset(self.list_indent + kind.offset()),
+                    kind,
+                    ..self
                 }
             }
         }

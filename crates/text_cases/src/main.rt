@@ -10,111 +10,66 @@ mod case;
 mod leaf;
 mod setup;
 
-ghost use Rattle.std.specs.Prelude.{◌≡◌, ◌≤◌, length, IfOk};
+ghost use Rattle.std.specs.Prelude.{◌≡◌, ◌<◌, length, IfSome};
 
-use case::{decode, field, line_end, next_line, number};
-use input::fields::is_same;
+use case::{Line, decode};
 use leaf::run;
 use reading::read_full;
 use setup::Case;
 use std::io;
-use text::buffer::{Full, Wrote, front};
+use text::buffer::{Full, Wrote};
 
-// Whether the answer is the stored one.
-fn is_answer(r: Wrote, answer: &[u8]) -> bool {
-    match r {
-        Ok(n) => {
-            if is_same(answer, b"F") {
-                return false;
-            }
-            number(answer) == n
-        }
-        Err(Full) => is_same(answer, b"F"),
+// What the leaf of a line answers, if there is one and the memory has the room. The text stands at the front of the memory.
+fn answer_to(line: &Line, memory: &mut [u8], a: &mut [u8], b: &mut [u8]) -> Option<Wrote> {
+    let len = decode(line.text, memory).len();
+    let text = memory.get_mut(..line.room)?;
+    if text.len() < len {
+        return Some(Err(Full));
     }
-}
-
-// Whether the bytes that the field says stand at the front of the text.
-fn is_text(text: &[u8], expected: &[u8], spare: &mut [u8]) -> bool {
-    let n = decode(expected, spare);
-    is_same(front(text, n), front(spare, n))
-}
-
-// Runs the leaf of a line, with its text in the first bytes of the memory.
-fn run_line(line: &[u8], memory: &mut [u8], len: usize, a: &[u8], b: &[u8]) -> Wrote {
     let case = Case {
-        flags: number(field(line, 3)),
-        x: number(field(line, 4)),
-        y: number(field(line, 5)),
+        flags: line.flags,
+        x: line.x,
+        y: line.y,
+        a: decode(line.a, a),
+        b: decode(line.b, b),
     };
-    if memory.len() < len {
-        return Err(Full);
-    }
-    run(field(line, 0), field(line, 1), memory, len, case, a, b)
+    run(line.file, line.name, text, len, case)
 }
 
-// Whether the leaf of a line answers what the line says.
-fn answers(line: &[u8], memory: &mut [u8], a: &mut [u8], b: &mut [u8]) -> bool {
-    let start = 0;
-    let room = number(field(line, 2));
-    if memory.len() < room {
-        return false;
-    }
-    let len = decode(field(line, 6), memory);
-    let n = decode(field(line, 7), a);
-    let m = decode(field(line, 8), b);
-    let r = run_line(
-        line,
-        &mut memory[start..room],
-        len,
-        front(a, n),
-        front(b, m),
-    );
-    is_answer(r, field(line, 9))
-}
-
-// Whether it also writes what the line says.
-fn writes(line: &[u8], memory: &mut [u8], a: &mut [u8], b: &mut [u8]) -> bool {
-    if !answers(line, memory, a, b) {
-        return false;
-    }
-    is_text(memory, field(line, 10), a)
-}
-
-fn replay(line: &[u8]) -> bool {
+// Whether the leaf of a line answers and writes what the line says.
+fn replay(line: &Line) -> bool {
     let mut memory = [0u8; 4096];
     let mut a = [0u8; 4096];
     let mut b = [0u8; 4096];
-    writes(line, &mut memory, &mut a, &mut b)
+    answer_to(line, &mut memory, &mut a, &mut b) == Some(line.answer)
+        && memory.starts_with(decode(line.expected, &mut a))
+}
+
+// The first line, and what stands behind it.
+fn first_line(lines: &[u8]) -> Option<(&[u8], &[u8])>
+    ensures { IfSome result (λ r. length r.1.now < length lines.now) }
+{
+    match lines.iter().position(|b| *b == b'\n') {
+        Some(end) => Some((&lines[..end], &lines[end + 1..])),
+        None if lines.is_empty() => None,
+        None => Some((lines, b"")),
+    }
 }
 
 // Replays all lines, and writes those that differ.
 fn replay_lines(rt: &impl Print, lines: &[u8]) -> io::Result<()> {
     let mut count: u64 = 0;
     let mut differ: u64 = 0;
-    let mut at = 0;
-    while at < lines.len() {
-        let end = line_end(lines, at);
-        let line = &lines[at..end];
+    let mut rest = lines;
+    while let Some((line, behind)) = first_line(rest) {
         count += 1;
-        differ += reported(rt, line)?;
-        at = next_line(lines, end);
+        if !replay(&Line::new(line)) {
+            differ += 1;
+            rt.write_all(line)?;
+            rt.write_all(b"\n")?;
+        }
+        rest = behind;
     }
-    report(rt, count, differ)
-}
-
-// 0 for a line that is right; any other is written, and counts.
-fn reported(rt: &impl Print, line: &[u8]) -> io::Result<u64>
-    ensures { IfOk result (λ n. n ≤ 1) }
-{
-    if replay(line) {
-        return Ok(0);
-    }
-    rt.write_all(line)?;
-    rt.write_all(b"\n")?;
-    Ok(1)
-}
-
-fn report(rt: &impl Print, count: u64, differ: u64) -> io::Result<()> {
     println!(rt; "{count} cases, {differ} differ")
 }
 
@@ -127,5 +82,5 @@ fn space() -> [u8; 524288]
 fn main(rt: HostRuntime) -> io::Result<()> {
     let mut lines = space();
     let size = read_full(&mut rt.reader(), &mut lines)?;
-    replay_lines(&rt, front(&lines, size))
+    replay_lines(&rt, &lines[..size])
 }

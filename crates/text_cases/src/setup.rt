@@ -1,5 +1,5 @@
 // What a leaf function is called with: options and contexts from the numbers of a case, and texts begun behind the text.
-ghost use Rattle.std.specs.Prelude.{◌≤◌, length};
+ghost use Rattle.std.specs.Prelude.{◌≡◌, ◌≤◌, ◌+◌, length, IfOk};
 
 use lists_links::list::Item;
 use lists_links::list_number::parse_list_number;
@@ -7,136 +7,147 @@ use spec::ctx::{FormatOpts, ListContext, ListKind};
 use text::buffer::{Full, Wrote};
 use text::by_len::push_all;
 
-// The numbers of a case: options as bits, and two that each function reads in its own way.
+// The flags of a case.
+const INLINE: usize = 1;
+
+const SKIP_ESCAPE: usize = 2;
+
+const LIST_ITEM: usize = 4;
+
+const TABLE_CELL: usize = 8;
+
+// An ordered list, whose next number is y.
+const ORDERED: usize = 16;
+
+// A text that counts as code.
+const COUNTS: usize = 32;
+
+// An item whose children are blocks.
+pub const BLOCKS: usize = 64;
+
+// The first block of an item.
+pub const FIRST: usize = 128;
+
+// A block that is indented as a whole.
+pub const INDENTED: usize = 256;
+
+pub const BLANK: usize = 512;
+
+// A sheet has at most as many bytes.
+const SHEET: usize = 1_048_576;
+
+// The head of a field.
+const HEAD: usize = 3;
+
+// What a leaf is called with beside a text: flags, and two numbers and two byte strings that each leaf reads in its own way.
 #[derive(Clone, Copy)]
-pub struct Case {
+pub struct Case<'a> {
     pub flags: usize,
     pub x: usize,
     pub y: usize,
+    pub a: &'a [u8],
+    pub b: &'a [u8],
 }
 
-pub fn has(case: Case, bit: usize) -> bool {
-    if bit == 0 {
-        return false;
+impl Case<'_> {
+    pub fn has(self, flag: usize) -> bool {
+        self.flags & flag != 0
     }
-    (case.flags / bit) % 2 == 1
-}
 
-// 1 inline, 2 skip_escape, 4 list_item, 8 table_cell.
-pub fn options(case: Case) -> FormatOpts {
-    let mut opts = FormatOpts::new();
-    opts.inline = has(case, 1);
-    opts.skip_escape = has(case, 2);
-    opts.list_item = has(case, 4);
-    opts.table_cell = has(case, 8);
-    opts
-}
-
-// 16 an ordered list, whose next number is y.
-fn kind(case: Case) -> ListKind {
-    let y = case.y;
-    if !has(case, 16) {
-        return ListKind::Ul;
+    pub fn options(self) -> FormatOpts {
+        let mut opts = FormatOpts::new();
+        opts.inline = self.has(INLINE);
+        opts.skip_escape = self.has(SKIP_ESCAPE);
+        opts.list_item = self.has(LIST_ITEM);
+        opts.table_cell = self.has(TABLE_CELL);
+        opts
     }
-    if 4294967295 < y {
-        return ListKind::Ul;
-    }
-    ListKind::Ol(y as u32)
-}
 
-// x blanks stand before the items.
-pub fn context(case: Case) -> ListContext {
-    let opts = options(case);
-    let next = kind(case);
-    let indent = case.x;
-    ListContext {
-        opts: opts,
-        kind: next,
-        list_indent: indent,
+    fn kind(self) -> ListKind {
+        match u32::try_from(self.y) {
+            Ok(next) if self.has(ORDERED) => ListKind::Ol(next),
+            _ => ListKind::Ul,
+        }
+    }
+
+    // x blanks stand before the items.
+    pub fn context(self) -> ListContext {
+        ListContext {
+            opts: self.options(),
+            kind: self.kind(),
+            list_indent: self.x,
+        }
+    }
+
+    // x blanks stand before the item's blocks, and its content begins at y.
+    pub fn item(self) -> Item {
+        Item {
+            ctx: self.context(),
+            indent: self.x,
+            start: self.y,
+        }
     }
 }
 
 pub fn truth(b: bool) -> Wrote {
-    if b { Ok(1) } else { Ok(0) }
+    Ok(usize::from(b))
 }
 
 pub fn parsed(value: &[u8]) -> Wrote {
-    match parse_list_number(value) {
-        Some(n) => Ok(n as usize),
-        None => Err(Full),
-    }
+    parse_list_number(value).map(|n| n as usize).ok_or(Full)
 }
 
-// x blanks stand before the item's blocks, and its content begins at y.
-pub fn item(case: Case) -> Item {
-    let ctx = context(case);
-    let indent = case.x;
-    let start = case.y;
-    Item {
-        ctx: ctx,
-        indent: indent,
-        start: start,
+// Puts the text of a case behind the text.
+fn begun(text: &mut [u8], len: usize, a: &[u8]) -> Wrote
+    requires { len ≤ length text.old }
+    ensures { IfOk result (λ end. (end ≡ len + length a.now) × (end ≤ length text.new)) }
+{
+    if text.len() - len < a.len() {
+        return Err(Full);
     }
+    push_all(text, len, a)?;
+    Ok(len + a.len())
 }
 
 // a stands behind the text, as a text begun inside it.
-pub fn indented(text: &mut [u8], len: usize, case: Case, a: &[u8]) -> Wrote
+pub fn indented(text: &mut [u8], len: usize, case: Case) -> Wrote
     requires { len ≤ length text.old }
 {
-    let it = item(case);
-    let n = a.len();
-    if text.len() - len < n {
-        return Err(Full);
-    }
-    push_all(text, len, a)?;
-    lists_links::by_len::push_indented(text, len, n, it)
+    begun(text, len, case.a)?;
+    lists_links::by_len::push_indented(text, len, case.a.len(), case.item())
 }
 
-// a stands behind the text; 32 says that it counts.
-pub fn code(text: &mut [u8], len: usize, case: Case, a: &[u8]) -> Wrote
+// a stands behind the text.
+pub fn code(text: &mut [u8], len: usize, case: Case) -> Wrote
     requires { len ≤ length text.old }
 {
-    let n = a.len();
-    if text.len() - len < n {
-        return Err(Full);
-    }
-    let counts = has(case, 32);
-    push_all(text, len, a)?;
-    if counts {
-        return marks::by_len::push_code_text(text, len, len, n, n);
-    }
-    marks::by_len::push_code_text(text, len, len, n, 0)
+    let n = case.a.len();
+    begun(text, len, case.a)?;
+    let counted = if case.has(COUNTS) { n } else { 0 };
+    marks::by_len::push_code_text(text, len, len, n, counted)
 }
 
 // a stands behind the text, b is the language.
-pub fn fenced(text: &mut [u8], len: usize, a: &[u8], b: &[u8]) -> Wrote
+pub fn fenced(text: &mut [u8], len: usize, case: Case) -> Wrote
     requires { len ≤ length text.old }
 {
-    let n = a.len();
-    if text.len() - len < n {
-        return Err(Full);
-    }
-    push_all(text, len, a)?;
-    marks::by_len::push_fenced_block(text, len, len, n, b)
+    begun(text, len, case.a)?;
+    marks::by_len::push_fenced_block(text, len, len, case.a.len(), case.b)
 }
 
 // a stands behind the text, b is the marker.
-pub fn emphasized(text: &mut [u8], len: usize, a: &[u8], b: &[u8]) -> Wrote
+pub fn emphasized(text: &mut [u8], len: usize, case: Case) -> Wrote
     requires { len ≤ length text.old }
 {
-    let n = a.len();
-    if text.len() - len < n {
-        return Err(Full);
-    }
-    push_all(text, len, a)?;
-    marks::by_len::push_emphasis(text, len, n, b)
+    begun(text, len, case.a)?;
+    marks::by_len::push_emphasis(text, len, case.a.len(), case.b)
 }
 
 // A destination is no longer than a sheet.
 pub fn destination(text: &mut [u8], len: usize, a: &[u8]) -> Wrote
     requires { len ≤ length text.old }
 {
-    if 1048576 < a.len() {
+    if SHEET < a.len() {
         return Err(Full);
     }
     lists_links::by_len::push_md_url(text, len, a)
@@ -146,10 +157,7 @@ pub fn destination(text: &mut [u8], len: usize, a: &[u8]) -> Wrote
 pub fn image(text: &mut [u8], len: usize, a: &[u8]) -> Wrote
     requires { len ≤ length text.old }
 {
-    if a.len() < 3 {
-        return Err(Full);
-    }
-    if 1048576 < a.len() {
+    if a.len() < HEAD || SHEET < a.len() {
         return Err(Full);
     }
     lists_links::by_len::write_img(text, len, a, 0)

@@ -1,44 +1,68 @@
 // The stored list of calls: for each a head, the bytes of a skip list and of an attribute name, and the pieces of a sheet, each to be
 // repeated some number of times.
-ghost use Rattle.std.specs.Prelude.{◌+◌, ◌≤◌, ◌≡◌, length};
+ghost use Rattle.std.specs.Prelude.{◌+◌, ◌≤◌, ◌<◌, length, IfSome};
 
 use tree::memory::read;
 
-// A call but for its sheet: the skip list is input[run..name], the attribute name input[name..end].
+// The length of a call's head, and where it has its parts: whether the skip list is an own one, the lengths of the skip list and of
+// the attribute name, the start node, the bytes of node memory, and how many pieces there are.
+const HEAD: usize = 15;
+
+const OWN: usize = 0;
+
+const RUN: usize = 1;
+
+const NAME: usize = 3;
+
+const START: usize = 5;
+
+const MEMORY: usize = 9;
+
+const PIECES: usize = 13;
+
+// The length of a piece's head: the number of times, and the piece's length.
+const PIECE_HEAD: usize = 6;
+
+const TIMES: usize = 0;
+
+const LENGTH: usize = 4;
+
+// A call but for its sheet.
 #[derive(Clone, Copy)]
-pub struct Head {
+pub struct Call<'a> {
     pub own: bool,
+    pub run: &'a [u8],
+    pub name: &'a [u8],
     pub start: usize,
     pub memory: usize,
     pub pieces: usize,
-    pub run: usize,
-    pub name: usize,
-    pub end: usize,
 }
 
-// The call whose head stands at `at`.
-pub fn read_head(input: &[u8], at: usize) -> Head
-    requires { at + 15 ≤ length input.now }
-    ensures { (result.run ≡ at + 15) × (result.run ≤ result.name) × (result.name ≤ result.end) }
+// The call at the front of the input, and what stands behind it.
+pub fn read_call(input: &[u8]) -> Option<(Call<'_>, &[u8])>
+    ensures { IfSome result (λ r. length r.1.now < length input.now) }
 {
-    let name = at + 15 + read::<2>(input, at + 1);
-    let end = name + read::<2>(input, at + 3);
-    Head {
-        own: input[at] == 1,
-        start: read::<4>(input, at + 5),
-        memory: read::<4>(input, at + 9),
-        pieces: read::<2>(input, at + 13),
-        run: at + 15,
+    let (head, rest) = input.split_at_checked(HEAD)?;
+    let (run, rest) = rest.split_at_checked(read::<2>(head, RUN))?;
+    let (name, rest) = rest.split_at_checked(read::<2>(head, NAME))?;
+    let call = Call {
+        own: head[OWN] == 1,
+        run,
         name,
-        end,
-    }
+        start: read::<4>(head, START),
+        memory: read::<4>(head, MEMORY),
+        pieces: read::<2>(head, PIECES),
+    };
+    Some((call, rest))
 }
 
-// Where the pieces of a sheet end in the input, and how long the sheet is.
-#[derive(Clone, Copy)]
-pub struct Built {
-    pub at: usize,
-    pub len: usize,
+// How often the piece at the front of the input comes, the piece, and what stands behind it.
+fn read_piece(input: &[u8]) -> Option<(usize, &[u8], &[u8])>
+    ensures { IfSome result (λ r. length r.2.now ≤ length input.now) }
+{
+    let (head, rest) = input.split_at_checked(PIECE_HEAD)?;
+    let (piece, rest) = rest.split_at_checked(read::<2>(head, LENGTH))?;
+    Some((read::<4>(head, TIMES), piece, rest))
 }
 
 // Appends a piece to a sheet of len bytes, as far as there is room.
@@ -51,26 +75,27 @@ fn append(piece: &[u8], sheet: &mut [u8], len: usize) -> usize
     len + n
 }
 
-// The sheet whose pieces stand at `at` of the input: each after the number of times that it comes, and its length.
-pub fn build_sheet(input: &[u8], at: usize, pieces: usize, sheet: &mut [u8]) -> Built
-    requires { at ≤ length input.now }
-    ensures { (at ≤ result.at) × (result.at ≤ length input.now) × (result.len ≤ length sheet.new) }
+// How long a sheet is, and what stands behind its pieces in the input.
+#[derive(Clone, Copy)]
+pub struct Built<'a> {
+    pub len: usize,
+    pub rest: &'a [u8],
+}
+
+// The sheet whose pieces stand at the front of the input; nothing is left behind pieces that the input cuts off.
+pub fn build_sheet<'a>(input: &'a [u8], pieces: usize, sheet: &mut [u8]) -> Built<'a>
+    ensures { (length result.rest.now ≤ length input.now) × (result.len ≤ length sheet.new) }
 {
-    let mut p = at;
+    let mut rest = input;
     let mut len = 0;
     for _ in 0..pieces {
-        let rest = &input[p..];
-        if rest.len() < 6 || rest.len() - 6 < read::<2>(rest, 4) {
-            return Built {
-                at: input.len(),
-                len,
-            };
+        let Some((times, piece, behind)) = read_piece(rest) else {
+            return Built { len, rest: b"" };
+        };
+        for _ in 0..times {
+            len = append(piece, sheet, len);
         }
-        let end = 6 + read::<2>(rest, 4);
-        for _ in 0..read::<4>(rest, 0) {
-            len = append(&rest[6..end], sheet, len);
-        }
-        p += end;
+        rest = behind;
     }
-    Built { at: p, len }
+    Built { len, rest }
 }

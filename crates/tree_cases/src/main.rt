@@ -5,10 +5,10 @@
 mod dump;
 mod list;
 
-ghost use Rattle.std.specs.Prelude.{◌≤◌, ◌<◌, ◌^◌, length, IfOk};
+ghost use Rattle.std.specs.Prelude.{◌<◌, ◌^◌};
 
 use crate::dump::{print_nodes, put};
-use crate::list::{build_sheet, read_head};
+use crate::list::{Call, build_sheet, read_call};
 use input::questions::first_refusal;
 use reading::read_full;
 use std::io;
@@ -16,69 +16,29 @@ use tree::memory::clear;
 use tree::store::store_nodes;
 
 // One call: a line with the number, and for number 0 a line for each node.
-fn run_call(
-    rt: &impl Print,
-    sheet: &[u8],
-    own: bool,
-    run: &[u8],
-    start: usize,
-    name: &[u8],
-    nodes: &mut [u8],
-) -> io::Result<()> {
-    if let Err(refusal) = first_refusal(sheet, own, run, start, nodes.len()) {
+fn run_call(rt: &impl Print, call: &Call, sheet: &[u8], nodes: &mut [u8]) -> io::Result<()> {
+    let asked = first_refusal(sheet, call.own, call.run, call.start, nodes.len());
+    if let Err(refusal) = asked {
         return println!(rt; "{refusal}");
     }
     rt.write_all(b"0")?;
     let count = store_nodes(sheet, nodes);
     put(rt, count)?;
     rt.write_all(b"\n")?;
-    print_nodes(rt, sheet, own, run, name, nodes, count)?;
+    print_nodes(rt, call, sheet, nodes, count)?;
     clear(nodes);
     Ok(())
 }
 
-// The call at `at` of the input, and where the next one stands there.
-fn run_next(
-    rt: &impl Print,
-    input: &[u8],
-    at: usize,
-    sheet: &mut [u8],
-    nodes: &mut [u8],
-) -> io::Result<usize>
-    requires { at < length input.now }
-    ensures { IfOk result (λ n. (at < n) × (n ≤ length input.now)) }
-{
-    if input.len() - at < 15 {
-        return Ok(input.len());
-    }
-    let h = read_head(input, at);
-    let run = h.run;
-    let name = h.name;
-    let end = h.end;
-    if input.len() < end {
-        return Ok(input.len());
-    }
-    let b = build_sheet(input, end, h.pieces, sheet);
-    let len = b.len;
-    let memory = h.memory;
-    if memory <= nodes.len() {
-        run_call(
-            rt,
-            &sheet[..len],
-            h.own,
-            &input[run..name],
-            h.start,
-            &input[name..end],
-            &mut nodes[..memory],
-        )?;
-    }
-    Ok(b.at)
-}
-
+// The calls of the input, up to one that it cuts off.
 fn run_all(rt: &impl Print, input: &[u8], sheet: &mut [u8], nodes: &mut [u8]) -> io::Result<()> {
-    let mut at = 0;
-    while at < input.len() {
-        at = run_next(rt, input, at, sheet, nodes)?;
+    let mut rest = input;
+    while let Some((call, behind)) = read_call(rest) {
+        let built = build_sheet(behind, call.pieces, sheet);
+        if call.memory <= nodes.len() {
+            run_call(rt, &call, &sheet[..built.len], &mut nodes[..call.memory])?;
+        }
+        rest = built.rest;
     }
     Ok(())
 }

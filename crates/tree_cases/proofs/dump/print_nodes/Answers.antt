@@ -3,5 +3,5 @@ use native.Mathlib.Omega.{arith}
 use Rattle.tree.proofs.Ranges.{numbered_in, readable}
 use Rattle.tree_cases.proofs.dump.print_nodes.Goals as goal
 
-pub read_node-place-requires : goal.read_node-place-requires
-read_node-place-requires g c = readable (numbered_in _ _ _ _ c.requires (omega arith) (omega arith))
+pub read_line-line-requires : goal.read_line-line-requires
+read_line-line-requires g c = readable (numbered_in _ _ _ _ c.requires (omega arith) (omega arith))
