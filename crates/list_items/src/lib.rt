@@ -1,40 +1,25 @@
-// The beginnings of the two item writers of elements/list.rs: the list context is lent to each and advanced in it.
+// The beginning of the two item writers of elements/list.rs: the list context is lent to it and advanced in it.
 
 #![tactic(auto)]
 
-ghost use Rattle.std.specs.Prelude.{◌≡◌, false, true, ◌+◌, ◌≤◌, ◌<◌, ◌^◌, length, take};
+ghost use Rattle.std.specs.Prelude.{◌≡◌, ◌+◌, ◌<◌, ◌^◌};
 ghost use Rattle.spec.specs.Md.Ctx.{advance_ol_number};
 ghost use Rattle.spec.specs.Md.Elements.List.{begin_item};
-ghost use Rattle.text.specs.Writes.{Writes};
+ghost use Rattle.text.specs.Texts.{WritesTo};
 
-use lists_links::by_len::begin_item;
+use lists_links::list::begin_item;
 use spec::ctx::ListContext;
-use text::buffer::Wrote;
+use text::buffer::Full;
+use text::text::Text;
 
-// The context behind an item: the next number, and the offset of that number.
-fn advanced(ctx: ListContext) -> ListContext
-    requires { ctx.list_indent + 12 < 2 ^ 64 }
-    ensures { result ≡ advance_ol_number ctx }
-{
-    ctx.advance_ol_number()
-}
+pub mod by_len;
 
-// Begins an item without blocks, and advances the context.
-pub fn write_list_item(text: &mut [u8], len: usize, ctx: &mut ListContext) -> Wrote
-    requires { (len ≤ length text.old) × (ctx.old.list_indent + 12 < 2 ^ 64) }
-    ensures { Writes (length text.old) text.new result (begin_item false ctx.old (take len text.old)) × (ctx.new ≡ advance_ol_number ctx.old) }
+// Begins an item, with blocks or without, and advances the context: the next number, and the offset of that number.
+pub fn start_item(text: &mut Text, blocks: bool, ctx: &mut ListContext) -> Result<(), Full>
+    requires { ctx.old.list_indent + 12 < 2 ^ 64 }
+    ensures { WritesTo text.old text.new result (begin_item blocks ctx.old) × (ctx.new ≡ advance_ol_number ctx.old) }
 {
-    let c = *ctx;
-    *ctx = advanced(c);
-    begin_item(text, len, false, c)
-}
-
-// Begins an item with blocks, and advances the context.
-pub fn write_list_item_blocks(text: &mut [u8], len: usize, ctx: &mut ListContext) -> Wrote
-    requires { (len ≤ length text.old) × (ctx.old.list_indent + 12 < 2 ^ 64) }
-    ensures { Writes (length text.old) text.new result (begin_item true ctx.old (take len text.old)) × (ctx.new ≡ advance_ol_number ctx.old) }
-{
-    let c = *ctx;
-    *ctx = advanced(c);
-    begin_item(text, len, true, c)
+    let before = *ctx;
+    *ctx = before.advance_ol_number();
+    begin_item(text, blocks, before)
 }

@@ -39,7 +39,7 @@ use elements::list_nodes::{
 };
 use elements::pre::write_pre;
 use elements::steps::{closed, emphasis_opts, has_writer, opened, push_emphasis_by};
-use list_items::{write_list_item, write_list_item_blocks};
+use list_items::by_len::{write_list_item, write_list_item_blocks};
 use lists_links::by_len::{end_item, push_block_lead, push_indented, push_inline_lead, write_img};
 use lists_links::list::{Item, item_from};
 use marks::by_len::escape_table_cell_inplace;
