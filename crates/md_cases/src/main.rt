@@ -14,6 +14,9 @@ use md::call::serialize_md;
 use reading::read_full;
 use std::io;
 
+// The bytes of each memory; a call is lent some of them.
+const MEMORY: usize = 65_536;
+
 // What the memories hold before a call.
 const NODES_BEFORE: u8 = 0xAA;
 
@@ -153,8 +156,8 @@ fn space() -> [u8; 1048577]
 fn main(rt: HostRuntime) -> io::Result<()> {
     let mut list = space();
     let zeros = space();
-    let mut nodes = [0u8; 65536];
-    let mut text = [0u8; 65536];
+    let mut nodes = [0u8; MEMORY];
+    let mut text = [0u8; MEMORY];
     let n = read_full(&mut rt.reader(), &mut list)?;
     replay_list(&rt, &list[..n], &zeros, &mut nodes, &mut text)
 }

@@ -16,6 +16,9 @@ use sheet_main::answer_to;
 use std::io;
 use text::buffer::front;
 
+// The bytes of each memory of the program `sheet`.
+const MEMORY: usize = 65_536;
+
 // The memories that a case uses: for its sheet, for the nodes and for the text.
 #[derive(Drop)]
 struct Memories<'a> {
@@ -225,11 +228,11 @@ fn longest(rt: &impl Print, asterisks: &[u8], lent: &mut Memories) -> io::Result
     show_input(rt, b"sheet, more bytes", bytes, true, lent.nodes, lent.text)
 }
 
-// The memories of the program `sheet`, 65,536 bytes each.
+// The memories of the program `sheet`.
 fn inputs(rt: &impl Print) -> io::Result<()> {
-    let mut sheet = [0u8; 65536];
-    let mut nodes = [0u8; 65536];
-    let mut text = [0u8; 65536];
+    let mut sheet = [0u8; MEMORY];
+    let mut nodes = [0u8; MEMORY];
+    let mut text = [0u8; MEMORY];
     let mut lent = Memories {
         sheet: &mut sheet,
         nodes: &mut nodes,

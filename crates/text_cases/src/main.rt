@@ -19,6 +19,9 @@ use setup::Case;
 use std::io;
 use text::buffer::{Full, Wrote};
 
+// No text of a case is longer.
+const MEMORY: usize = 4096;
+
 // What the leaf of a line answers, if there is one and the memory has the room. The text stands at the front of the memory.
 fn answer_to(line: &Line, memory: &mut [u8], a: &mut [u8], b: &mut [u8]) -> Option<Wrote> {
     let len = decode(line.text, memory).len();
@@ -38,9 +41,9 @@ fn answer_to(line: &Line, memory: &mut [u8], a: &mut [u8], b: &mut [u8]) -> Opti
 
 // Whether the leaf of a line answers and writes what the line says.
 fn replay(line: &Line) -> bool {
-    let mut memory = [0u8; 4096];
-    let mut a = [0u8; 4096];
-    let mut b = [0u8; 4096];
+    let mut memory = [0u8; MEMORY];
+    let mut a = [0u8; MEMORY];
+    let mut b = [0u8; MEMORY];
     answer_to(line, &mut memory, &mut a, &mut b) == Some(line.answer)
         && memory.starts_with(decode(line.expected, &mut a))
 }

@@ -16,6 +16,7 @@ use tree::memory::clear;
 use tree::store::store_nodes;
 
 // One call: a line with the number, and for number 0 a line for each node.
+#[tactic(auto, using(tree::specs::Accepted::storable))]
 fn run_call(rt: &impl Print, call: &Call, sheet: &[u8], nodes: &mut [u8]) -> io::Result<()> {
     let asked = first_refusal(sheet, call.own, call.run, call.start, nodes.len());
     if let Err(refusal) = asked {
