@@ -9,7 +9,7 @@ use native.Mathlib.Numerals.{add-one}
 use borrow.Author.Tests.{leb-true, leb-false}
 use lib.Dec.{eqb, leb}
 use lib.ListN.{length, take, drop, get_or, length-append, length-drop}
-use lib.Seq.{take_at, drop-cons, length-take-le}
+use lib.Seq.{take_at, drop-cons}
 use Rattle.spec.specs.Bytes.{null, same, starts_with, digit, take_while, value_from, trim_start_matches}
 use Rattle.spec.specs.Md.Elements.List.{clamped}
 use Rattle.lists_links.specs.Parsed.{parsed_of, signed, unsigned}
@@ -17,7 +17,7 @@ use Rattle.text.specs.Trimmed.{Skipped}
 use Rattle.std.specs.Prelude.{Some, None}
 use Rattle.text.proofs.Writing.{yes}
 use Rattle.input.proofs.Rules.{null_length}
-use Rattle.text.proofs.Reading.{null_none, null_some, rest_part}
+use Rattle.text.proofs.Reading.{rest_part}
 
 -- what is skipped, and what is left
 while_split : (p : ℕ → Bool) (s : List ℕ) → take_while p s ++ trim_start_matches p s ≡ s
