@@ -21,8 +21,7 @@ use Rattle.text.specs.declared.buffer.Full.{Full}
 use Rattle.std.specs.Prelude.{Ok, Err}
 use Rattle.std.specs.Result.{IsErr}
 use Rattle.text.proofs.Writing.{alike, keeps, keep_then, then_done, then_full, refused, reaches, yes, no}
-use Rattle.serializer.specs.Writers.{progress_at, progress_of, Went, SaysGoing, going_of, Goes, GoesForest, GoesElement}
-use Rattle.serializer.specs.declared.progress.Going.{Going}
+use Rattle.serializer.specs.Writers.{At, progress_at, progress_of, Went, SaysGoing, going_of, Goes, GoesForest, GoesElement}
 use Rattle.serializer.proofs.Onward.{afresh, joined, Onward, rule_of, onward_children}
 
 pub goes_alike : {room : ℕ} {after : Bytes} {r : Went} {p q : Progress} → p ≡ q → Goes room after r q → Goes room after r p
@@ -83,7 +82,7 @@ goes_then {room} {mid} {after} {n} p q {r} w x = record { says = go r x.says }
     go (Err _) y = then_full (λ t. q.out) w y
 
 -- what an answer says in the arm of a `match` that has it
-pub went : {room : ℕ} {after : Bytes} {r : Went} {g : Going} {p : Progress} → r ≡ Ok g → Goes room after r p → SaysGoing room after (Ok g) p
+pub went : {room : ℕ} {after : Bytes} {r : Went} {g : At} {p : Progress} → r ≡ Ok g → Goes room after r p → SaysGoing room after (Ok g) p
 went {room} {after} {r} {g} {p} e w = subst (λ (x : Went). SaysGoing room after x p) e w.says
 
 pub went_full : {room : ℕ} {after : Bytes} {r : Went} {x : Full} {p : Progress} → r ≡ Err x → Goes room after r p → Refused room p.out
@@ -91,7 +90,7 @@ went_full {room} {after} {r} {p = p} e w = subst (λ (x : Went). SaysGoing room 
 
 -- G goes on from q, which ended with n bytes
 module _ (G : Progress → Progress) (on : Onward G) (q : Progress) where
-  pub goes_from : {room : ℕ} {mid after : Bytes} {g : Going} {r : Went} → SaysGoing room mid (Ok g) q → Goes room after r (G (progress_of g mid)) → Goes room after r (G q)
+  pub goes_from : {room : ℕ} {mid after : Bytes} {g : At} {r : Went} → SaysGoing room mid (Ok g) q → Goes room after r (G (progress_of g mid)) → Goes room after r (G q)
   goes_from {room} {mid} {after} {g} {r} w x =
       let same : progress_of g mid ≡ afresh q = rw (w.1, w.2, w.0.text_is) in
       goes_alike (on q) (goes_then q (G (afresh q)) w.0 (subst (λ (u : Progress). Goes room after r (G u)) same x))
@@ -102,15 +101,15 @@ module _ (G : Progress → Progress) (on : Onward G) (q : Progress) where
 -- ---- sibling after sibling
 
 -- whoever goes on by `rest` behind the first n bytes of `mid` answers for `whole`
-pub record Left (room : ℕ) (mid : Bytes) (g : Going) (rest : Progress → Progress) (whole : Progress) : Type 0 where
+pub record Left (room : ℕ) (mid : Bytes) (g : At) (rest : Progress → Progress) (whole : Progress) : Type 0 where
   pub long : length mid ≡ room
   pub reach : g.len ≤ length mid
   pub goes : (after : Bytes) (r : Went) → Goes room after r (rest (progress_of g mid)) → Goes room after r whole
 
-module _ {room : ℕ} {mid : Bytes} {g : Going} {rest : Progress → Progress} {whole : Progress} (p : Left room mid g rest whole) where
+module _ {room : ℕ} {mid : Bytes} {g : At} {rest : Progress → Progress} {whole : Progress} (p : Left room mid g rest whole) where
   -- F is what comes first, and G is left
   module _ (F G : Progress → Progress) (on : Onward G) (e : rest (progress_of g mid) ≡ G (F (progress_of g mid))) where
-    left_on : {after : Bytes} {k : Going} → SaysGoing (length mid) after (Ok k) (F (progress_of g mid)) → Left room after k G whole
+    left_on : {after : Bytes} {k : At} → SaysGoing (length mid) after (Ok k) (F (progress_of g mid)) → Left room after k G whole
     left_on {after} {k} w =
         let q = F (progress_of g mid) in
         let v : Written room after k.len q.out = subst (λ (j : ℕ). Written j after k.len q.out) p.long w.0 in
@@ -127,7 +126,7 @@ module _ {room : ℕ} {mid : Bytes} {g : Going} {rest : Progress → Progress} {
         p.goes z (Err x) (goes_alike e (goes_none G on q v))
 
 -- of the siblings from `from` up to `to` those from `at` on are left, whatever they are
-pub record GoingOn (sh ns : Bytes) (from to : ℕ) (whole : Ancestors → Forest → Progress) (room : ℕ) (self : MDSerializer) (item : Item) (mem : Bytes) (at : ℕ) (k : Going) : Type 0 where
+pub record GoingOn (sh ns : Bytes) (from to : ℕ) (whole : Ancestors → Forest → Progress) (room : ℕ) (self : MDSerializer) (item : Item) (mem : Bytes) (at : ℕ) (k : At) : Type 0 where
   pub goes : (parent : ℕ) (f : Forest) (anc : Ancestors) → Rep sh ns parent from to f → Around sh ns parent anc
       → (g : Forest) × Rep sh ns parent at to g × Left room mem k (item_children self anc g item) (whole anc f)
 
@@ -143,16 +142,16 @@ children_none : (self : MDSerializer) (anc : Ancestors) (item : Item) (p : Progr
 unfolding item_children
 children_none self anc item p = refl
 
-pub going_first : (sh ns : Bytes) (from to : ℕ) (self : MDSerializer) (item : Item) (mem : Bytes) (k : Going) → k.len ≤ length mem
+pub going_first : (sh ns : Bytes) (from to : ℕ) (self : MDSerializer) (item : Item) (mem : Bytes) (k : At) → k.len ≤ length mem
     → GoingOn sh ns from to (λ anc f. item_children self anc f item (progress_of k mem)) (length mem) self item mem from k
 going_first sh ns from to self item mem k l =
     record { goes = λ parent f anc h a. (f, h, record { long = refl; reach = l; goes = λ after r w. w }) }
 
-module _ {sh ns : Bytes} {from to : ℕ} {whole : Ancestors → Forest → Progress} {room : ℕ} {self : MDSerializer} {item : Item} {mem : Bytes} {at : ℕ} {k : Going}
+module _ {sh ns : Bytes} {from to : ℕ} {whole : Ancestors → Forest → Progress} {room : ℕ} {self : MDSerializer} {item : Item} {mem : Bytes} {at : ℕ} {k : At}
     (p : GoingOn sh ns from to whole room self item mem at k) where
   module _ (l : at < to) {r : Went} {after : Bytes}
       (w : GoesForest sh ns at (end_at ns at) (λ anc f. item_children self anc f item (progress_of k mem)) (length mem) after r) where
-    pub going_on : {e : ℕ} {m : Going} → e ≡ end_at ns at → r ≡ Ok m → GoingOn sh ns from to whole room self item after e m
+    pub going_on : {e : ℕ} {m : At} → e ≡ end_at ns at → r ≡ Ok m → GoingOn sh ns from to whole room self item after e m
     going_on {e} {m} q u =
         record {
           goes = λ parent f anc h a.

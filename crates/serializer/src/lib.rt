@@ -25,9 +25,9 @@ ghost use Rattle.serializer.specs.ListStep.{list_head, inline_step, led_step, bo
 ghost use Rattle.tables.specs.Rows.{Rows, RowAt, SomeRow, SomeRows};
 ghost use Rattle.tables.specs.Spans.{row_lengths, table_lengths};
 ghost use Rattle.nodes.specs.Stands.{ElementAt, Placed, PlacedNode, Placeds};
-ghost use Rattle.tables.specs.TableSteps.{rows_texts, RowWrites, RowsWrites};
+ghost use Rattle.tables.specs.TableSteps.{rows_texts};
 ghost use Rattle.serializer.specs.Options as def;
-ghost use Rattle.serializer.specs.Writers.{self_at, Ready, Fits, FitsIn, WritesForest, WritesElement, progress_of, GoesForest, GoesElement};
+ghost use Rattle.serializer.specs.Writers.{self_at, Short, Fits, FitsIn, SameRoom, WritesForest, WritesElement, ForestTo, ElementTo, ForestGoes, ElementGoes, RowTo, RowsTo, progress_on};
 
 use elements::code::write_code;
 use elements::item_steps::{
@@ -39,23 +39,24 @@ use elements::list_nodes::{
 };
 use elements::pre::write_pre;
 use elements::steps::{closed, emphasis_opts, has_writer, opened, push_emphasis_by};
-use list_items::by_len::{write_list_item, write_list_item_blocks};
-use lists_links::by_len::{end_item, push_block_lead, push_indented, push_inline_lead, write_img};
-use lists_links::list::{Item, item_from};
-use marks::by_len::escape_table_cell_inplace;
-use marks::table::trim_trailing_cell_break;
-use nodes::by_len::{write_text, write_text_node};
-use nodes::nodes::{has_element, node_is_skipped, node_name};
-use normalized::by_len::{push_linebreak, trim_space};
+use input::tag::{OPEN, TEXT};
+use list_items::start_item;
+use lists_links::image::write_img;
+use lists_links::list::{Item, end_item, item_from, push_block_lead, push_inline_lead};
+use lists_links::list_indented::push_indented;
+use marks::table::{escape_table_cell_inplace, trim_trailing_cell_break};
+use nodes::nodes::{has_element, node_is_skipped, node_name, write_text_node};
+use normalized::text_utils::{push_linebreak, trim_space};
 use options::{packed, unpacked};
 use progress::{Going, rule_block};
 use spec::ctx::{FormatOpts, ListContext};
 use tables::rows::{is_table_node_writable, next_filled_row, next_row};
-use tables::by_len::push_table;
-use tables::table::{next_cell, store_span};
+use tables::table::{next_cell, push_table, store_span};
 use text::buffer::{Full, Wrote};
-use texts::{is_blank_text, is_one_text, trim_behind_text};
+use text::text::Text;
+use texts::{is_blank_text, is_one_text, trim_behind_text, write_text_behind};
 use tree::attributes::attribute;
+use tree::element::{A, CODE, HR, IMG, LI, PRE, TABLE};
 use tree::nodes::{Tree, tag_at};
 
 pub mod options;
@@ -75,31 +76,27 @@ impl<'s, 'k> MDSerializer<'s, 'k> {
     pub fn write(
         &self,
         nodes: &mut [u8],
-        text: &mut [u8],
-        len: usize,
+        text: &mut Text,
         from: usize,
         to: usize,
         bits: usize,
         levels: usize,
-    ) -> Wrote
-        requires { Placeds self.now.sheet.now nodes.old from to × Ready self.now.sheet.now text.old len × Fits (def.unpacked bits) levels }
+    ) -> Result<(), Full>
+        requires { Placeds self.now.sheet.now nodes.old from to × Short self.now.sheet.now × Fits (def.unpacked bits) levels }
         ensures kept { Kept from to nodes.old nodes.new }
-        ensures writes_forest { WritesForest self.now.sheet.now nodes.old from to (λ anc f. write_at (tags_to_skip (skip_of self.now.skip)) levels anc (def.unpacked bits) f) (take len text.old) (length text.old) text.new result }
+        ensures room { SameRoom text.old text.new }
+        ensures writes_forest { ForestTo self.now.sheet.now nodes.old from to (λ anc f. write_at (tags_to_skip (skip_of self.now.skip)) levels anc (def.unpacked bits) f) text.old text.new result }
     {
         if levels == 0 {
-            return Ok(len);
+            return Ok(());
         }
+        let sheet = self.sheet;
         let mut at = from;
-        let mut end = len;
         while at < to {
-            end = self.node(nodes, text, end, at, bits, levels - 1)?;
-            at = Tree {
-                sheet: self.sheet,
-                nodes,
-            }
-            .node_end(at);
+            self.node(nodes, text, at, bits, levels - 1)?;
+            at = Tree { sheet, nodes }.node_end(at);
         }
-        Ok(end)
+        Ok(())
     }
 
     // The same. One text that stands alone is written at once.
@@ -107,40 +104,22 @@ impl<'s, 'k> MDSerializer<'s, 'k> {
     fn siblings(
         &self,
         nodes: &mut [u8],
-        text: &mut [u8],
-        len: usize,
+        text: &mut Text,
         from: usize,
         to: usize,
         bits: usize,
         levels: usize,
-    ) -> Wrote
-        requires { Placeds self.now.sheet.now nodes.old from to × Ready self.now.sheet.now text.old len × Fits (def.unpacked bits) levels }
+    ) -> Result<(), Full>
+        requires { Placeds self.now.sheet.now nodes.old from to × Short self.now.sheet.now × Fits (def.unpacked bits) levels }
         ensures kept { Kept from to nodes.old nodes.new }
-        ensures writes_forest { WritesForest self.now.sheet.now nodes.old from to (λ anc f. write_at (tags_to_skip (skip_of self.now.skip)) levels anc (def.unpacked bits) f) (take len text.old) (length text.old) text.new result }
+        ensures room { SameRoom text.old text.new }
+        ensures writes_forest { ForestTo self.now.sheet.now nodes.old from to (λ anc f. write_at (tags_to_skip (skip_of self.now.skip)) levels anc (def.unpacked bits) f) text.old text.new result }
     {
-        if (levels != 0)
-            & is_one_text(
-                &Tree {
-                    sheet: self.sheet,
-                    nodes,
-                },
-                from,
-                to,
-            )
-        {
-            let opts = unpacked(bits);
-            return write_text_node(
-                &Tree {
-                    sheet: self.sheet,
-                    nodes,
-                },
-                text,
-                len,
-                from,
-                opts,
-            );
+        let sheet = self.sheet;
+        if (levels != 0) & is_one_text(&Tree { sheet, nodes }, from, to) {
+            return write_text_node(&Tree { sheet, nodes }, text, from, unpacked(bits));
         }
-        self.write(nodes, text, len, from, to, bits, levels)
+        self.write(nodes, text, from, to, bits, levels)
     }
 
     // One node, with itself.
@@ -148,56 +127,26 @@ impl<'s, 'k> MDSerializer<'s, 'k> {
     fn node(
         &self,
         nodes: &mut [u8],
-        text: &mut [u8],
-        len: usize,
+        text: &mut Text,
         at: usize,
         bits: usize,
         levels: usize,
-    ) -> Wrote
-        requires { PlacedNode self.now.sheet.now nodes.old at × Ready self.now.sheet.now text.old len × Fits (def.unpacked bits) (levels + 1) }
+    ) -> Result<(), Full>
+        requires { PlacedNode self.now.sheet.now nodes.old at × Short self.now.sheet.now × Fits (def.unpacked bits) (levels + 1) }
         ensures kept { Kept at (end_at nodes.old at) nodes.old nodes.new }
-        ensures writes_forest { WritesForest self.now.sheet.now nodes.old at (end_at nodes.old at) (λ anc f. write_nodes (self_at self.now.skip levels) anc (def.unpacked bits) f) (take len text.old) (length text.old) text.new result }
+        ensures room { SameRoom text.old text.new }
+        ensures writes_forest { ForestTo self.now.sheet.now nodes.old at (end_at nodes.old at) (λ anc f. write_nodes (self_at self.now.skip levels) anc (def.unpacked bits) f) text.old text.new result }
     {
-        let place = Tree {
-            sheet: self.sheet,
-            nodes,
+        let sheet = self.sheet;
+        let place = Tree { sheet, nodes }.node_place(at);
+        if tag_at(sheet, place) != OPEN {
+            return write_text_node(&Tree { sheet, nodes }, text, at, unpacked(bits));
         }
-        .node_place(at);
-        if tag_at(self.sheet, place) != 1 {
-            let opts = unpacked(bits);
-            return write_text_node(
-                &Tree {
-                    sheet: self.sheet,
-                    nodes,
-                },
-                text,
-                len,
-                at,
-                opts,
-            );
+        if node_is_skipped(&Tree { sheet, nodes }, self.skip, at) {
+            return Ok(());
         }
-        if node_is_skipped(
-            &Tree {
-                sheet: self.sheet,
-                nodes,
-            },
-            self.skip,
-            at,
-        ) {
-            return Ok(len);
-        }
-        let opts = unpacked(bits);
-        let n = opened(
-            &Tree {
-                sheet: self.sheet,
-                nodes,
-            },
-            text,
-            len,
-            at,
-            opts,
-        )?;
-        self.inside(nodes, text, n, at, bits, levels)
+        opened(&Tree { sheet, nodes }, text, at, unpacked(bits))?;
+        self.inside(nodes, text, at, bits, levels)
     }
 
     // What stands in an element that is opened, and its close.
@@ -205,39 +154,30 @@ impl<'s, 'k> MDSerializer<'s, 'k> {
     fn inside(
         &self,
         nodes: &mut [u8],
-        text: &mut [u8],
-        len: usize,
+        text: &mut Text,
         at: usize,
         bits: usize,
         levels: usize,
-    ) -> Wrote
-        requires { Placed self.now.sheet.now nodes.old at × Ready self.now.sheet.now text.old len × Fits (def.unpacked bits) (levels + 1) }
+    ) -> Result<(), Full>
+        requires { Placed self.now.sheet.now nodes.old at × Short self.now.sheet.now × Fits (def.unpacked bits) (levels + 1) }
         ensures kept { Kept at (end_at nodes.old at) nodes.old nodes.new }
-        ensures writes_element { WritesElement self.now.sheet.now nodes.old at (λ anc name attrs kids. in_element (self_at self.now.skip levels) anc (def.unpacked bits) name attrs kids) (take len text.old) (length text.old) text.new result }
+        ensures room { SameRoom text.old text.new }
+        ensures writes_element { ElementTo self.now.sheet.now nodes.old at (λ anc name attrs kids. in_element (self_at self.now.skip levels) anc (def.unpacked bits) name attrs kids) text.old text.new result }
     {
-        let name = node_name(
-            &Tree {
-                sheet: self.sheet,
-                nodes,
-            },
-            at,
-        );
+        let sheet = self.sheet;
+        let name = node_name(&Tree { sheet, nodes }, at);
         let flags = unpacked(bits);
         if !flags.skip_md & has_writer(name, flags) {
             // lists and tables, and the others: of two calls the compiler takes none into `write`, so that a level without a
             // writer needs no frame for them
-            if name < 21 {
-                return self.write_element(nodes, text, len, at, name, bits, levels);
+            if name < A {
+                return self.write_element(nodes, text, at, name, bits, levels);
             }
-            return self.write_element(nodes, text, len, at, name, bits, levels);
+            return self.write_element(nodes, text, at, name, bits, levels);
         }
-        let to = Tree {
-            sheet: self.sheet,
-            nodes,
-        }
-        .node_end(at);
-        let n = self.siblings(nodes, text, len, at + 1, to, bits, levels)?;
-        closed(text, n, name, unpacked(bits))
+        let to = Tree { sheet, nodes }.node_end(at);
+        self.siblings(nodes, text, at + 1, to, bits, levels)?;
+        closed(text, name, unpacked(bits))
     }
 
     // An element that has a writer of its own.
@@ -245,61 +185,30 @@ impl<'s, 'k> MDSerializer<'s, 'k> {
     fn write_element(
         &self,
         nodes: &mut [u8],
-        text: &mut [u8],
-        len: usize,
+        text: &mut Text,
         at: usize,
         name: usize,
         bits: usize,
         levels: usize,
-    ) -> Wrote
-        requires { Placed self.now.sheet.now nodes.old at × (name ≡ name_at self.now.sheet.now (place_at nodes.old at)) × Ready self.now.sheet.now text.old len × Fits (def.unpacked bits) (levels + 1) }
+    ) -> Result<(), Full>
+        requires { Placed self.now.sheet.now nodes.old at × (name ≡ name_at self.now.sheet.now (place_at nodes.old at)) × Short self.now.sheet.now × Fits (def.unpacked bits) (levels + 1) }
         ensures kept { Kept at (end_at nodes.old at) nodes.old nodes.new }
-        ensures writes_element { WritesElement self.now.sheet.now nodes.old at (λ anc name attrs kids. write_element (self_at self.now.skip levels) anc (def.unpacked bits) name attrs kids) (take len text.old) (length text.old) text.new result }
+        ensures room { SameRoom text.old text.new }
+        ensures writes_element { ElementTo self.now.sheet.now nodes.old at (λ anc name attrs kids. write_element (self_at self.now.skip levels) anc (def.unpacked bits) name attrs kids) text.old text.new result }
     {
+        let sheet = self.sheet;
         let opts = unpacked(bits);
         if is_list(name) {
-            return self.write_list(nodes, text, len, at, name, opts, levels);
+            return self.write_list(nodes, text, at, name, opts, levels);
         }
-        if name == 21 {
-            return self.write_link(nodes, text, len, at, opts, levels);
+        match name {
+            A => self.write_link(nodes, text, at, opts, levels),
+            IMG => write_img(text, sheet, Tree { sheet, nodes }.node_place(at)),
+            PRE => write_pre(&Tree { sheet, nodes }, text, at, opts),
+            TABLE => self.write_table(nodes, text, at, opts, levels),
+            CODE => write_code(&Tree { sheet, nodes }, self.skip, text, at, opts),
+            _ => self.write_emphasis(nodes, text, at, name, opts, levels),
         }
-        if name == 22 {
-            let place = Tree {
-                sheet: self.sheet,
-                nodes,
-            }
-            .node_place(at);
-            return write_img(text, len, self.sheet, place);
-        }
-        if name == 23 {
-            return write_pre(
-                &Tree {
-                    sheet: self.sheet,
-                    nodes,
-                },
-                text,
-                len,
-                at,
-                opts,
-            );
-        }
-        if name == 14 {
-            return self.write_table(nodes, text, len, at, opts, levels);
-        }
-        if name == 24 {
-            return write_code(
-                &Tree {
-                    sheet: self.sheet,
-                    nodes,
-                },
-                self.skip,
-                text,
-                len,
-                at,
-                opts,
-            );
-        }
-        self.write_emphasis(nodes, text, len, at, name, opts, levels)
     }
 
     // The children of an element, and then the trim of the whole text.
@@ -307,45 +216,63 @@ impl<'s, 'k> MDSerializer<'s, 'k> {
     fn kids(
         &self,
         nodes: &mut [u8],
-        text: &mut [u8],
-        len: usize,
+        text: &mut Text,
+        at: usize,
+        bits: usize,
+        levels: usize,
+    ) -> Result<(), Full>
+        requires { Placed self.now.sheet.now nodes.old at × Short self.now.sheet.now × Fits (def.unpacked bits) levels }
+        ensures kept { Kept at (end_at nodes.old at) nodes.old nodes.new }
+        ensures room { SameRoom text.old text.new }
+        ensures writes_element { ElementTo self.now.sheet.now nodes.old at (λ anc name attrs kids. write_kids (self_at self.now.skip levels) anc (def.unpacked bits) (element name attrs kids nothing)) text.old text.new result }
+    {
+        let sheet = self.sheet;
+        let to = Tree { sheet, nodes }.node_end(at);
+        if (levels != 0) & is_one_text(&Tree { sheet, nodes }, at + 1, to) {
+            return trim_behind_text(&Tree { sheet, nodes }, text, at + 1, unpacked(bits));
+        }
+        self.write(nodes, text, at + 1, to, bits, levels)?;
+        trim_space(text);
+        Ok(())
+    }
+
+    // `write` for a text of its own, which begins at the front of `room`: how long it is.
+    #[cycle(writers)]
+    fn write_behind(
+        &self,
+        nodes: &mut [u8],
+        room: &mut [u8],
+        from: usize,
+        to: usize,
+        bits: usize,
+        levels: usize,
+    ) -> Wrote
+        requires { Placeds self.now.sheet.now nodes.old from to × Short self.now.sheet.now × Fits (def.unpacked bits) levels }
+        ensures kept { Kept from to nodes.old nodes.new }
+        ensures writes_forest { WritesForest self.now.sheet.now nodes.old from to (λ anc f. write_at (tags_to_skip (skip_of self.now.skip)) levels anc (def.unpacked bits) f) [] (length room.old) room.new result }
+    {
+        let mut text = Text { room, len: 0 };
+        self.write(nodes, &mut text, from, to, bits, levels)?;
+        Ok(text.len)
+    }
+
+    // The same for the children of an element.
+    #[cycle(writers)]
+    fn kids_behind(
+        &self,
+        nodes: &mut [u8],
+        room: &mut [u8],
         at: usize,
         bits: usize,
         levels: usize,
     ) -> Wrote
-        requires { Placed self.now.sheet.now nodes.old at × Ready self.now.sheet.now text.old len × Fits (def.unpacked bits) levels }
+        requires { Placed self.now.sheet.now nodes.old at × Short self.now.sheet.now × Fits (def.unpacked bits) levels }
         ensures kept { Kept at (end_at nodes.old at) nodes.old nodes.new }
-        ensures writes_element { WritesElement self.now.sheet.now nodes.old at (λ anc name attrs kids. write_kids (self_at self.now.skip levels) anc (def.unpacked bits) (element name attrs kids nothing)) (take len text.old) (length text.old) text.new result }
+        ensures writes_element { WritesElement self.now.sheet.now nodes.old at (λ anc name attrs kids. write_kids (self_at self.now.skip levels) anc (def.unpacked bits) (element name attrs kids nothing)) [] (length room.old) room.new result }
     {
-        let to = Tree {
-            sheet: self.sheet,
-            nodes,
-        }
-        .node_end(at);
-        if (levels != 0)
-            & is_one_text(
-                &Tree {
-                    sheet: self.sheet,
-                    nodes,
-                },
-                at + 1,
-                to,
-            )
-        {
-            let opts = unpacked(bits);
-            return trim_behind_text(
-                &Tree {
-                    sheet: self.sheet,
-                    nodes,
-                },
-                text,
-                len,
-                at + 1,
-                opts,
-            );
-        }
-        let n = self.write(nodes, text, len, at + 1, to, bits, levels)?;
-        Ok(trim_space(text, n))
+        let mut text = Text { room, len: 0 };
+        self.kids(nodes, &mut text, at, bits, levels)?;
+        Ok(text.len)
     }
 
     // elements/emphasis.rs.
@@ -353,33 +280,22 @@ impl<'s, 'k> MDSerializer<'s, 'k> {
     fn write_emphasis(
         &self,
         nodes: &mut [u8],
-        text: &mut [u8],
-        len: usize,
+        text: &mut Text,
         at: usize,
         name: usize,
         opts: FormatOpts,
         levels: usize,
-    ) -> Wrote
-        requires { Placed self.now.sheet.now nodes.old at × (name ≡ name_at self.now.sheet.now (place_at nodes.old at)) × Ready self.now.sheet.now text.old len × Fits opts (levels + 1) }
+    ) -> Result<(), Full>
+        requires { Placed self.now.sheet.now nodes.old at × (name ≡ name_at self.now.sheet.now (place_at nodes.old at)) × Short self.now.sheet.now × Fits opts (levels + 1) }
         ensures kept { Kept at (end_at nodes.old at) nodes.old nodes.new }
-        ensures writes_element { WritesElement self.now.sheet.now nodes.old at (λ anc name attrs kids. write_emphasis (self_at self.now.skip levels) anc opts (tag_of name) attrs kids) (take len text.old) (length text.old) text.new result }
+        ensures room { SameRoom text.old text.new }
+        ensures writes_element { ElementTo self.now.sheet.now nodes.old at (λ anc name attrs kids. write_emphasis (self_at self.now.skip levels) anc opts (tag_of name) attrs kids) text.old text.new result }
     {
-        let to = Tree {
-            sheet: self.sheet,
-            nodes,
-        }
-        .node_end(at);
-        let inner = emphasis_opts(name, opts);
-        let n = self.write(
-            nodes,
-            &mut text[len..],
-            0,
-            at + 1,
-            to,
-            packed(inner),
-            levels,
-        )?;
-        push_emphasis_by(text, len, n, name, opts)
+        let sheet = self.sheet;
+        let to = Tree { sheet, nodes }.node_end(at);
+        let bits = packed(emphasis_opts(name, opts));
+        let n = self.write_behind(nodes, &mut text.room[text.len..], at + 1, to, bits, levels)?;
+        push_emphasis_by(text, n, name, opts)
     }
 
     // elements/link.rs.
@@ -387,28 +303,21 @@ impl<'s, 'k> MDSerializer<'s, 'k> {
     fn write_link(
         &self,
         nodes: &mut [u8],
-        text: &mut [u8],
-        len: usize,
+        text: &mut Text,
         at: usize,
         opts: FormatOpts,
         levels: usize,
-    ) -> Wrote
-        requires { Placed self.now.sheet.now nodes.old at × Ready self.now.sheet.now text.old len × Fits opts (levels + 1) }
+    ) -> Result<(), Full>
+        requires { Placed self.now.sheet.now nodes.old at × Short self.now.sheet.now × Fits opts (levels + 1) }
         ensures kept { Kept at (end_at nodes.old at) nodes.old nodes.new }
-        ensures writes_element { WritesElement self.now.sheet.now nodes.old at (λ anc name attrs kids. write_link (self_at self.now.skip levels) anc opts name attrs kids) (take len text.old) (length text.old) text.new result }
+        ensures room { SameRoom text.old text.new }
+        ensures writes_element { ElementTo self.now.sheet.now nodes.old at (λ anc name attrs kids. write_link (self_at self.now.skip levels) anc opts name attrs kids) text.old text.new result }
     {
-        let place = Tree {
-            sheet: self.sheet,
-            nodes,
-        }
-        .node_place(at);
-        let fresh = opts.fresh();
-        match attribute(self.sheet, place, b"href") {
-            Some(dest) => self.link(nodes, text, len, at, dest, opts, levels),
-            None => {
-                let bits = packed(fresh);
-                self.kids(nodes, text, len, at, bits, levels)
-            }
+        let sheet = self.sheet;
+        let place = Tree { sheet, nodes }.node_place(at);
+        match attribute(sheet, place, b"href") {
+            Some(dest) => self.link(nodes, text, at, dest, opts, levels),
+            None => self.kids(nodes, text, at, packed(opts.fresh()), levels),
         }
     }
 
@@ -417,56 +326,31 @@ impl<'s, 'k> MDSerializer<'s, 'k> {
     fn link(
         &self,
         nodes: &mut [u8],
-        text: &mut [u8],
-        len: usize,
+        text: &mut Text,
         at: usize,
         dest: &[u8],
         opts: FormatOpts,
         levels: usize,
-    ) -> Wrote
-        requires { Placed self.now.sheet.now nodes.old at × Ready self.now.sheet.now text.old len × Fits opts (levels + 1) × (length dest.now ≤ 1048576) }
+    ) -> Result<(), Full>
+        requires { Placed self.now.sheet.now nodes.old at × Short self.now.sheet.now × Fits opts (levels + 1) × (length dest.now ≤ 1048576) }
         ensures kept { Kept at (end_at nodes.old at) nodes.old nodes.new }
-        ensures writes_element { WritesElement self.now.sheet.now nodes.old at (λ anc name attrs kids. link_to (self_at self.now.skip levels) anc opts dest.now name attrs kids) (take len text.old) (length text.old) text.new result }
+        ensures room { SameRoom text.old text.new }
+        ensures writes_element { ElementTo self.now.sheet.now nodes.old at (λ anc name attrs kids. link_to (self_at self.now.skip levels) anc opts dest.now name attrs kids) text.old text.new result }
     {
-        let end = Tree {
-            sheet: self.sheet,
-            nodes,
-        }
-        .node_end(at);
+        let sheet = self.sheet;
+        let end = Tree { sheet, nodes }.node_end(at);
         let fresh = opts.fresh();
-        if has_element(
-            &Tree {
-                sheet: self.sheet,
-                nodes,
-            },
-            at + 1,
-            end,
-            22,
-        ) {
-            return self.body(nodes, text, len, at, dest, fresh.link_body(), levels);
+        if has_element(&Tree { sheet, nodes }, at + 1, end, IMG) {
+            return self.body(nodes, text, at, dest, fresh.link_body(), levels);
         }
         let plain = fresh.include_node().skip_escape();
-        let n = write_text(
-            &Tree {
-                sheet: self.sheet,
-                nodes,
-            },
-            &mut text[len..],
-            0,
-            at + 1,
-            end,
-            plain,
-        )?;
+        let room = &mut text.room[text.len..];
+        let n = write_text_behind(&Tree { sheet, nodes }, room, at + 1, end, plain)?;
         if n == 0 {
-            self.body(nodes, text, len, at, dest, fresh, levels)
-        } else {
-            let place = Tree {
-                sheet: self.sheet,
-                nodes,
-            }
-            .node_place(at);
-            push_text_link(self.sheet, text, len, n, place, dest, opts)
+            return self.body(nodes, text, at, dest, fresh, levels);
         }
+        let place = Tree { sheet, nodes }.node_place(at);
+        push_text_link(sheet, text, n, place, dest, opts)
     }
 
     // A link that shows what `write` gives for its content.
@@ -474,25 +358,22 @@ impl<'s, 'k> MDSerializer<'s, 'k> {
     fn body(
         &self,
         nodes: &mut [u8],
-        text: &mut [u8],
-        len: usize,
+        text: &mut Text,
         at: usize,
         dest: &[u8],
         opts: FormatOpts,
         levels: usize,
-    ) -> Wrote
-        requires { Placed self.now.sheet.now nodes.old at × Ready self.now.sheet.now text.old len × Fits opts levels × (length dest.now ≤ 1048576) }
+    ) -> Result<(), Full>
+        requires { Placed self.now.sheet.now nodes.old at × Short self.now.sheet.now × Fits opts levels × (length dest.now ≤ 1048576) }
         ensures kept { Kept at (end_at nodes.old at) nodes.old nodes.new }
-        ensures writes_element { WritesElement self.now.sheet.now nodes.old at (λ anc name attrs kids. link_of attrs dest.now (write_kids (self_at self.now.skip levels) anc opts (element name attrs kids nothing) []) push) (take len text.old) (length text.old) text.new result }
+        ensures room { SameRoom text.old text.new }
+        ensures writes_element { ElementTo self.now.sheet.now nodes.old at (λ anc name attrs kids. link_of attrs dest.now (write_kids (self_at self.now.skip levels) anc opts (element name attrs kids nothing) []) push) text.old text.new result }
     {
-        let place = Tree {
-            sheet: self.sheet,
-            nodes,
-        }
-        .node_place(at);
+        let sheet = self.sheet;
+        let place = Tree { sheet, nodes }.node_place(at);
         let bits = packed(opts);
-        let n = self.kids(nodes, &mut text[len..], 0, at, bits, levels)?;
-        push_link(self.sheet, text, len, n, place, dest, false, opts)
+        let n = self.kids_behind(nodes, &mut text.room[text.len..], at, bits, levels)?;
+        push_link(sheet, text, n, place, dest, false, opts)
     }
 
     // elements/list.rs.
@@ -500,31 +381,24 @@ impl<'s, 'k> MDSerializer<'s, 'k> {
     fn write_list(
         &self,
         nodes: &mut [u8],
-        text: &mut [u8],
-        len: usize,
+        text: &mut Text,
         at: usize,
         name: usize,
         opts: FormatOpts,
         levels: usize,
-    ) -> Wrote
-        requires { Placed self.now.sheet.now nodes.old at × (name ≡ name_at self.now.sheet.now (place_at nodes.old at)) × Ready self.now.sheet.now text.old len × Fits opts (levels + 1) }
+    ) -> Result<(), Full>
+        requires { Placed self.now.sheet.now nodes.old at × (name ≡ name_at self.now.sheet.now (place_at nodes.old at)) × Short self.now.sheet.now × Fits opts (levels + 1) }
         ensures kept { Kept at (end_at nodes.old at) nodes.old nodes.new }
-        ensures writes_element { WritesElement self.now.sheet.now nodes.old at (λ anc name attrs kids. write_list (self_at self.now.skip levels) anc opts (tag_of name) attrs kids) (take len text.old) (length text.old) text.new result }
+        ensures room { SameRoom text.old text.new }
+        ensures writes_element { ElementTo self.now.sheet.now nodes.old at (λ anc name attrs kids. write_list (self_at self.now.skip levels) anc opts (tag_of name) attrs kids) text.old text.new result }
     {
-        let place = Tree {
-            sheet: self.sheet,
-            nodes,
-        }
-        .node_place(at);
-        let kind = kind_of(self.sheet, place, name);
-        let to = Tree {
-            sheet: self.sheet,
-            nodes,
-        }
-        .node_end(at);
+        let sheet = self.sheet;
+        let place = Tree { sheet, nodes }.node_place(at);
+        let kind = kind_of(sheet, place, name);
+        let to = Tree { sheet, nodes }.node_end(at);
         let ctx = ListContext::new(opts, kind);
-        let n = self.items(nodes, text, len, at + 1, to, ctx, levels)?;
-        end_list(text, n, opts)
+        self.items(nodes, text, at + 1, to, ctx, levels)?;
+        end_list(text, opts)
     }
 
     // The children of a list.
@@ -532,42 +406,28 @@ impl<'s, 'k> MDSerializer<'s, 'k> {
     fn items(
         &self,
         nodes: &mut [u8],
-        text: &mut [u8],
-        len: usize,
+        text: &mut Text,
         from: usize,
         to: usize,
         first: ListContext,
         levels: usize,
-    ) -> Wrote
-        requires { Placeds self.now.sheet.now nodes.old from to × Ready self.now.sheet.now text.old len × FitsIn first levels }
+    ) -> Result<(), Full>
+        requires { Placeds self.now.sheet.now nodes.old from to × Short self.now.sheet.now × FitsIn first levels }
         ensures kept { Kept from to nodes.old nodes.new }
-        ensures writes_forest { WritesForest self.now.sheet.now nodes.old from to (λ anc f. list_children (self_at self.now.skip levels) anc f first) (take len text.old) (length text.old) text.new result }
+        ensures room { SameRoom text.old text.new }
+        ensures writes_forest { ForestTo self.now.sheet.now nodes.old from to (λ anc f. list_children (self_at self.now.skip levels) anc f first) text.old text.new result }
     {
+        let sheet = self.sheet;
         let mut ctx = first;
-        let mut end = len;
         let mut c = from;
         while c < to {
-            let place = Tree {
-                sheet: self.sheet,
-                nodes,
-            }
-            .node_place(c);
-            let li = node_name(
-                &Tree {
-                    sheet: self.sheet,
-                    nodes,
-                },
-                c,
-            ) == 16;
-            ctx = renumbered(self.sheet, place, li, ctx);
-            end = self.item(nodes, text, end, c, li, &mut ctx, levels)?;
-            c = Tree {
-                sheet: self.sheet,
-                nodes,
-            }
-            .node_end(c);
+            let place = Tree { sheet, nodes }.node_place(c);
+            let li = node_name(&Tree { sheet, nodes }, c) == LI;
+            ctx = renumbered(sheet, place, li, ctx);
+            self.item(nodes, text, c, li, &mut ctx, levels)?;
+            c = Tree { sheet, nodes }.node_end(c);
         }
-        Ok(end)
+        Ok(())
     }
 
     // A child of a list; `li` says that it is an item, which steps the context.
@@ -575,39 +435,28 @@ impl<'s, 'k> MDSerializer<'s, 'k> {
     fn item(
         &self,
         nodes: &mut [u8],
-        text: &mut [u8],
-        len: usize,
+        text: &mut Text,
         c: usize,
         li: bool,
         ctx: &mut ListContext,
         levels: usize,
-    ) -> Wrote
-        requires { PlacedNode self.now.sheet.now nodes.old c × (li ≡ eqb (name_at self.now.sheet.now (place_at nodes.old c)) 16) × Ready self.now.sheet.now text.old len × FitsIn ctx.old levels }
+    ) -> Result<(), Full>
+        requires { PlacedNode self.now.sheet.now nodes.old c × (li ≡ eqb (name_at self.now.sheet.now (place_at nodes.old c)) 16) × Short self.now.sheet.now × FitsIn ctx.old levels }
         ensures kept { Kept c (end_at nodes.old c) nodes.old nodes.new }
-        ensures writes_forest { WritesForest self.now.sheet.now nodes.old c (end_at nodes.old c) (λ anc f. list_head (self_at self.now.skip levels) anc f ctx.old) (take len text.old) (length text.old) text.new result }
+        ensures room { SameRoom text.old text.new }
+        ensures writes_forest { ForestTo self.now.sheet.now nodes.old c (end_at nodes.old c) (λ anc f. list_head (self_at self.now.skip levels) anc f ctx.old) text.old text.new result }
         ensures ctx_value { ctx.new ≡ cond li (advance_ol_number ctx.old) ctx.old }
     {
-        let to = Tree {
-            sheet: self.sheet,
-            nodes,
-        }
-        .node_end(c);
-        let opts = ctx.opts;
+        let sheet = self.sheet;
+        let to = Tree { sheet, nodes }.node_end(c);
         if !li {
-            let inner = opts.fresh().include_node();
-            return self.write(nodes, text, len, c, to, packed(inner), levels);
+            let inner = ctx.opts.fresh().include_node();
+            return self.write(nodes, text, c, to, packed(inner), levels);
         }
-        if has_blocks(
-            &Tree {
-                sheet: self.sheet,
-                nodes,
-            },
-            c + 1,
-            to,
-        ) {
-            return self.blocks(nodes, text, len, c, ctx, levels);
+        if has_blocks(&Tree { sheet, nodes }, c + 1, to) {
+            return self.blocks(nodes, text, c, ctx, levels);
         }
-        self.flat(nodes, text, len, c, ctx, levels)
+        self.flat(nodes, text, c, ctx, levels)
     }
 
     // An item without blocks: `write_list_item` of elements/list.rs.
@@ -615,23 +464,22 @@ impl<'s, 'k> MDSerializer<'s, 'k> {
     fn flat(
         &self,
         nodes: &mut [u8],
-        text: &mut [u8],
-        len: usize,
+        text: &mut Text,
         c: usize,
         ctx: &mut ListContext,
         levels: usize,
-    ) -> Wrote
-        requires { Placed self.now.sheet.now nodes.old c × Ready self.now.sheet.now text.old len × FitsIn ctx.old levels }
+    ) -> Result<(), Full>
+        requires { Placed self.now.sheet.now nodes.old c × Short self.now.sheet.now × FitsIn ctx.old levels }
         ensures kept { Kept c (end_at nodes.old c) nodes.old nodes.new }
-        ensures writes_element { WritesElement self.now.sheet.now nodes.old c (λ anc name attrs kids. write_list_item (self_at self.now.skip levels) anc (element name attrs kids nothing) ctx.old) (take len text.old) (length text.old) text.new result }
+        ensures room { SameRoom text.old text.new }
+        ensures writes_element { ElementTo self.now.sheet.now nodes.old c (λ anc name attrs kids. write_list_item (self_at self.now.skip levels) anc (element name attrs kids nothing) ctx.old) text.old text.new result }
         ensures ctx_value { ctx.new ≡ advance_ol_number ctx.old }
     {
-        let n = write_list_item(text, len, ctx)?;
+        start_item(text, false, ctx)?;
         let opts = ctx.opts;
-        let inner = opts.list_item();
-        let bits = packed(inner);
-        let m = self.kids(nodes, text, n, c, bits, levels)?;
-        push_linebreak(text, m, opts.table_cell)
+        let bits = packed(opts.list_item());
+        self.kids(nodes, text, c, bits, levels)?;
+        push_linebreak(text, opts.table_cell)
     }
 
     // An item with blocks: `write_list_item_blocks` of elements/list.rs.
@@ -639,32 +487,28 @@ impl<'s, 'k> MDSerializer<'s, 'k> {
     fn blocks(
         &self,
         nodes: &mut [u8],
-        text: &mut [u8],
-        len: usize,
+        text: &mut Text,
         c: usize,
         ctx: &mut ListContext,
         levels: usize,
-    ) -> Wrote
-        requires { Placed self.now.sheet.now nodes.old c × Ready self.now.sheet.now text.old len × FitsIn ctx.old levels }
+    ) -> Result<(), Full>
+        requires { Placed self.now.sheet.now nodes.old c × Short self.now.sheet.now × FitsIn ctx.old levels }
         ensures kept { Kept c (end_at nodes.old c) nodes.old nodes.new }
-        ensures writes_element { WritesElement self.now.sheet.now nodes.old c (λ anc name attrs kids. write_list_item_blocks (self_at self.now.skip levels) anc attrs kids ctx.old) (take len text.old) (length text.old) text.new result }
+        ensures room { SameRoom text.old text.new }
+        ensures writes_element { ElementTo self.now.sheet.now nodes.old c (λ anc name attrs kids. write_list_item_blocks (self_at self.now.skip levels) anc attrs kids ctx.old) text.old text.new result }
         ensures ctx_value { ctx.new ≡ advance_ol_number ctx.old }
     {
-        let to = Tree {
-            sheet: self.sheet,
-            nodes,
-        }
-        .node_end(c);
-        let first = *ctx;
-        let n = write_list_item_blocks(text, len, ctx)?;
-        let item = item_from(first, *ctx, n);
+        let sheet = self.sheet;
+        let to = Tree { sheet, nodes }.node_end(c);
+        let before = *ctx;
+        start_item(text, true, ctx)?;
+        let item = item_from(before, *ctx, text.len);
         let begun = Going {
-            len: n,
             first: true,
             due: false,
         };
-        let end = self.children(nodes, text, c + 1, to, item, begun, levels)?;
-        end_item(text, end.len, item)
+        self.children(nodes, text, c + 1, to, item, begun, levels)?;
+        end_item(text, item)
     }
 
     // The children of an item; those of a wrapper take its place.
@@ -672,26 +516,24 @@ impl<'s, 'k> MDSerializer<'s, 'k> {
     fn children(
         &self,
         nodes: &mut [u8],
-        text: &mut [u8],
+        text: &mut Text,
         from: usize,
         to: usize,
         item: Item,
         before: Going,
         levels: usize,
     ) -> Result<Going, Full>
-        requires { Placeds self.now.sheet.now nodes.old from to × Ready self.now.sheet.now text.old before.len × FitsIn item.ctx levels }
+        requires { Placeds self.now.sheet.now nodes.old from to × Short self.now.sheet.now × FitsIn item.ctx levels }
         ensures kept { Kept from to nodes.old nodes.new }
-        ensures goes_forest { GoesForest self.now.sheet.now nodes.old from to (λ anc f. item_children (self_at self.now.skip levels) anc f (item_of item) (progress_of before text.old)) (length text.old) text.new result }
+        ensures room { SameRoom text.old text.new }
+        ensures goes_forest { ForestGoes self.now.sheet.now nodes.old from to (λ anc f. item_children (self_at self.now.skip levels) anc f (item_of item) (progress_on before text.old)) text.old text.new result }
     {
+        let sheet = self.sheet;
         let mut going = before;
         let mut c = from;
         while c < to {
             going = self.child(nodes, text, c, to, item, going, levels)?;
-            c = Tree {
-                sheet: self.sheet,
-                nodes,
-            }
-            .node_end(c);
+            c = Tree { sheet, nodes }.node_end(c);
         }
         Ok(going)
     }
@@ -701,51 +543,32 @@ impl<'s, 'k> MDSerializer<'s, 'k> {
     fn child(
         &self,
         nodes: &mut [u8],
-        text: &mut [u8],
+        text: &mut Text,
         c: usize,
         to: usize,
         item: Item,
         before: Going,
         levels: usize,
     ) -> Result<Going, Full>
-        requires { PlacedNode self.now.sheet.now nodes.old c × (end_at nodes.old c ≤ to) × Ready self.now.sheet.now text.old before.len × FitsIn item.ctx levels }
+        requires { PlacedNode self.now.sheet.now nodes.old c × (end_at nodes.old c ≤ to) × Short self.now.sheet.now × FitsIn item.ctx levels }
         ensures kept { Kept c (end_at nodes.old c) nodes.old nodes.new }
-        ensures goes_forest { GoesForest self.now.sheet.now nodes.old c (end_at nodes.old c) (λ anc f. item_children (self_at self.now.skip levels) anc f (item_of item) (progress_of before text.old)) (length text.old) text.new result }
+        ensures room { SameRoom text.old text.new }
+        ensures goes_forest { ForestGoes self.now.sheet.now nodes.old c (end_at nodes.old c) (λ anc f. item_children (self_at self.now.skip levels) anc f (item_of item) (progress_on before text.old)) text.old text.new result }
     {
-        let place = Tree {
-            sheet: self.sheet,
-            nodes,
-        }
-        .node_place(c);
-        let tag = tag_at(self.sheet, place);
-        if (tag != 4) & (tag != 1) {
+        let sheet = self.sheet;
+        let place = Tree { sheet, nodes }.node_place(c);
+        let tag = tag_at(sheet, place);
+        if (tag != TEXT) & (tag != OPEN) {
             return Ok(before);
         }
-        if node_is_skipped(
-            &Tree {
-                sheet: self.sheet,
-                nodes,
-            },
-            self.skip,
-            c,
-        ) {
+        if node_is_skipped(&Tree { sheet, nodes }, self.skip, c) {
             return Ok(before);
         }
-        if node_is_block_wrapper(
-            &Tree {
-                sheet: self.sheet,
-                nodes,
-            },
-            c,
-        ) {
-            let end = Tree {
-                sheet: self.sheet,
-                nodes,
-            }
-            .node_end(c);
+        if node_is_block_wrapper(&Tree { sheet, nodes }, c) {
+            let end = Tree { sheet, nodes }.node_end(c);
             return self.children(nodes, text, c + 1, end, item, before, levels);
         }
-        let blank = is_blank_text(self.sheet, place);
+        let blank = is_blank_text(sheet, place);
         self.alone(nodes, text, c, blank, item, before, levels)
     }
 
@@ -754,36 +577,31 @@ impl<'s, 'k> MDSerializer<'s, 'k> {
     fn alone(
         &self,
         nodes: &mut [u8],
-        text: &mut [u8],
+        text: &mut Text,
         c: usize,
         blank: bool,
         item: Item,
         before: Going,
         levels: usize,
     ) -> Result<Going, Full>
-        requires { PlacedNode self.now.sheet.now nodes.old c × Ready self.now.sheet.now text.old before.len × FitsIn item.ctx levels }
+        requires { PlacedNode self.now.sheet.now nodes.old c × Short self.now.sheet.now × FitsIn item.ctx levels }
         ensures kept { Kept c (end_at nodes.old c) nodes.old nodes.new }
-        ensures goes_forest { GoesForest self.now.sheet.now nodes.old c (end_at nodes.old c) (λ anc f. item_child (self_at self.now.skip levels) anc f blank (item_of item) (progress_of before text.old)) (length text.old) text.new result }
+        ensures room { SameRoom text.old text.new }
+        ensures goes_forest { ForestGoes self.now.sheet.now nodes.old c (end_at nodes.old c) (λ anc f. item_child (self_at self.now.skip levels) anc f blank (item_of item) (progress_on before text.old)) text.old text.new result }
     {
-        let name = node_name(
-            &Tree {
-                sheet: self.sheet,
-                nodes,
-            },
-            c,
-        );
-        let line = before.due & !((name == 23) | blank);
-        let n = due_line(text, before.len, line, item)?;
+        let sheet = self.sheet;
+        let name = node_name(&Tree { sheet, nodes }, c);
+        let line = before.due & !((name == PRE) | blank);
+        due_line(text, line, item)?;
         let going = Going {
-            len: n,
             first: before.first,
             due: before.due & !line,
         };
         if node_is_list_item_block(name) {
             return self.block(nodes, text, c, name, item, going, levels);
         }
-        let m = self.inline(nodes, text, n, c, name, blank, item, levels)?;
-        Ok(Going { len: m, ..going })
+        self.inline(nodes, text, c, name, blank, item, levels)?;
+        Ok(going)
     }
 
     // A child of an item that is no block.
@@ -791,27 +609,23 @@ impl<'s, 'k> MDSerializer<'s, 'k> {
     fn inline(
         &self,
         nodes: &mut [u8],
-        text: &mut [u8],
-        len: usize,
+        text: &mut Text,
         c: usize,
         name: usize,
         blank: bool,
         item: Item,
         levels: usize,
-    ) -> Wrote
-        requires { PlacedNode self.now.sheet.now nodes.old c × (name ≡ name_at self.now.sheet.now (place_at nodes.old c)) × Ready self.now.sheet.now text.old len × FitsIn item.ctx levels }
+    ) -> Result<(), Full>
+        requires { PlacedNode self.now.sheet.now nodes.old c × (name ≡ name_at self.now.sheet.now (place_at nodes.old c)) × Short self.now.sheet.now × FitsIn item.ctx levels }
         ensures kept { Kept c (end_at nodes.old c) nodes.old nodes.new }
-        ensures writes_forest { WritesForest self.now.sheet.now nodes.old c (end_at nodes.old c) (λ anc f. inline_step (self_at self.now.skip levels) anc f blank (item_of item)) (take len text.old) (length text.old) text.new result }
+        ensures room { SameRoom text.old text.new }
+        ensures writes_forest { ForestTo self.now.sheet.now nodes.old c (end_at nodes.old c) (λ anc f. inline_step (self_at self.now.skip levels) anc f blank (item_of item)) text.old text.new result }
     {
-        let to = Tree {
-            sheet: self.sheet,
-            nodes,
-        }
-        .node_end(c);
-        let opts = item.ctx.opts;
-        let inner = child_opts(name, opts);
-        let n = push_inline_lead(text, len, item, blank)?;
-        self.write(nodes, text, n, c, to, packed(inner), levels)
+        let sheet = self.sheet;
+        let to = Tree { sheet, nodes }.node_end(c);
+        let bits = packed(child_opts(name, item.ctx.opts));
+        push_inline_lead(text, item, blank)?;
+        self.write(nodes, text, c, to, bits, levels)
     }
 
     // A block of an item.
@@ -819,25 +633,25 @@ impl<'s, 'k> MDSerializer<'s, 'k> {
     fn block(
         &self,
         nodes: &mut [u8],
-        text: &mut [u8],
+        text: &mut Text,
         c: usize,
         name: usize,
         item: Item,
         before: Going,
         levels: usize,
     ) -> Result<Going, Full>
-        requires { Placed self.now.sheet.now nodes.old c × (name ≡ name_at self.now.sheet.now (place_at nodes.old c)) × Ready self.now.sheet.now text.old before.len × FitsIn item.ctx levels }
+        requires { Placed self.now.sheet.now nodes.old c × (name ≡ name_at self.now.sheet.now (place_at nodes.old c)) × Short self.now.sheet.now × FitsIn item.ctx levels }
         ensures kept { Kept c (end_at nodes.old c) nodes.old nodes.new }
-        ensures goes_element { GoesElement self.now.sheet.now nodes.old c (λ anc name attrs kids. block_child (self_at self.now.skip levels) anc (element name attrs kids nothing) (item_of item) (progress_of before text.old)) (length text.old) text.new result }
+        ensures room { SameRoom text.old text.new }
+        ensures goes_element { ElementGoes self.now.sheet.now nodes.old c (λ anc name attrs kids. block_child (self_at self.now.skip levels) anc (element name attrs kids nothing) (item_of item) (progress_on before text.old)) text.old text.new result }
     {
-        if name == 15 {
+        if name == HR {
             return rule_block(text, item, before);
         }
-        let n = self.led(nodes, text, before.len, c, name, item, before.first, levels)?;
+        self.led(nodes, text, c, name, item, before.first, levels)?;
         Ok(Going {
-            len: n,
             first: false,
-            due: (name == 23) | before.due,
+            due: (name == PRE) | before.due,
         })
     }
 
@@ -846,21 +660,21 @@ impl<'s, 'k> MDSerializer<'s, 'k> {
     fn led(
         &self,
         nodes: &mut [u8],
-        text: &mut [u8],
-        len: usize,
+        text: &mut Text,
         c: usize,
         name: usize,
         item: Item,
         first: bool,
         levels: usize,
-    ) -> Wrote
-        requires { Placed self.now.sheet.now nodes.old c × (name ≡ name_at self.now.sheet.now (place_at nodes.old c)) × Ready self.now.sheet.now text.old len × FitsIn item.ctx levels }
+    ) -> Result<(), Full>
+        requires { Placed self.now.sheet.now nodes.old c × (name ≡ name_at self.now.sheet.now (place_at nodes.old c)) × Short self.now.sheet.now × FitsIn item.ctx levels }
         ensures kept { Kept c (end_at nodes.old c) nodes.old nodes.new }
-        ensures writes_element { WritesElement self.now.sheet.now nodes.old c (λ anc name attrs kids. led_step (self_at self.now.skip levels) anc (element name attrs kids nothing) (item_of item) first) (take len text.old) (length text.old) text.new result }
+        ensures room { SameRoom text.old text.new }
+        ensures writes_element { ElementTo self.now.sheet.now nodes.old c (λ anc name attrs kids. led_step (self_at self.now.skip levels) anc (element name attrs kids nothing) (item_of item) first) text.old text.new result }
     {
-        let n = push_block_lead(text, len, item, first, name == 23)?;
-        let m = self.flow(nodes, text, n, c, name, item, levels)?;
-        push_linebreak(text, m, item.ctx.opts.table_cell)
+        push_block_lead(text, item, first, name == PRE)?;
+        self.flow(nodes, text, c, name, item, levels)?;
+        push_linebreak(text, item.ctx.opts.table_cell)
     }
 
     // A code block, or any other block without its own node.
@@ -868,26 +682,24 @@ impl<'s, 'k> MDSerializer<'s, 'k> {
     fn flow(
         &self,
         nodes: &mut [u8],
-        text: &mut [u8],
-        len: usize,
+        text: &mut Text,
         c: usize,
         name: usize,
         item: Item,
         levels: usize,
-    ) -> Wrote
-        requires { Placed self.now.sheet.now nodes.old c × (name ≡ name_at self.now.sheet.now (place_at nodes.old c)) × Ready self.now.sheet.now text.old len × FitsIn item.ctx levels }
+    ) -> Result<(), Full>
+        requires { Placed self.now.sheet.now nodes.old c × (name ≡ name_at self.now.sheet.now (place_at nodes.old c)) × Short self.now.sheet.now × FitsIn item.ctx levels }
         ensures kept { Kept c (end_at nodes.old c) nodes.old nodes.new }
-        ensures writes_element { WritesElement self.now.sheet.now nodes.old c (λ anc name attrs kids. body_step (self_at self.now.skip levels) anc (element name attrs kids nothing) (item_of item)) (take len text.old) (length text.old) text.new result }
+        ensures room { SameRoom text.old text.new }
+        ensures writes_element { ElementTo self.now.sheet.now nodes.old c (λ anc name attrs kids. body_step (self_at self.now.skip levels) anc (element name attrs kids nothing) (item_of item)) text.old text.new result }
     {
-        if name == 23 {
-            return self.indented(nodes, text, len, c, item, levels);
+        if name == PRE {
+            return self.indented(nodes, text, c, item, levels);
         }
-        let opts = item.ctx.opts;
-        let n = push_heading_prefix(text, len, name)?;
-        let inner = opts.list_item();
-        let bits = packed(inner);
-        let m = self.kids(nodes, text, n, c, bits, levels)?;
-        end_flow(text, m, name, item)
+        push_heading_prefix(text, name)?;
+        let bits = packed(item.ctx.opts.list_item());
+        self.kids(nodes, text, c, bits, levels)?;
+        end_flow(text, name, item)
     }
 
     // A code block of an item: `write_list_item_indented` of elements/list.rs.
@@ -895,25 +707,21 @@ impl<'s, 'k> MDSerializer<'s, 'k> {
     fn indented(
         &self,
         nodes: &mut [u8],
-        text: &mut [u8],
-        len: usize,
+        text: &mut Text,
         c: usize,
         item: Item,
         levels: usize,
-    ) -> Wrote
-        requires { Placed self.now.sheet.now nodes.old c × Ready self.now.sheet.now text.old len × FitsIn item.ctx levels }
+    ) -> Result<(), Full>
+        requires { Placed self.now.sheet.now nodes.old c × Short self.now.sheet.now × FitsIn item.ctx levels }
         ensures kept { Kept c (end_at nodes.old c) nodes.old nodes.new }
-        ensures writes_element { WritesElement self.now.sheet.now nodes.old c (λ anc name attrs kids. write_list_item_indented (self_at self.now.skip levels) anc (element name attrs kids nothing) (item_of item)) (take len text.old) (length text.old) text.new result }
+        ensures room { SameRoom text.old text.new }
+        ensures writes_element { ElementTo self.now.sheet.now nodes.old c (λ anc name attrs kids. write_list_item_indented (self_at self.now.skip levels) anc (element name attrs kids nothing) (item_of item)) text.old text.new result }
     {
-        let to = Tree {
-            sheet: self.sheet,
-            nodes,
-        }
-        .node_end(c);
-        let opts = item.ctx.opts;
-        let inner = opts.include_node();
-        let n = self.write(nodes, &mut text[len..], 0, c, to, packed(inner), levels)?;
-        push_indented(text, len, n, item)
+        let sheet = self.sheet;
+        let to = Tree { sheet, nodes }.node_end(c);
+        let bits = packed(item.ctx.opts.include_node());
+        let n = self.write_behind(nodes, &mut text.room[text.len..], c, to, bits, levels)?;
+        push_indented(text, n, item)
     }
 
     // elements/table.rs.
@@ -921,54 +729,27 @@ impl<'s, 'k> MDSerializer<'s, 'k> {
     fn write_table(
         &self,
         nodes: &mut [u8],
-        text: &mut [u8],
-        len: usize,
+        text: &mut Text,
         at: usize,
         opts: FormatOpts,
         levels: usize,
-    ) -> Wrote
-        requires { Placed self.now.sheet.now nodes.old at × Ready self.now.sheet.now text.old len × Fits opts (levels + 1) }
+    ) -> Result<(), Full>
+        requires { Placed self.now.sheet.now nodes.old at × Short self.now.sheet.now × Fits opts (levels + 1) }
         ensures kept { Kept at (end_at nodes.old at) nodes.old nodes.new }
-        ensures writes_element { WritesElement self.now.sheet.now nodes.old at (λ anc name attrs kids. write_table (self_at self.now.skip levels) anc opts name attrs kids) (take len text.old) (length text.old) text.new result }
+        ensures room { SameRoom text.old text.new }
+        ensures writes_element { ElementTo self.now.sheet.now nodes.old at (λ anc name attrs kids. write_table (self_at self.now.skip levels) anc opts name attrs kids) text.old text.new result }
     {
-        let to = Tree {
-            sheet: self.sheet,
-            nodes,
+        let sheet = self.sheet;
+        let to = Tree { sheet, nodes }.node_end(at);
+        let first = next_filled_row(&Tree { sheet, nodes }, at + 1, to);
+        if !is_table_node_writable(&Tree { sheet, nodes }, at + 1, to, first) {
+            return self.kids(nodes, text, at, packed(opts.fresh()), levels);
         }
-        .node_end(at);
-        let first = next_filled_row(
-            &Tree {
-                sheet: self.sheet,
-                nodes,
-            },
-            at + 1,
-            to,
-        );
-        let fresh = opts.fresh();
-        if !is_table_node_writable(
-            &Tree {
-                sheet: self.sheet,
-                nodes,
-            },
-            at + 1,
-            to,
-            first,
-        ) {
-            let bits = packed(fresh);
-            return self.kids(nodes, text, len, at, bits, levels);
-        }
-        let end = self.cells(nodes, text, len, first, to, opts, levels)?;
-        push_table(
-            &Tree {
-                sheet: self.sheet,
-                nodes,
-            },
-            text,
-            len,
-            end - len,
-            first,
-            to,
-        )
+        let len = text.len;
+        self.cells(nodes, text, first, to, opts, levels)?;
+        let n = text.len - len;
+        text.len = len;
+        push_table(&Tree { sheet, nodes }, text, n, first, to)
     }
 
     // The cells of the rows from number `from` on, each a text of its own behind the others.
@@ -976,38 +757,24 @@ impl<'s, 'k> MDSerializer<'s, 'k> {
     fn cells(
         &self,
         nodes: &mut [u8],
-        text: &mut [u8],
-        len: usize,
+        text: &mut Text,
         from: usize,
         to: usize,
         opts: FormatOpts,
         levels: usize,
-    ) -> Wrote
-        requires { SomeRows self.now.sheet.now nodes.old from to × ((j : ℕ) → from ≤ j → j < to → end_at nodes.old j ≤ to) × Ready self.now.sheet.now text.old len × Fits opts (levels + 1) }
+    ) -> Result<(), Full>
+        requires { SomeRows self.now.sheet.now nodes.old from to × ((j : ℕ) → from ≤ j → j < to → end_at nodes.old j ≤ to) × Short self.now.sheet.now × Fits opts (levels + 1) }
         ensures kept { Kept from to nodes.old nodes.new }
-        ensures rows_writes { (rows : List (List Cell)) → Rows self.now.sheet.now nodes.old from to rows → RowsWrites (length text.old) text.new (table_lengths self.now.sheet.now nodes.new from to) result (rows_texts (self_at self.now.skip levels) opts rows) (take len text.old) }
+        ensures room { SameRoom text.old text.new }
+        ensures rows_writes { (rows : List (List Cell)) → Rows self.now.sheet.now nodes.old from to rows → RowsTo text.old text.new (table_lengths self.now.sheet.now nodes.new from to) result (rows_texts (self_at self.now.skip levels) opts rows) }
     {
-        let mut end = len;
-        let mut r = next_row(
-            &Tree {
-                sheet: self.sheet,
-                nodes,
-            },
-            from,
-            to,
-        );
+        let sheet = self.sheet;
+        let mut r = next_row(&Tree { sheet, nodes }, from, to);
         while r < to {
-            end = self.row(nodes, text, end, r, opts, levels)?;
-            r = next_row(
-                &Tree {
-                    sheet: self.sheet,
-                    nodes,
-                },
-                r + 1,
-                to,
-            );
+            self.row(nodes, text, r, opts, levels)?;
+            r = next_row(&Tree { sheet, nodes }, r + 1, to);
         }
-        Ok(end)
+        Ok(())
     }
 
     // The cells of one row.
@@ -1015,49 +782,27 @@ impl<'s, 'k> MDSerializer<'s, 'k> {
     fn row(
         &self,
         nodes: &mut [u8],
-        text: &mut [u8],
-        len: usize,
+        text: &mut Text,
         tr: usize,
         opts: FormatOpts,
         levels: usize,
-    ) -> Wrote
-        requires { SomeRow self.now.sheet.now nodes.old tr × Ready self.now.sheet.now text.old len × Fits opts (levels + 1) }
+    ) -> Result<(), Full>
+        requires { SomeRow self.now.sheet.now nodes.old tr × Short self.now.sheet.now × Fits opts (levels + 1) }
         ensures kept { Kept (tr + 1) (end_at nodes.old tr) nodes.old nodes.new }
-        ensures row_writes { (cells : List Cell) → RowAt self.now.sheet.now nodes.old tr cells → RowWrites (length text.old) text.new (row_lengths self.now.sheet.now nodes.new tr) result (row_texts (self_at self.now.skip levels) opts cells) (take len text.old) }
+        ensures room { SameRoom text.old text.new }
+        ensures row_writes { (cells : List Cell) → RowAt self.now.sheet.now nodes.old tr cells → RowTo text.old text.new (row_lengths self.now.sheet.now nodes.new tr) result (row_texts (self_at self.now.skip levels) opts cells) }
     {
-        let to = Tree {
-            sheet: self.sheet,
-            nodes,
-        }
-        .node_end(tr);
-        let mut end = len;
-        let mut c = next_cell(
-            &Tree {
-                sheet: self.sheet,
-                nodes,
-            },
-            tr + 1,
-            to,
-        );
+        let sheet = self.sheet;
+        let to = Tree { sheet, nodes }.node_end(tr);
+        let mut c = next_cell(&Tree { sheet, nodes }, tr + 1, to);
         while c < to {
-            let n = self.cell(nodes, &mut text[end..], c, opts, levels)?;
-            store_span(nodes, c, end, n);
-            end += n;
-            let after = Tree {
-                sheet: self.sheet,
-                nodes,
-            }
-            .node_end(c);
-            c = next_cell(
-                &Tree {
-                    sheet: self.sheet,
-                    nodes,
-                },
-                after,
-                to,
-            );
+            let n = self.cell(nodes, &mut text.room[text.len..], c, opts, levels)?;
+            store_span(nodes, c, text.len, n);
+            text.len += n;
+            let after = Tree { sheet, nodes }.node_end(c);
+            c = next_cell(&Tree { sheet, nodes }, after, to);
         }
-        Ok(end)
+        Ok(())
     }
 
     // The text of a cell.
@@ -1065,19 +810,20 @@ impl<'s, 'k> MDSerializer<'s, 'k> {
     fn cell(
         &self,
         nodes: &mut [u8],
-        text: &mut [u8],
+        room: &mut [u8],
         c: usize,
         opts: FormatOpts,
         levels: usize,
     ) -> Wrote
         requires { Placed self.now.sheet.now nodes.old c × (length self.now.sheet.now ≤ 1048576) × Fits opts (levels + 1) }
         ensures kept { Kept c (end_at nodes.old c) nodes.old nodes.new }
-        ensures writes { (name : Bytes) (attrs : List Attr) (kids : Forest) (anc : Ancestors) (th : Bool) → ElementAt self.now.sheet.now nodes.old c name attrs kids → Around self.now.sheet.now nodes.old (parent_at nodes.old c) anc → Writes (length text.old) text.new result (cell_text (self_at self.now.skip levels) opts (record { ancestors = anc; is_th = th; node = element name attrs kids nothing })) }
+        ensures writes { (name : Bytes) (attrs : List Attr) (kids : Forest) (anc : Ancestors) (th : Bool) → ElementAt self.now.sheet.now nodes.old c name attrs kids → Around self.now.sheet.now nodes.old (parent_at nodes.old c) anc → Writes (length room.old) room.new result (cell_text (self_at self.now.skip levels) opts (record { ancestors = anc; is_th = th; node = element name attrs kids nothing })) }
     {
-        let inner = opts.fresh().table_cell();
-        let bits = packed(inner);
-        let n = self.kids(nodes, text, 0, c, bits, levels)?;
-        let k = trim_trailing_cell_break(&text[..n]);
-        escape_table_cell_inplace(text, k)
+        let bits = packed(opts.fresh().table_cell());
+        let mut text = Text { room, len: 0 };
+        self.kids(nodes, &mut text, c, bits, levels)?;
+        text.len = trim_trailing_cell_break(text.bytes());
+        escape_table_cell_inplace(&mut text)?;
+        Ok(text.len)
     }
 }

@@ -1,19 +1,25 @@
 // Which nodes are texts, and a text with the trim of the whole behind it.
-ghost use Rattle.std.specs.Prelude.{◌≡◌, true, ◌&&◌, ◌+◌, ◌≤◌, ◌<◌, eqb, length, take, get_or};
+ghost use Rattle.std.specs.Prelude.{◌≡◌, true, ◌&&◌, ℕ, [], ◌+◌, ◌≤◌, ◌<◌, eqb, length, get_or};
 ghost use Rattle.spec.specs.Bytes.{is_blank};
 ghost use Rattle.spec.specs.Out.{and_then};
 ghost use Rattle.spec.specs.Md.TextUtils.{trim_space};
 ghost use Rattle.tree.specs.Memory.{place_at};
 ghost use Rattle.tree.specs.Nodes.{body_at};
+ghost use Rattle.spec.specs.Tree.{Forest};
+ghost use Rattle.spec.specs.Md.Elements.Link as link;
+ghost use Rattle.tree.specs.Represents.{Rep};
+ghost use Rattle.text.specs.Texts.{WritesTo};
 ghost use Rattle.text.specs.Writes.{Writes};
-ghost use Rattle.nodes.specs.Stands.{NodeAt};
+ghost use Rattle.nodes.specs.Stands.{NodeAt, Siblings};
 ghost use Rattle.nodes.specs.TextStep.{text_step};
 
-use nodes::by_len::write_text_node;
-use normalized::by_len::trim_space;
+use input::tag::TEXT;
+use nodes::nodes::{write_text, write_text_node};
+use normalized::text_utils::trim_space;
 use spec::ctx::FormatOpts;
-use text::buffer::{Wrote, all_in};
+use text::buffer::{Full, Wrote, all_in};
 use text::class::White;
+use text::text::Text;
 use tree::nodes::{Tree, tag_at, text_at};
 
 // Whether the nodes from number `from` up to `to` are one text.
@@ -25,22 +31,38 @@ pub fn is_one_text(tree: &Tree, from: usize, to: usize) -> bool
         return false;
     }
     let place = tree.node_place(from);
-    tag_at(tree.sheet, place) == 4
+    tag_at(tree.sheet, place) == TEXT
 }
 
 // Appends the text of node i, if it is one, and trims the whole text.
 pub fn trim_behind_text(
     tree: &Tree,
-    text: &mut [u8],
-    len: usize,
+    text: &mut Text,
     i: usize,
     opts: FormatOpts,
-) -> Wrote
-    requires { NodeAt tree.now.sheet.now tree.now.nodes.now i × (len ≤ length text.old) }
-    ensures { Writes (length text.old) text.new result (and_then (text_step opts tree.now.sheet.now (place_at tree.now.nodes.now i) (take len text.old)) trim_space) }
+) -> Result<(), Full>
+    requires { NodeAt tree.now.sheet.now tree.now.nodes.now i }
+    ensures { WritesTo text.old text.new result (λ t. and_then (text_step opts tree.now.sheet.now (place_at tree.now.nodes.now i) t) trim_space) }
 {
-    let n = write_text_node(tree, text, len, i, opts)?;
-    Ok(trim_space(text, n))
+    write_text_node(tree, text, i, opts)?;
+    trim_space(text);
+    Ok(())
+}
+
+// write_text of the nodes from number `from` up to `to`, as a text of its own at the front of `room`: how long it is.
+pub fn write_text_behind(
+    tree: &Tree,
+    room: &mut [u8],
+    from: usize,
+    to: usize,
+    opts: FormatOpts,
+) -> Wrote
+    requires { Siblings tree.now.sheet.now tree.now.nodes.now from to }
+    ensures { (parent : ℕ) (f : Forest) → Rep tree.now.sheet.now tree.now.nodes.now parent from to f → Writes (length room.old) room.new result (link.write_text opts f []) }
+{
+    let mut text = Text { room, len: 0 };
+    write_text(tree, &mut text, from, to, opts)?;
+    Ok(text.len)
 }
 
 // Whether the node whose field stands at `place` is a text of white bytes.
@@ -48,11 +70,9 @@ pub fn is_blank_text(sheet: &[u8], place: usize) -> bool
     requires { place + 3 ≤ length sheet.now }
     ensures { result ≡ (eqb (get_or sheet.now place 0) 4 && is_blank (body_at sheet.now place)) }
 {
-    if tag_at(sheet, place) != 4 {
+    if tag_at(sheet, place) != TEXT {
         return false;
     }
     let part = text_at(sheet, place);
-    let start = part.start;
-    let end = part.end;
-    all_in::<White>(&sheet[start..end])
+    all_in::<White>(&sheet[part])
 }

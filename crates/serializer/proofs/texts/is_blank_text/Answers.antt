@@ -7,14 +7,14 @@ use Rattle.tree.specs.Nodes.{body_at}
 use Rattle.tree.proofs.Kin.{first_text_lem}
 use Rattle.serializer.proofs.texts.is_blank_text.Goals as goal
 
-pub returns-then-tag_at-ne4 : goal.returns-then-tag_at-ne4
-returns-then-tag_at-ne4 c =
-    ap (λ (b : Bool). b && is_blank (body_at c.args.sheet.now c.args.place)) (sym (ne_eqb (get_or c.args.sheet.now c.args.place 0) 4 (λ q. c.if-tag_at-ne4.true (c.tag_at.ensures ∙ q))))
+pub returns-then-tag_at-ne-TEXT : goal.returns-then-tag_at-ne-TEXT
+returns-then-tag_at-ne-TEXT c =
+    ap (λ (b : Bool). b && is_blank (body_at c.args.sheet.now c.args.place)) (sym (ne_eqb (get_or c.args.sheet.now c.args.place 0) 4 (λ q. c.if-tag_at-ne-TEXT.true (c.tag_at.ensures ∙ q))))
 
 pub returns : goal.returns
 unfolding is_blank
 returns c =
-    let e = sym c.tag_at.ensures ∙ c.if-tag_at-ne4.false in
+    let e = sym c.tag_at.ensures ∙ c.if-tag_at-ne-TEXT.false in
     c.all_in.ensures
     ∙ ap is_blank (sym c.text_at-part.ensures.bytes_are ∙ first_text_lem c.args.sheet.now c.args.place e)
     ∙ ap (λ (b : Bool). b && is_blank (body_at c.args.sheet.now c.args.place)) (sym (eq-eqb (get_or c.args.sheet.now c.args.place 0) 4 e))
