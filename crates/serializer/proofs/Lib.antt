@@ -1,5 +1,6 @@
 -- What the proofs of several functions share.
 pub mod Placing
+pub mod Rooms
 pub mod Turns
 pub mod Levels
 pub mod Falls

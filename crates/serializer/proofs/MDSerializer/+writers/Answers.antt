@@ -10,6 +10,7 @@ use Rattle.tree.proofs.Values.{part_short}
 use Rattle.lists_links.specs.Items.{item_of, ended_item}
 use Rattle.nodes.proofs.Interrupts.{element_kids, element_name}
 use Rattle.nodes.specs.Stands.{Placeds, ElementAt, NodeAt, Placed, PlacedNode}
+use Rattle.serializer.proofs.Rooms.{leaf_room, room_on, room_behind}
 use Rattle.serializer.proofs.Answers.{stops_element, stops_forest, stops_row, stops_rows, both-full, nest-done, nest-full, nest-fits, written-reaches, forest-reaches, below-wrote, both-done, forest-long}
 use Rattle.serializer.proofs.Dispatch.{by_list, by_link, by_img, by_pre, by_table, by_code, by_emphasis}
 use Rattle.serializer.proofs.Falls.{falls_in, falls_out}
@@ -29,7 +30,8 @@ use Rattle.serializer.proofs.TableWriting.{table_at, table_full, table_done, tab
 use Rattle.serializer.proofs.Turns.{turn_first, turn_on, turn_stop, turn_last}
 use Rattle.serializer.specs.ListStep.{list_head}
 use Rattle.serializer.specs.Options.{unpacked}
-use Rattle.serializer.specs.Writers.{self_at, progress_at, progress_of, Fits, GoesForest, FitsIn, WritesForest}
+use Rattle.serializer.specs.Writers.{self_at, progress_at, progress_of, progress_on, at_text, gone, Fits, GoesForest, FitsIn, WritesForest}
+use Rattle.text.specs.Texts.{bytes, wrote}
 use Rattle.spec.specs.Bytes.{Bytes, ascii, among}
 use Rattle.spec.specs.Call.{tags_to_skip}
 use Rattle.spec.specs.Md.Ctx.{fresh, table_cell, break_of, list_item, include_node, advance_ol_number, skip_escape, link_body, scope_of, inline, emphasis_scope}
@@ -77,7 +79,7 @@ alone-node_name-name-requires t c =
 
 pub alone-due_line-requires : goal.alone-due_line-requires
 alone-due_line-requires t c =
-    c.requires.1.0
+    c.args.text.now.fits
 
 pub alone-block-requires : goal.alone-block-requires
 alone-block-requires t c = (
@@ -85,7 +87,7 @@ alone-block-requires t c = (
   (
     node_placed c.requires.0 (block_tag_lem c.args.self.now.sheet.now (place_at c.args.nodes.now c.args.c) c.node_name-name.ensures c.node_is_list_item_block.ensures c.if-node_is_list_item_block.true),
     c.node_name-name.ensures,
-    (reaches (done c.in_ok-n.was c.due_line.ensures), c.requires.1.1),
+    c.requires.1,
     c.requires.2,
   ),
 )
@@ -93,87 +95,95 @@ alone-block-requires t c = (
 pub alone-inline-requires : goal.alone-inline-requires
 alone-inline-requires t c = (
   falls_in c.args.levels c.decreases (lit< tt),
-  (c.requires.0, c.node_name-name.ensures, (reaches (done c.in_ok-n.was c.due_line.ensures), c.requires.1.1), c.requires.2),
+  (c.requires.0, c.node_name-name.ensures, c.requires.1, c.requires.2),
 )
 
 pub alone-returns-then-node_is_list_item_block : goal.alone-returns-then-node_is_list_item_block
 alone-returns-then-node_is_list_item_block t c =
     record {
+      room = room_on (leaf_room c.due_line.ensures) (c.block.ensures.room);
       kept = c.block.ensures.kept;
-      goes_forest = alone_block c.args.self.now.sheet.now c.args.nodes.now c.args.c c.node_name-name.ensures c.requires.0.later (self_at c.args.self.now.skip c.args.levels) (item_of c.args.item) c.args.before.first c.args.before.due c.args.blank c.args.text.now c.args.before.len c.due_line.ensures c.in_ok-n.was c.node_is_list_item_block.ensures c.if-node_is_list_item_block.true c.requires.0.alone.positive c.block.ensures.goes_element;
+      goes_forest = alone_block c.args.self.now.sheet.now c.args.nodes.now c.args.c c.node_name-name.ensures c.requires.0.later (self_at c.args.self.now.skip c.args.levels) (item_of c.args.item) c.args.before.first c.args.before.due c.args.blank c.args.text.now.room.now c.args.text.now.len c.due_line.ensures.writes (ap (wrote c.due_line.new.text) c.in_ok-due_line.was) c.node_is_list_item_block.ensures c.if-node_is_list_item_block.true c.requires.0.alone.positive c.block.ensures.goes_element;
     }
 
 pub alone-returns : goal.alone-returns
 alone-returns t c =
     record {
+      room = room_on (leaf_room c.due_line.ensures) (c.inline.ensures.room);
       kept = c.inline.ensures.kept;
-      goes_forest = alone_inline c.args.self.now.sheet.now c.args.nodes.now c.args.c c.node_name-name.ensures c.requires.0.later (self_at c.args.self.now.skip c.args.levels) (item_of c.args.item) c.args.before.first c.args.before.due c.args.blank c.args.text.now c.args.before.len c.due_line.ensures c.in_ok-n.was c.node_is_list_item_block.ensures c.if-node_is_list_item_block.false refl c.in_ok-m.ensures.writes_forest;
+      goes_forest = alone_inline c.args.self.now.sheet.now c.args.nodes.now c.args.c c.node_name-name.ensures c.requires.0.later (self_at c.args.self.now.skip c.args.levels) (item_of c.args.item) c.args.before.first c.args.before.due c.args.blank c.args.text.now.room.now c.args.text.now.len c.due_line.ensures.writes (ap (wrote c.due_line.new.text) c.in_ok-due_line.was) c.node_is_list_item_block.ensures c.if-node_is_list_item_block.false refl c.inline.ensures.writes_forest;
     }
 
-pub alone-returns-in_err-m : goal.alone-returns-in_err-m
-alone-returns-in_err-m t c =
+pub alone-returns-in_err-inline : goal.alone-returns-in_err-inline
+alone-returns-in_err-inline t c =
     record {
+      room = room_on (leaf_room c.due_line.ensures) (c.inline.ensures.room);
       kept = c.inline.ensures.kept;
-      goes_forest = alone_inline c.args.self.now.sheet.now c.args.nodes.now c.args.c c.node_name-name.ensures c.requires.0.later (self_at c.args.self.now.skip c.args.levels) (item_of c.args.item) c.args.before.first c.args.before.due c.args.blank c.args.text.now c.args.before.len c.due_line.ensures c.in_ok-n.was c.node_is_list_item_block.ensures c.if-node_is_list_item_block.false (err_is c.from_residual-in_err-m.ensures.0) c.in_err-m.ensures.writes_forest;
+      goes_forest = alone_inline c.args.self.now.sheet.now c.args.nodes.now c.args.c c.node_name-name.ensures c.requires.0.later (self_at c.args.self.now.skip c.args.levels) (item_of c.args.item) c.args.before.first c.args.before.due c.args.blank c.args.text.now.room.now c.args.text.now.len c.due_line.ensures.writes (ap (wrote c.due_line.new.text) c.in_ok-due_line.was) c.node_is_list_item_block.ensures c.if-node_is_list_item_block.false (err_is c.from_residual-in_err-inline.ensures.0) c.inline.ensures.writes_forest;
     }
 
-pub alone-returns-in_err-n : goal.alone-returns-in_err-n
-alone-returns-in_err-n t c =
+pub alone-returns-in_err-due_line : goal.alone-returns-in_err-due_line
+alone-returns-in_err-due_line t c =
     record {
+      room = leaf_room c.due_line.ensures;
       kept = kept_none c.args.nodes.now;
-      goes_forest = stops_going c.from_residual.ensures.0 (alone_none c.args.self.now.sheet.now c.args.nodes.now c.args.c c.node_name-name.ensures c.requires.0.later (self_at c.args.self.now.skip c.args.levels) (item_of c.args.item) c.args.before.first c.args.before.due c.args.blank c.args.text.now c.args.before.len c.due_line.ensures c.in_err-n.was);
+      goes_forest = stops_going c.from_residual.ensures.0 (alone_none c.args.self.now.sheet.now c.args.nodes.now c.args.c c.node_name-name.ensures c.requires.0.later (self_at c.args.self.now.skip c.args.levels) (item_of c.args.item) c.args.before.first c.args.before.due c.args.blank c.args.text.now.room.now c.args.text.now.len c.due_line.ensures.writes (ap (wrote c.due_line.new.text) c.in_err-due_line.was));
     }
 
 pub block-led-requires : goal.block-led-requires
 block-led-requires t c =
     (falls_in c.args.levels c.decreases (lit< tt), c.requires)
 
-pub block-returns-then-name-eq15 : goal.block-returns-then-name-eq15
-block-returns-then-name-eq15 t c =
+pub block-returns-then-name-eq-HR : goal.block-returns-then-name-eq-HR
+block-returns-then-name-eq-HR t c =
     record {
+      room = c.rule_block.ensures.room;
       kept = kept_none c.args.nodes.now;
-      goes_element = block_rule c.args.self.now.sheet.now c.args.nodes.now c.args.c c.requires.1 (self_at c.args.self.now.skip c.args.levels) (item_of c.args.item) c.args.before.first c.args.before.due (take c.args.before.len c.args.text.now) c.if-name-eq15.true c.rule_block.ensures;
+      goes_element = block_rule c.args.self.now.sheet.now c.args.nodes.now c.args.c c.requires.1 (self_at c.args.self.now.skip c.args.levels) (item_of c.args.item) c.args.before.first c.args.before.due (take c.args.text.now.len c.args.text.now.room.now) c.if-name-eq-HR.true c.rule_block.ensures;
     }
 
 pub block-returns : goal.block-returns
 block-returns t c =
     record {
+      room = c.led.ensures.room;
       kept = c.led.ensures.kept;
-      goes_element = block_led c.args.self.now.sheet.now c.args.nodes.now c.args.c c.requires.1 (self_at c.args.self.now.skip c.args.levels) (item_of c.args.item) c.args.before.first c.args.before.due (take c.args.before.len c.args.text.now) c.if-name-eq15.false refl c.in_ok-n.ensures.writes_element;
+      goes_element = block_led c.args.self.now.sheet.now c.args.nodes.now c.args.c c.requires.1 (self_at c.args.self.now.skip c.args.levels) (item_of c.args.item) c.args.before.first c.args.before.due (take c.args.text.now.len c.args.text.now.room.now) c.if-name-eq-HR.false refl c.led.ensures.writes_element;
     }
 
-pub block-returns-in_err-n : goal.block-returns-in_err-n
-block-returns-in_err-n t c =
+pub block-returns-in_err-led : goal.block-returns-in_err-led
+block-returns-in_err-led t c =
     record {
+      room = c.led.ensures.room;
       kept = c.led.ensures.kept;
-      goes_element = block_led c.args.self.now.sheet.now c.args.nodes.now c.args.c c.requires.1 (self_at c.args.self.now.skip c.args.levels) (item_of c.args.item) c.args.before.first c.args.before.due (take c.args.before.len c.args.text.now) c.if-name-eq15.false (err_is c.from_residual.ensures.0) c.in_err-n.ensures.writes_element;
+      goes_element = block_led c.args.self.now.sheet.now c.args.nodes.now c.args.c c.requires.1 (self_at c.args.self.now.skip c.args.levels) (item_of c.args.item) c.args.before.first c.args.before.due (take c.args.text.now.len c.args.text.now.room.now) c.if-name-eq-HR.false (err_is c.from_residual.ensures.0) c.led.ensures.writes_element;
     }
 
-pub blocks-returns-in_err-n : goal.blocks-returns-in_err-n
-blocks-returns-in_err-n t c =
+pub blocks-returns-in_err-start_item : goal.blocks-returns-in_err-start_item
+blocks-returns-in_err-start_item t c =
     let self = self_at c.args.self.now.skip c.args.levels in
-    let item = item_from c.args.ctx.now (begin_item true c.args.ctx.now (take c.args.len c.args.text.now)) in record {
+    let item = item_from c.args.ctx.now (begin_item true c.args.ctx.now (take c.args.text.now.len c.args.text.now.room.now)) in record {
+      room = leaf_room c.start_item.ensures.0;
       kept = kept_none c.args.nodes.now;
       writes_element = stops_element c.from_residual.ensures.0 (record {
         for = λ name attrs kids anc x a.
-            both-full c.args.text.now c.args.len c.requires.1.0 (write_list_item_blocks self anc attrs kids c.args.ctx.now) (begin_item true c.args.ctx.now)
+            both-full c.args.text.now.room.now c.args.text.now.len c.args.text.now.fits (write_list_item_blocks self anc attrs kids c.args.ctx.now) (begin_item true c.args.ctx.now)
             (λ u. and_then (item_children self (attrs ∷ anc) kids item (progress_at true false u)).out (ended_item item))
-            (blocks_parts self anc attrs kids c.args.ctx.now item (take c.args.len c.args.text.now) refl) c.write_list_item_blocks.ensures.0 c.in_err-n.was;
+            (blocks_parts self anc attrs kids c.args.ctx.now item (take c.args.text.now.len c.args.text.now.room.now) refl) c.start_item.ensures.0.writes (ap (wrote c.start_item.new.text) c.in_err-start_item.was);
       });
-      ctx_value = c.write_list_item_blocks.ensures.1;
+      ctx_value = c.start_item.ensures.1;
     }
 
 pub blocks-node_end-to-requires : goal.blocks-node_end-to-requires
 blocks-node_end-to-requires t c =
     (placed_node c.args.self.now.sheet.now c.args.nodes.now c.args.c c.requires.0).inside
 
-pub blocks-write_list_item_blocks-requires : goal.blocks-write_list_item_blocks-requires
-blocks-write_list_item_blocks-requires t c =
-    (c.requires.1.0, fits_in c.args.levels c.args.ctx.now c.requires.2)
+pub blocks-start_item-requires : goal.blocks-start_item-requires
+blocks-start_item-requires t c =
+    (c.args.text.now.fits, fits_in c.args.levels c.args.ctx.now c.requires.2)
 
 pub blocks-item_from-item-requires : goal.blocks-item_from-item-requires
 blocks-item_from-item-requires t c =
-    (fits_in c.args.levels c.args.ctx.now c.requires.2, c.write_list_item_blocks.ensures.1)
+    (fits_in c.args.levels c.args.ctx.now c.requires.2, c.start_item.ensures.1)
 
 pub blocks-overflow_add-c : goal.blocks-overflow_add-c
 blocks-overflow_add-c t c =
@@ -182,12 +192,12 @@ blocks-overflow_add-c t c =
 pub blocks-children-requires : goal.blocks-children-requires
 blocks-children-requires t c =
     let kids_at_here : Placeds c.args.self.now.sheet.now c.args.nodes.now (c.args.c + 1) c.node_end-to.result = placed_kids c.args.self.now.sheet.now c.args.nodes.now c.args.c c.requires.0 c.node_end-to.ensures in
-    let item_is_here : item_of c.item_from-item.result ≡ item_from c.args.ctx.now (begin_item true c.args.ctx.now (take c.args.len c.args.text.now)) = c.item_from-item.ensures (begin_item true c.args.ctx.now (take c.args.len c.args.text.now)) (done c.in_ok-n.was c.write_list_item_blocks.ensures.0).count in (
+    let item_is_here : item_of c.item_from-item.result ≡ item_from c.args.ctx.now (begin_item true c.args.ctx.now (take c.args.text.now.len c.args.text.now.room.now)) = c.item_from-item.ensures (begin_item true c.args.ctx.now (take c.args.text.now.len c.args.text.now.room.now)) (done (ap (wrote c.start_item.new.text) c.in_ok-start_item.was) c.start_item.ensures.0.writes).count in (
       falls_children c.args.levels (c.args.c + 1) c.decreases c.node_end-to.type_inv,
       (
         kids_at_here,
-        (reaches (done c.in_ok-n.was c.write_list_item_blocks.ensures.0), c.requires.1.1),
-        fits_blocks c.args.levels c.args.ctx.now c.item_from-item.result (begin_item true c.args.ctx.now (take c.args.len c.args.text.now)) (item_is_here) c.requires.2,
+        c.requires.1,
+        fits_blocks c.args.levels c.args.ctx.now c.item_from-item.result (begin_item true c.args.ctx.now (take c.args.text.now.len c.args.text.now.room.now)) (item_is_here) c.requires.2,
       ),
     )
 
@@ -195,36 +205,38 @@ pub blocks-end_item-requires : goal.blocks-end_item-requires
 blocks-end_item-requires t c =
     let kids_at_here : Placeds c.args.self.now.sheet.now c.args.nodes.now (c.args.c + 1) c.node_end-to.result = placed_kids c.args.self.now.sheet.now c.args.nodes.now c.args.c c.requires.0 c.node_end-to.ensures in
     let k = kids_at_here in
-    reaches (went c.in_ok-end.was (c.children.ensures.goes_forest.for k.parent k.forest k.anc k.rep k.around)).0
+    reaches (went (ap (gone c.children.new.text) c.in_ok-children.was) (c.children.ensures.goes_forest.for k.parent k.forest k.anc k.rep k.around)).0
 
 pub blocks-returns : goal.blocks-returns
 blocks-returns t c =
-    let item_is_here : item_of c.item_from-item.result ≡ item_from c.args.ctx.now (begin_item true c.args.ctx.now (take c.args.len c.args.text.now)) = c.item_from-item.ensures (begin_item true c.args.ctx.now (take c.args.len c.args.text.now)) (done c.in_ok-n.was c.write_list_item_blocks.ensures.0).count in
-    let begun_here : (anc : Ancestors) (attrs : List Attr) (kids : Forest) → let self = self_at c.args.self.now.skip c.args.levels in let item = item_of c.item_from-item.result in Owes (length c.args.text.now) c.write_list_item_blocks.new.text c.in_ok-n.n (λ u. and_then (item_children self (attrs ∷ anc) kids item (progress_at true false u)).out (ended_item item)) (write_list_item_blocks self anc attrs kids c.args.ctx.now (take c.args.len c.args.text.now)) = λ anc attrs kids. let self = self_at c.args.self.now.skip c.args.levels in let item = item_of c.item_from-item.result in owes_step (owes_all c.args.text.now c.args.len (write_list_item_blocks self anc attrs kids c.args.ctx.now) c.requires.1.0 refl) (begin_item true c.args.ctx.now) (λ u. and_then (item_children self (attrs ∷ anc) kids item (progress_at true false u)).out (ended_item item)) (blocks_parts self anc attrs kids c.args.ctx.now item (take c.args.len c.args.text.now) (item_is_here)) c.in_ok-n.was c.write_list_item_blocks.ensures.0 in
+    let item_is_here : item_of c.item_from-item.result ≡ item_from c.args.ctx.now (begin_item true c.args.ctx.now (take c.args.text.now.len c.args.text.now.room.now)) = c.item_from-item.ensures (begin_item true c.args.ctx.now (take c.args.text.now.len c.args.text.now.room.now)) (done (ap (wrote c.start_item.new.text) c.in_ok-start_item.was) c.start_item.ensures.0.writes).count in
+    let begun_here : (anc : Ancestors) (attrs : List Attr) (kids : Forest) → let self = self_at c.args.self.now.skip c.args.levels in let item = item_of c.item_from-item.result in Owes (length c.args.text.now.room.now) c.start_item.new.text.room.now c.start_item.new.text.len (λ u. and_then (item_children self (attrs ∷ anc) kids item (progress_at true false u)).out (ended_item item)) (write_list_item_blocks self anc attrs kids c.args.ctx.now (take c.args.text.now.len c.args.text.now.room.now)) = λ anc attrs kids. let self = self_at c.args.self.now.skip c.args.levels in let item = item_of c.item_from-item.result in owes_step (owes_all c.args.text.now.room.now c.args.text.now.len (write_list_item_blocks self anc attrs kids c.args.ctx.now) c.args.text.now.fits refl) (begin_item true c.args.ctx.now) (λ u. and_then (item_children self (attrs ∷ anc) kids item (progress_at true false u)).out (ended_item item)) (blocks_parts self anc attrs kids c.args.ctx.now item (take c.args.text.now.len c.args.text.now.room.now) (item_is_here)) (ap (wrote c.start_item.new.text) c.in_ok-start_item.was) c.start_item.ensures.0.writes in
     let self = self_at c.args.self.now.skip c.args.levels in
     let item = item_of c.item_from-item.result in record {
+      room = room_on (leaf_room c.start_item.ensures.0) (room_on (c.children.ensures.room) (leaf_room c.end_item.ensures));
       kept = kept_in (omega arith) (omega (arith, c.node_end-to.ensures)) c.children.ensures.kept;
       writes_element = record {
         for = λ name attrs kids anc x a.
             owes_last (owes_on (begun_here anc attrs kids) (λ u. (item_children self (attrs ∷ anc) kids item (progress_at true false u)).out) (ended_item item) refl
-            (went c.in_ok-end.was (c.children.ensures.goes_forest.for c.args.c kids (attrs ∷ anc) (element_kids x c.node_end-to.ensures) (around_it anc x a))).0) c.end_item.ensures;
+            (went (ap (gone c.children.new.text) c.in_ok-children.was) (c.children.ensures.goes_forest.for c.args.c kids (attrs ∷ anc) (element_kids x c.node_end-to.ensures) (around_it anc x a))).0) c.end_item.ensures.writes;
       };
-      ctx_value = c.write_list_item_blocks.ensures.1;
+      ctx_value = c.start_item.ensures.1;
     }
 
-pub blocks-returns-in_err-end : goal.blocks-returns-in_err-end
-blocks-returns-in_err-end t c =
-    let item_is_here : item_of c.item_from-item.result ≡ item_from c.args.ctx.now (begin_item true c.args.ctx.now (take c.args.len c.args.text.now)) = c.item_from-item.ensures (begin_item true c.args.ctx.now (take c.args.len c.args.text.now)) (done c.in_ok-n.was c.write_list_item_blocks.ensures.0).count in
-    let begun_here : (anc : Ancestors) (attrs : List Attr) (kids : Forest) → let self = self_at c.args.self.now.skip c.args.levels in let item = item_of c.item_from-item.result in Owes (length c.args.text.now) c.write_list_item_blocks.new.text c.in_ok-n.n (λ u. and_then (item_children self (attrs ∷ anc) kids item (progress_at true false u)).out (ended_item item)) (write_list_item_blocks self anc attrs kids c.args.ctx.now (take c.args.len c.args.text.now)) = λ anc attrs kids. let self = self_at c.args.self.now.skip c.args.levels in let item = item_of c.item_from-item.result in owes_step (owes_all c.args.text.now c.args.len (write_list_item_blocks self anc attrs kids c.args.ctx.now) c.requires.1.0 refl) (begin_item true c.args.ctx.now) (λ u. and_then (item_children self (attrs ∷ anc) kids item (progress_at true false u)).out (ended_item item)) (blocks_parts self anc attrs kids c.args.ctx.now item (take c.args.len c.args.text.now) (item_is_here)) c.in_ok-n.was c.write_list_item_blocks.ensures.0 in
+pub blocks-returns-in_err-children : goal.blocks-returns-in_err-children
+blocks-returns-in_err-children t c =
+    let item_is_here : item_of c.item_from-item.result ≡ item_from c.args.ctx.now (begin_item true c.args.ctx.now (take c.args.text.now.len c.args.text.now.room.now)) = c.item_from-item.ensures (begin_item true c.args.ctx.now (take c.args.text.now.len c.args.text.now.room.now)) (done (ap (wrote c.start_item.new.text) c.in_ok-start_item.was) c.start_item.ensures.0.writes).count in
+    let begun_here : (anc : Ancestors) (attrs : List Attr) (kids : Forest) → let self = self_at c.args.self.now.skip c.args.levels in let item = item_of c.item_from-item.result in Owes (length c.args.text.now.room.now) c.start_item.new.text.room.now c.start_item.new.text.len (λ u. and_then (item_children self (attrs ∷ anc) kids item (progress_at true false u)).out (ended_item item)) (write_list_item_blocks self anc attrs kids c.args.ctx.now (take c.args.text.now.len c.args.text.now.room.now)) = λ anc attrs kids. let self = self_at c.args.self.now.skip c.args.levels in let item = item_of c.item_from-item.result in owes_step (owes_all c.args.text.now.room.now c.args.text.now.len (write_list_item_blocks self anc attrs kids c.args.ctx.now) c.args.text.now.fits refl) (begin_item true c.args.ctx.now) (λ u. and_then (item_children self (attrs ∷ anc) kids item (progress_at true false u)).out (ended_item item)) (blocks_parts self anc attrs kids c.args.ctx.now item (take c.args.text.now.len c.args.text.now.room.now) (item_is_here)) (ap (wrote c.start_item.new.text) c.in_ok-start_item.was) c.start_item.ensures.0.writes in
     let self = self_at c.args.self.now.skip c.args.levels in
     let item = item_of c.item_from-item.result in record {
+      room = room_on (leaf_room c.start_item.ensures.0) (c.children.ensures.room);
       kept = kept_in (omega arith) (omega (arith, c.node_end-to.ensures)) c.children.ensures.kept;
-      writes_element = stops_element c.from_residual-in_err-end.ensures.0 (record {
+      writes_element = stops_element c.from_residual-in_err-children.ensures.0 (record {
         for = λ name attrs kids anc x a.
             owes_over (begun_here anc attrs kids) (λ u. (item_children self (attrs ∷ anc) kids item (progress_at true false u)).out) (ended_item item) refl
-            (went_full c.in_err-end.was (c.children.ensures.goes_forest.for c.args.c kids (attrs ∷ anc) (element_kids x c.node_end-to.ensures) (around_it anc x a)));
+            (went_full (ap (gone c.children.new.text) c.in_err-children.was) (c.children.ensures.goes_forest.for c.args.c kids (attrs ∷ anc) (element_kids x c.node_end-to.ensures) (around_it anc x a)));
       });
-      ctx_value = c.write_list_item_blocks.ensures.1;
+      ctx_value = c.start_item.ensures.1;
     }
 
 pub body-node_place-place-requires : goal.body-node_place-place-requires
@@ -235,14 +247,14 @@ pub body-packed-bits-requires : goal.body-packed-bits-requires
 body-packed-bits-requires t c =
     omega (arith, c.requires.2)
 
-pub body-kids-requires : goal.body-kids-requires
-body-kids-requires t c =
-    (falls_in c.args.levels c.decreases (lit< tt), (c.requires.0, (omega arith, c.requires.1.1), subst (λ (o : FormatOpts). Fits o c.args.levels) (sym c.packed-bits.ensures) c.requires.2))
+pub body-kids_behind-requires : goal.body-kids_behind-requires
+body-kids_behind-requires t c =
+    (falls_in c.args.levels c.decreases (lit< tt), (c.requires.0, c.requires.1, subst (λ (o : FormatOpts). Fits o c.args.levels) (sym c.packed-bits.ensures) c.requires.2))
 
 pub body-push_link-requires : goal.body-push_link-requires
 body-push_link-requires t c =
     let p = c.requires.0 in (
-      nest-fits c.args.text.now c.args.len c.requires.1.0 (c.kids.ensures.writes_element.for p.0.0 p.0.1 p.0.2 p.1.0 p.0.3 p.1.1) c.in_ok-n.was,
+      nest-fits c.args.text.now.room.now c.args.text.now.len c.args.text.now.fits (c.kids_behind.ensures.writes_element.for p.0.0 p.0.1 p.0.2 p.1.0 p.0.3 p.1.1) c.in_ok-n.was,
       omega (arith, c.node_place-place.ensures, (placed_node c.args.self.now.sheet.now c.args.nodes.now c.args.at p).placed),
       c.requires.3,
     )
@@ -251,12 +263,13 @@ pub body-returns : goal.body-returns
 body-returns t c =
     let a = c.args in
     let href = a.dest.now in record {
-      kept = c.kids.ensures.kept;
+      room = room_on (room_behind c.args.text.now c.kids_behind.auto.room) (leaf_room c.push_link.ensures);
+      kept = c.kids_behind.ensures.kept;
       writes_element = record {
         for = λ name attrs kids anc x h. let link = write_kids (self_at a.self.now.skip a.levels) anc a.opts (element name attrs kids nothing) [] in
-            alike (ap (λ (f : Step). f (take a.len a.text.now)) (link_is attrs href link push))
-            (nest-done a.text.now a.len c.requires.1.0 (subst (λ (o : FormatOpts). Writes (length (lent a.text.now a.len)) c.kids.new.text c.kids.result (write_kids (self_at a.self.now.skip a.levels) anc o (element name attrs kids nothing) [])) c.packed-bits.ensures (c.kids.ensures.writes_element.for name attrs kids anc x h)) (λ z. link_step attrs href z push) c.in_ok-n.was
-            (subst (λ (l : List Attr). Writes (length (back a.text.now a.len c.kids.new.text)) c.push_link.new.text c.push_link.result (link_step l href (take c.in_ok-n.n (drop a.len (back a.text.now a.len c.kids.new.text))) push (take a.len (back a.text.now a.len c.kids.new.text)))) (ap (attrs_behind a.self.now.sheet.now) c.node_place-place.ensures ∙ sym x.attrs_are) c.push_link.ensures));
+            alike (ap (λ (f : Step). f (take a.text.now.len a.text.now.room.now)) (link_is attrs href link push))
+            (nest-done a.text.now.room.now a.text.now.len c.args.text.now.fits (subst (λ (o : FormatOpts). Writes (length (lent a.text.now.room.now a.text.now.len)) c.kids_behind.new.room c.kids_behind.result (write_kids (self_at a.self.now.skip a.levels) anc o (element name attrs kids nothing) [])) c.packed-bits.ensures (c.kids_behind.ensures.writes_element.for name attrs kids anc x h)) (λ z. link_step attrs href z push) c.in_ok-n.was
+            (subst (λ (l : List Attr). Writes (length (back a.text.now.room.now a.text.now.len c.kids_behind.new.text)) c.push_link.new.text.room.now c.push_link.result (link_step l href (take c.in_ok-n.n (drop a.text.now.len (back a.text.now.room.now a.text.now.len c.kids_behind.new.text))) push (take a.text.now.len (back a.text.now.room.now a.text.now.len c.kids_behind.new.text)))) (ap (attrs_behind a.self.now.sheet.now) c.node_place-place.ensures ∙ sym x.attrs_are) c.push_link.ensures.writes));
       };
     }
 
@@ -264,11 +277,12 @@ pub body-returns-in_err-n : goal.body-returns-in_err-n
 body-returns-in_err-n t c =
     let a = c.args in
     let href = a.dest.now in record {
-      kept = c.kids.ensures.kept;
+      room = room_behind c.args.text.now c.kids_behind.auto.room;
+      kept = c.kids_behind.ensures.kept;
       writes_element = stops_element c.from_residual.ensures.0 (record {
         for = λ name attrs kids anc x h. let link = write_kids (self_at a.self.now.skip a.levels) anc a.opts (element name attrs kids nothing) [] in
-            alike (ap (λ (f : Step). f (take a.len a.text.now)) (link_is attrs href link push))
-            (nest-full a.text.now a.len c.requires.1.0 (subst (λ (o : FormatOpts). Writes (length (lent a.text.now a.len)) c.kids.new.text c.kids.result (write_kids (self_at a.self.now.skip a.levels) anc o (element name attrs kids nothing) [])) c.packed-bits.ensures (c.kids.ensures.writes_element.for name attrs kids anc x h)) (link_step attrs href link.text push) c.in_err-n.was);
+            alike (ap (λ (f : Step). f (take a.text.now.len a.text.now.room.now)) (link_is attrs href link push))
+            (nest-full a.text.now.room.now a.text.now.len c.args.text.now.fits (subst (λ (o : FormatOpts). Writes (length (lent a.text.now.room.now a.text.now.len)) c.kids_behind.new.room c.kids_behind.result (write_kids (self_at a.self.now.skip a.levels) anc o (element name attrs kids nothing) [])) c.packed-bits.ensures (c.kids_behind.ensures.writes_element.for name attrs kids anc x h)) (link_step attrs href link.text push) c.in_err-n.was);
       });
     }
 
@@ -278,42 +292,42 @@ cell-packed-bits-requires t c =
 
 pub cell-kids-requires : goal.cell-kids-requires
 cell-kids-requires t c =
-    (falls_in c.args.levels c.decreases (lit< tt), (c.requires.0, (omega arith, c.requires.1), subst (λ (o : FormatOpts). Fits o c.args.levels) (sym (c.packed-bits.ensures ∙ c.table_cell-inner.ensures ∙ ap table_cell c.fresh.ensures)) (omega (arith, c.requires.2))))
+    (falls_in c.args.levels c.decreases (lit< tt), (c.requires.0, c.requires.1, subst (λ (o : FormatOpts). Fits o c.args.levels) (sym (c.packed-bits.ensures ∙ c.table_cell-inner.ensures ∙ ap table_cell c.fresh.ensures)) (omega (arith, c.requires.2))))
 
 pub cell-slice_bounds-trim_trailing_cell_break-end : goal.cell-slice_bounds-trim_trailing_cell_break-end
 cell-slice_bounds-trim_trailing_cell_break-end t c =
-    written-reaches c.kids.ensures.writes_element c.requires.0 c.in_ok-n.was
+    written-reaches c.kids.ensures.writes_element c.requires.0 (ap (wrote c.kids.new.text) c.in_ok-kids.was)
 
 pub cell-slice_bounds-trim_trailing_cell_break-end-2 : goal.cell-slice_bounds-trim_trailing_cell_break-end-2
 cell-slice_bounds-trim_trailing_cell_break-end-2 t c =
-    sym (length-take-le c.in_ok-n.n c.kids.new.text (written-reaches c.kids.ensures.writes_element c.requires.0 c.in_ok-n.was))
+    sym (length-take-le c.kids.new.text.len c.kids.new.text.room.now (written-reaches c.kids.ensures.writes_element c.requires.0 (ap (wrote c.kids.new.text) c.in_ok-kids.was)))
 
 pub cell-escape_table_cell_inplace-requires : goal.cell-escape_table_cell_inplace-requires
 cell-escape_table_cell_inplace-requires t c =
-    let r = written-reaches c.kids.ensures.writes_element c.requires.0 c.in_ok-n.was in
-    omega (arith, r, c.trim_trailing_cell_break-k.ensures.within, length-take-le c.in_ok-n.n c.kids.new.text r)
+    let r = written-reaches c.kids.ensures.writes_element c.requires.0 (ap (wrote c.kids.new.text) c.in_ok-kids.was) in
+    omega (arith, r, c.trim_trailing_cell_break-k.ensures.within, length-take-le c.kids.new.text.len c.kids.new.text.room.now r)
 
 pub cell-returns : goal.cell-returns
 unfolding cell_text trim_trailing_cell_break
 cell-returns t c =
-    let wrote_here : (name : Bytes) (attrs : List Attr) (kids : Forest) (anc : Ancestors) → ElementAt c.args.self.now.sheet.now c.args.nodes.now c.args.c name attrs kids → Around c.args.self.now.sheet.now c.args.nodes.now (parent_at c.args.nodes.now c.args.c) anc → Writes (length c.args.text.now) c.kids.new.text c.kids.result (write_kids (self_at c.args.self.now.skip c.args.levels) anc (table_cell (fresh c.args.opts)) (element name attrs kids nothing) (take 0 c.args.text.now)) = λ name attrs kids anc x h. let a = c.args in subst (λ (o : FormatOpts). Writes (length a.text.now) c.kids.new.text c.kids.result (write_kids (self_at a.self.now.skip a.levels) anc o (element name attrs kids nothing) (take 0 a.text.now))) (c.packed-bits.ensures ∙ c.table_cell-inner.ensures ∙ ap table_cell c.fresh.ensures) (c.kids.ensures.writes_element.for name attrs kids anc x h) in
+    let wrote_here : (name : Bytes) (attrs : List Attr) (kids : Forest) (anc : Ancestors) → ElementAt c.args.self.now.sheet.now c.args.nodes.now c.args.c name attrs kids → Around c.args.self.now.sheet.now c.args.nodes.now (parent_at c.args.nodes.now c.args.c) anc → Writes (length c.args.room.now) c.kids.new.text.room.now c.kids.result (write_kids (self_at c.args.self.now.skip c.args.levels) anc (table_cell (fresh c.args.opts)) (element name attrs kids nothing) (take 0 c.args.room.now)) = λ name attrs kids anc x h. let a = c.args in subst (λ (o : FormatOpts). Writes (length a.room.now) c.kids.new.text.room.now c.kids.result (write_kids (self_at a.self.now.skip a.levels) anc o (element name attrs kids nothing) (take 0 a.room.now))) (c.packed-bits.ensures ∙ c.table_cell-inner.ensures ∙ ap table_cell c.fresh.ensures) (c.kids.ensures.writes_element.for name attrs kids anc x h) in
     let a = c.args in record {
       kept = c.kids.ensures.kept;
       writes = λ name attrs kids anc th x h.
           let f = write_kids (self_at a.self.now.skip a.levels) anc (table_cell (fresh a.opts)) (element name attrs kids nothing) in
-          let p = owes_step (owes_all a.text.now 0 (λ u. and_then (and_then (f u) trim_trailing_cell_break) escape_table_cell_inplace) (omega arith) refl) f (λ u. and_then (trim_trailing_cell_break u) escape_table_cell_inplace) (then_assoc (f (take 0 a.text.now)) trim_trailing_cell_break escape_table_cell_inplace) c.in_ok-n.was (wrote_here _ _ _ anc x h) in
-          owes_last (owes_on p trim_trailing_cell_break escape_table_cell_inplace refl (cut_done (λ z. without_breaks (length z) z) c.kids.new.text c.in_ok-n.n c.trim_trailing_cell_break-k.result p.reach c.trim_trailing_cell_break-k.ensures)) c.escape_table_cell_inplace.ensures;
+          let p = owes_step (owes_all a.room.now 0 (λ u. and_then (and_then (f u) trim_trailing_cell_break) escape_table_cell_inplace) (omega arith) refl) f (λ u. and_then (trim_trailing_cell_break u) escape_table_cell_inplace) (then_assoc (f (take 0 a.room.now)) trim_trailing_cell_break escape_table_cell_inplace) (ap (wrote c.kids.new.text) c.in_ok-kids.was) (wrote_here _ _ _ anc x h) in
+          owes_last (owes_on p trim_trailing_cell_break escape_table_cell_inplace refl (cut_done (λ z. without_breaks (length z) z) c.kids.new.text.room.now c.kids.new.text.len c.trim_trailing_cell_break-k.result p.reach c.trim_trailing_cell_break-k.ensures)) c.escape_table_cell_inplace.ensures;
     }
 
-pub cell-returns-in_err-n : goal.cell-returns-in_err-n
+pub cell-returns-in_err-kids : goal.cell-returns-in_err-kids
 unfolding cell_text
-cell-returns-in_err-n t c =
-    let wrote_here : (name : Bytes) (attrs : List Attr) (kids : Forest) (anc : Ancestors) → ElementAt c.args.self.now.sheet.now c.args.nodes.now c.args.c name attrs kids → Around c.args.self.now.sheet.now c.args.nodes.now (parent_at c.args.nodes.now c.args.c) anc → Writes (length c.args.text.now) c.kids.new.text c.kids.result (write_kids (self_at c.args.self.now.skip c.args.levels) anc (table_cell (fresh c.args.opts)) (element name attrs kids nothing) (take 0 c.args.text.now)) = λ name attrs kids anc x h. let a = c.args in subst (λ (o : FormatOpts). Writes (length a.text.now) c.kids.new.text c.kids.result (write_kids (self_at a.self.now.skip a.levels) anc o (element name attrs kids nothing) (take 0 a.text.now))) (c.packed-bits.ensures ∙ c.table_cell-inner.ensures ∙ ap table_cell c.fresh.ensures) (c.kids.ensures.writes_element.for name attrs kids anc x h) in
+cell-returns-in_err-kids t c =
+    let wrote_here : (name : Bytes) (attrs : List Attr) (kids : Forest) (anc : Ancestors) → ElementAt c.args.self.now.sheet.now c.args.nodes.now c.args.c name attrs kids → Around c.args.self.now.sheet.now c.args.nodes.now (parent_at c.args.nodes.now c.args.c) anc → Writes (length c.args.room.now) c.kids.new.text.room.now c.kids.result (write_kids (self_at c.args.self.now.skip c.args.levels) anc (table_cell (fresh c.args.opts)) (element name attrs kids nothing) (take 0 c.args.room.now)) = λ name attrs kids anc x h. let a = c.args in subst (λ (o : FormatOpts). Writes (length a.room.now) c.kids.new.text.room.now c.kids.result (write_kids (self_at a.self.now.skip a.levels) anc o (element name attrs kids nothing) (take 0 a.room.now))) (c.packed-bits.ensures ∙ c.table_cell-inner.ensures ∙ ap table_cell c.fresh.ensures) (c.kids.ensures.writes_element.for name attrs kids anc x h) in
     let a = c.args in record {
       kept = c.kids.ensures.kept;
       writes = λ name attrs kids anc th x h.
           let f = write_kids (self_at a.self.now.skip a.levels) anc (table_cell (fresh a.opts)) (element name attrs kids nothing) in
-          stops c.from_residual.ensures.0 (owes_stop (owes_all a.text.now 0 (λ u. and_then (and_then (f u) trim_trailing_cell_break) escape_table_cell_inplace) (omega arith) refl) f (λ u. and_then (trim_trailing_cell_break u) escape_table_cell_inplace) (then_assoc (f (take 0 a.text.now)) trim_trailing_cell_break escape_table_cell_inplace) c.in_err-n.was (wrote_here _ _ _ anc x h));
+          stops c.from_residual.ensures.0 (owes_stop (owes_all a.room.now 0 (λ u. and_then (and_then (f u) trim_trailing_cell_break) escape_table_cell_inplace) (omega arith) refl) f (λ u. and_then (trim_trailing_cell_break u) escape_table_cell_inplace) (then_assoc (f (take 0 a.room.now)) trim_trailing_cell_break escape_table_cell_inplace) (ap (wrote c.kids.new.text) c.in_err-kids.was) (wrote_here _ _ _ anc x h));
     }
 
 pub cells-next_row-r-requires : goal.cells-next_row-r-requires
@@ -323,18 +337,19 @@ cells-next_row-r-requires t c =
 pub cells-loop-r-init : goal.cells-loop-r-init
 cells-loop-r-init t c =
     let a = c.args in
-    rows_start (serializer (tags_to_skip (skip_of a.self.now.skip)) a.levels) a.opts c.requires.0 c.requires.1 c.next_row-r.ensures.later c.next_row-r.ensures.rows a.text.now a.len c.requires.2.0
+    rows_start (serializer (tags_to_skip (skip_of a.self.now.skip)) a.levels) a.opts c.requires.0 c.requires.1 c.next_row-r.ensures.later c.next_row-r.ensures.rows a.text.now.room.now a.text.now.len c.args.text.now.fits
 
 pub cells-row-requires : goal.cells-row-requires
 cells-row-requires t c =
-    (falls_in c.args.levels c.decreases (lit< tt), (rows_row c.loop-r.invariant c.loop-r-test.true, (rows_reach c.loop-r.invariant, c.requires.2.1), c.requires.3))
+    (falls_in c.args.levels c.decreases (lit< tt), (rows_row c.loop-r.invariant c.loop-r-test.true, (rows_reach c.loop-r.invariant, c.requires.2), c.requires.3))
 
-pub cells-returns-in_err-end : goal.cells-returns-in_err-end
-cells-returns-in_err-end t c =
+pub cells-returns-in_err-row : goal.cells-returns-in_err-row
+cells-returns-in_err-row t c =
     let p = c.loop-r.invariant in
     record {
+      room = room_on (c.loop-r.invariant.0) (c.row.ensures.room);
       kept = rows_keep p c.loop-r-test.true c.row.ensures.kept;
-      rows_writes = λ rows x. stops_rows c.from_residual.ensures.0 (rows_stop p c.loop-r-test.true _ c.row.ensures.row_writes c.in_err-end.was _ _ rows x);
+      rows_writes = λ rows x. stops_rows c.from_residual.ensures.0 (rows_stop p c.loop-r-test.true _ c.row.ensures.row_writes (ap (wrote c.row.new.text) c.in_err-row.was) _ _ rows x);
     }
 
 pub cells-next_row-r-requires-in-loop-r : goal.cells-next_row-r-requires-in-loop-r
@@ -347,7 +362,7 @@ cells-loop-r-smaller t c =
 
 pub cells-loop-r-preserved : goal.cells-loop-r-preserved
 cells-loop-r-preserved t c =
-    rows_on c.loop-r.invariant c.loop-r-test.true _ c.row.ensures.row_writes c.in_ok-end.was c.row.ensures.kept _ c.next_row-r-in-loop-r.ensures.later c.next_row-r-in-loop-r.ensures.rows
+    rows_on c.loop-r.invariant c.loop-r-test.true _ c.row.ensures.row_writes (ap (wrote c.row.new.text) c.in_ok-row.was) c.row.ensures.kept _ c.next_row-r-in-loop-r.ensures.later c.next_row-r-in-loop-r.ensures.rows
 
 pub cells-shape_of-nodes : goal.cells-shape_of-nodes
 cells-shape_of-nodes t c =
@@ -360,6 +375,7 @@ cells-shape_of-text t c =
 pub cells-returns : goal.cells-returns
 cells-returns t c =
     record {
+      room = c.loop-r.invariant.0;
       kept = c.loop-r.invariant.kept;
       rows_writes = rows_end c.loop-r.invariant c.loop-r-test.false;
     }
@@ -411,39 +427,43 @@ child-alone-requires t c =
 pub child-returns-then-tag : goal.child-returns-then-tag
 child-returns-then-tag t c =
     record {
+      room = (refl, refl);
       kept = kept_none c.args.nodes.now;
-      goes_forest = child_comment c.args.self.now.sheet.now c.args.nodes.now c.args.c c.node_place-place.ensures (tags_to_skip (skip_of c.args.self.now.skip)) c.args.levels (item_of c.args.item) c.args.before.first c.args.before.due c.args.text.now c.args.before.len c.requires.2.0 c.tag_at-tag.ensures c.if-tag.true;
+      goes_forest = child_comment c.args.self.now.sheet.now c.args.nodes.now c.args.c c.node_place-place.ensures (tags_to_skip (skip_of c.args.self.now.skip)) c.args.levels (item_of c.args.item) c.args.before.first c.args.before.due c.args.text.now.room.now c.args.text.now.len c.args.text.now.fits c.tag_at-tag.ensures c.if-tag.true;
     }
 
 pub child-returns-then-node_is_skipped : goal.child-returns-then-node_is_skipped
 child-returns-then-node_is_skipped t c =
     record {
+      room = (refl, refl);
       kept = kept_none c.args.nodes.now;
-      goes_forest = child_skipped c.args.self.now.sheet.now c.args.nodes.now c.args.c c.node_place-place.ensures (tags_to_skip (skip_of c.args.self.now.skip)) c.args.levels (item_of c.args.item) c.args.before.first c.args.before.due c.args.text.now c.args.before.len c.requires.2.0 c.node_is_skipped.ensures c.if-node_is_skipped.true;
+      goes_forest = child_skipped c.args.self.now.sheet.now c.args.nodes.now c.args.c c.node_place-place.ensures (tags_to_skip (skip_of c.args.self.now.skip)) c.args.levels (item_of c.args.item) c.args.before.first c.args.before.due c.args.text.now.room.now c.args.text.now.len c.args.text.now.fits c.node_is_skipped.ensures c.if-node_is_skipped.true;
     }
 
 pub child-returns-then-node_is_block_wrapper : goal.child-returns-then-node_is_block_wrapper
 child-returns-then-node_is_block_wrapper t c =
     record {
+      room = c.children.ensures.room;
       kept = kept_in (omega arith) (omega (arith, c.node_end-end.ensures)) c.children.ensures.kept;
-      goes_forest = child_wrapper c.args.self.now.sheet.now c.args.nodes.now c.args.c c.node_place-place.ensures (tags_to_skip (skip_of c.args.self.now.skip)) c.args.levels (item_of c.args.item) c.args.before.first c.args.before.due c.args.text.now c.args.before.len c.node_is_skipped.ensures c.if-node_is_skipped.false c.requires.0.later c.node_is_block_wrapper.ensures c.node_end-end.ensures c.if-node_is_block_wrapper.true c.requires.0.alone.positive c.children.ensures.goes_forest;
+      goes_forest = child_wrapper c.args.self.now.sheet.now c.args.nodes.now c.args.c c.node_place-place.ensures (tags_to_skip (skip_of c.args.self.now.skip)) c.args.levels (item_of c.args.item) c.args.before.first c.args.before.due c.args.text.now.room.now c.args.text.now.len c.node_is_skipped.ensures c.if-node_is_skipped.false c.requires.0.later c.node_is_block_wrapper.ensures c.node_end-end.ensures c.if-node_is_block_wrapper.true c.requires.0.alone.positive c.children.ensures.goes_forest;
     }
 
 pub child-returns : goal.child-returns
 child-returns t c =
     record {
+      room = c.alone.ensures.room;
       kept = c.alone.ensures.kept;
-      goes_forest = child_alone c.args.self.now.sheet.now c.args.nodes.now c.args.c c.node_place-place.ensures (tags_to_skip (skip_of c.args.self.now.skip)) c.args.levels (item_of c.args.item) c.args.before.first c.args.before.due c.args.text.now c.args.before.len c.node_is_skipped.ensures c.if-node_is_skipped.false c.requires.0.later c.node_is_block_wrapper.ensures c.tag_at-tag.ensures c.if-tag.false c.if-node_is_block_wrapper.false c.is_blank_text-blank.ensures c.alone.ensures.goes_forest;
+      goes_forest = child_alone c.args.self.now.sheet.now c.args.nodes.now c.args.c c.node_place-place.ensures (tags_to_skip (skip_of c.args.self.now.skip)) c.args.levels (item_of c.args.item) c.args.before.first c.args.before.due c.args.text.now.room.now c.args.text.now.len c.node_is_skipped.ensures c.if-node_is_skipped.false c.requires.0.later c.node_is_block_wrapper.ensures c.tag_at-tag.ensures c.if-tag.false c.if-node_is_block_wrapper.false c.is_blank_text-blank.ensures c.alone.ensures.goes_forest;
     }
 
 pub children-loop-c-init : goal.children-loop-c-init
 children-loop-c-init t c = (
-  c.requires.1.0,
+  c.args.text.now.fits,
   refl,
   kept_none c.args.nodes.now,
   omega arith,
   c.requires.0,
-  going_first c.args.self.now.sheet.now c.args.nodes.now c.args.from c.args.to (self_at c.args.self.now.skip c.args.levels) (item_of c.args.item) c.args.text.now c.args.before c.requires.1.0,
+  going_first c.args.self.now.sheet.now c.args.nodes.now c.args.from c.args.to (self_at c.args.self.now.skip c.args.levels) (item_of c.args.item) c.args.text.now.room.now c.args.before c.args.text.now.fits,
 )
 
 pub children-child-requires : goal.children-child-requires
@@ -451,14 +471,15 @@ children-child-requires t c =
     let l = c.loop-c in
     let lt = c.loop-c-test.true in (
       child_falls c.args.levels c.decreases l.invariant.3 lt,
-      (node_kept l.invariant.2 (placeds_first l.invariant.4 lt), omega (arith, end_kept l.invariant.2 l.c, placeds_within l.invariant.4 lt), (l.invariant.0, c.requires.1.1), c.requires.2),
+      (node_kept l.invariant.2 (placeds_first l.invariant.4 lt), omega (arith, end_kept l.invariant.2 l.c, placeds_within l.invariant.4 lt), (l.invariant.0, c.requires.1), c.requires.2),
     )
 
 pub children-returns-in_err-going : goal.children-returns-in_err-going
 children-returns-in_err-going t c =
     let kept_here : Kept c.args.from c.args.to c.args.nodes.now c.child.new.nodes = let l = c.loop-c in let lt = c.loop-c-test.true in kept_then l.invariant.2 (kept_in l.invariant.3 (omega (arith, end_kept l.invariant.2 l.c, placeds_within l.invariant.4 lt)) c.child.ensures.kept) in
-    let went_on_here : GoesForest c.args.self.now.sheet.now c.args.nodes.now c.loop-c.c (end_at c.args.nodes.now c.loop-c.c) (λ anc f. item_children (self_at c.args.self.now.skip c.args.levels) anc f (item_of c.args.item) (progress_of c.loop-c.going c.loop-c.text)) (length c.loop-c.text) c.child.new.text c.child.result = goes_before c.loop-c.invariant.2 c.child.ensures.goes_forest in
+    let went_on_here : GoesForest c.args.self.now.sheet.now c.args.nodes.now c.loop-c.c (end_at c.args.nodes.now c.loop-c.c) (λ anc f. item_children (self_at c.args.self.now.skip c.args.levels) anc f (item_of c.args.item) (progress_of c.loop-c.going c.loop-c.text)) (length c.loop-c.text) c.child.new.text.room.now c.child.result = goes_before c.loop-c.invariant.2 c.child.ensures.goes_forest in
     record {
+      room = room_on (c.loop-c.invariant.0) (c.child.ensures.room);
       kept = kept_here;
       goes_forest = stops_going c.from_residual.ensures.0 (record { for = λ parent f anc h a. going_stop c.loop-c.invariant.5 c.loop-c-test.true (went_on_here) c.in_err-going.was parent f anc h a });
     }
@@ -476,7 +497,7 @@ children-loop-c-smaller t c =
 pub children-loop-c-preserved : goal.children-loop-c-preserved
 children-loop-c-preserved t c =
     let kept_here : Kept c.args.from c.args.to c.args.nodes.now c.child.new.nodes = let l = c.loop-c in let lt = c.loop-c-test.true in kept_then l.invariant.2 (kept_in l.invariant.3 (omega (arith, end_kept l.invariant.2 l.c, placeds_within l.invariant.4 lt)) c.child.ensures.kept) in
-    let went_on_here : GoesForest c.args.self.now.sheet.now c.args.nodes.now c.loop-c.c (end_at c.args.nodes.now c.loop-c.c) (λ anc f. item_children (self_at c.args.self.now.skip c.args.levels) anc f (item_of c.args.item) (progress_of c.loop-c.going c.loop-c.text)) (length c.loop-c.text) c.child.new.text c.child.result = goes_before c.loop-c.invariant.2 c.child.ensures.goes_forest in
+    let went_on_here : GoesForest c.args.self.now.sheet.now c.args.nodes.now c.loop-c.c (end_at c.args.nodes.now c.loop-c.c) (λ anc f. item_children (self_at c.args.self.now.skip c.args.levels) anc f (item_of c.args.item) (progress_of c.loop-c.going c.loop-c.text)) (length c.loop-c.text) c.child.new.text.room.now c.child.result = goes_before c.loop-c.invariant.2 c.child.ensures.goes_forest in
     let l = c.loop-c in
     let lt = c.loop-c-test.true in
     let K = kept_here in
@@ -494,55 +515,59 @@ children-loop-c-preserved t c =
 pub children-returns : goal.children-returns
 children-returns t c =
     record {
+      room = c.loop-c.invariant.0;
       kept = c.loop-c.invariant.2;
       goes_forest = record { for = λ parent f anc h a. going_last c.loop-c.invariant.5 c.loop-c-test.false parent f anc h a };
     }
 
-pub flat-write_list_item-requires : goal.flat-write_list_item-requires
-flat-write_list_item-requires t c =
-    (c.requires.1.0, fits_in c.args.levels c.args.ctx.now c.requires.2)
+pub flat-start_item-requires : goal.flat-start_item-requires
+flat-start_item-requires t c =
+    (c.args.text.now.fits, fits_in c.args.levels c.args.ctx.now c.requires.2)
 
 pub flat-packed-bits-requires : goal.flat-packed-bits-requires
 flat-packed-bits-requires t c =
-    omega (arith, fits_item c.args.levels c.args.ctx.now c.write_list_item.new.ctx c.list_item-inner.result c.write_list_item.ensures.1 c.list_item-inner.ensures c.requires.2)
+    omega (arith, fits_item c.args.levels c.args.ctx.now c.start_item.new.ctx c.list_item-inner.result c.start_item.ensures.1 c.list_item-inner.ensures c.requires.2)
 
 pub flat-kids-requires : goal.flat-kids-requires
 flat-kids-requires t c =
-    (falls_in c.args.levels c.decreases (lit< tt), (c.requires.0, (reaches (done c.in_ok-n.was c.write_list_item.ensures.0), c.requires.1.1), fits_item c.args.levels c.args.ctx.now c.write_list_item.new.ctx (unpacked c.packed-bits.result) c.write_list_item.ensures.1 (c.packed-bits.ensures ∙ c.list_item-inner.ensures) c.requires.2))
+    (falls_in c.args.levels c.decreases (lit< tt), (c.requires.0, c.requires.1, fits_item c.args.levels c.args.ctx.now c.start_item.new.ctx (unpacked c.packed-bits.result) c.start_item.ensures.1 (c.packed-bits.ensures ∙ c.list_item-inner.ensures) c.requires.2))
 
 pub flat-push_linebreak-requires : goal.flat-push_linebreak-requires
 flat-push_linebreak-requires t c =
-    written-reaches c.kids.ensures.writes_element c.requires.0 c.in_ok-m.was
+    written-reaches c.kids.ensures.writes_element c.requires.0 (ap (wrote c.kids.new.text) c.in_ok-kids.was)
 
 pub flat-returns : goal.flat-returns
 flat-returns t c =
-    let begun_here : (anc : Ancestors) (node : Forest) → let self = self_at c.args.self.now.skip c.args.levels in Owes (length c.args.text.now) c.write_list_item.new.text c.in_ok-n.n (λ u. and_then (write_kids self anc (unpacked c.packed-bits.result) node u) (push (break_of c.write_list_item.new.ctx))) (write_list_item self anc node c.args.ctx.now (take c.args.len c.args.text.now)) = λ anc node. let self = self_at c.args.self.now.skip c.args.levels in owes_step (owes_all c.args.text.now c.args.len (write_list_item self anc node c.args.ctx.now) c.requires.1.0 refl) (begin_item false c.args.ctx.now) (λ u. and_then (write_kids self anc (unpacked c.packed-bits.result) node u) (push (break_of c.write_list_item.new.ctx))) (item_parts self anc node c.args.ctx.now c.write_list_item.new.ctx (unpacked c.packed-bits.result) (take c.args.len c.args.text.now) c.write_list_item.ensures.1 (c.packed-bits.ensures ∙ c.list_item-inner.ensures)) c.in_ok-n.was c.write_list_item.ensures.0 in
+    let begun_here : (anc : Ancestors) (node : Forest) → let self = self_at c.args.self.now.skip c.args.levels in Owes (length c.args.text.now.room.now) c.start_item.new.text.room.now c.start_item.new.text.len (λ u. and_then (write_kids self anc (unpacked c.packed-bits.result) node u) (push (break_of c.start_item.new.ctx))) (write_list_item self anc node c.args.ctx.now (take c.args.text.now.len c.args.text.now.room.now)) = λ anc node. let self = self_at c.args.self.now.skip c.args.levels in owes_step (owes_all c.args.text.now.room.now c.args.text.now.len (write_list_item self anc node c.args.ctx.now) c.args.text.now.fits refl) (begin_item false c.args.ctx.now) (λ u. and_then (write_kids self anc (unpacked c.packed-bits.result) node u) (push (break_of c.start_item.new.ctx))) (item_parts self anc node c.args.ctx.now c.start_item.new.ctx (unpacked c.packed-bits.result) (take c.args.text.now.len c.args.text.now.room.now) c.start_item.ensures.1 (c.packed-bits.ensures ∙ c.list_item-inner.ensures)) (ap (wrote c.start_item.new.text) c.in_ok-start_item.was) c.start_item.ensures.0.writes in
     let self = self_at c.args.self.now.skip c.args.levels in record {
+      room = room_on (leaf_room c.start_item.ensures.0) (room_on (c.kids.ensures.room) (leaf_room c.push_linebreak.ensures));
       kept = c.kids.ensures.kept;
-      writes_element = record { for = λ name attrs kids anc x a. owes_last (owes_step (begun_here anc (element name attrs kids nothing)) (write_kids self anc (unpacked c.packed-bits.result) (element name attrs kids nothing)) (push (break_of c.write_list_item.new.ctx)) refl c.in_ok-m.was (c.kids.ensures.writes_element.for name attrs kids anc x a)) c.push_linebreak.ensures };
-      ctx_value = c.write_list_item.ensures.1;
+      writes_element = record { for = λ name attrs kids anc x a. owes_last (owes_step (begun_here anc (element name attrs kids nothing)) (write_kids self anc (unpacked c.packed-bits.result) (element name attrs kids nothing)) (push (break_of c.start_item.new.ctx)) refl (ap (wrote c.kids.new.text) c.in_ok-kids.was) (c.kids.ensures.writes_element.for name attrs kids anc x a)) c.push_linebreak.ensures.writes };
+      ctx_value = c.start_item.ensures.1;
     }
 
-pub flat-returns-in_err-m : goal.flat-returns-in_err-m
-flat-returns-in_err-m t c =
-    let begun_here : (anc : Ancestors) (node : Forest) → let self = self_at c.args.self.now.skip c.args.levels in Owes (length c.args.text.now) c.write_list_item.new.text c.in_ok-n.n (λ u. and_then (write_kids self anc (unpacked c.packed-bits.result) node u) (push (break_of c.write_list_item.new.ctx))) (write_list_item self anc node c.args.ctx.now (take c.args.len c.args.text.now)) = λ anc node. let self = self_at c.args.self.now.skip c.args.levels in owes_step (owes_all c.args.text.now c.args.len (write_list_item self anc node c.args.ctx.now) c.requires.1.0 refl) (begin_item false c.args.ctx.now) (λ u. and_then (write_kids self anc (unpacked c.packed-bits.result) node u) (push (break_of c.write_list_item.new.ctx))) (item_parts self anc node c.args.ctx.now c.write_list_item.new.ctx (unpacked c.packed-bits.result) (take c.args.len c.args.text.now) c.write_list_item.ensures.1 (c.packed-bits.ensures ∙ c.list_item-inner.ensures)) c.in_ok-n.was c.write_list_item.ensures.0 in
+pub flat-returns-in_err-kids : goal.flat-returns-in_err-kids
+flat-returns-in_err-kids t c =
+    let begun_here : (anc : Ancestors) (node : Forest) → let self = self_at c.args.self.now.skip c.args.levels in Owes (length c.args.text.now.room.now) c.start_item.new.text.room.now c.start_item.new.text.len (λ u. and_then (write_kids self anc (unpacked c.packed-bits.result) node u) (push (break_of c.start_item.new.ctx))) (write_list_item self anc node c.args.ctx.now (take c.args.text.now.len c.args.text.now.room.now)) = λ anc node. let self = self_at c.args.self.now.skip c.args.levels in owes_step (owes_all c.args.text.now.room.now c.args.text.now.len (write_list_item self anc node c.args.ctx.now) c.args.text.now.fits refl) (begin_item false c.args.ctx.now) (λ u. and_then (write_kids self anc (unpacked c.packed-bits.result) node u) (push (break_of c.start_item.new.ctx))) (item_parts self anc node c.args.ctx.now c.start_item.new.ctx (unpacked c.packed-bits.result) (take c.args.text.now.len c.args.text.now.room.now) c.start_item.ensures.1 (c.packed-bits.ensures ∙ c.list_item-inner.ensures)) (ap (wrote c.start_item.new.text) c.in_ok-start_item.was) c.start_item.ensures.0.writes in
     let self = self_at c.args.self.now.skip c.args.levels in record {
+      room = room_on (leaf_room c.start_item.ensures.0) (c.kids.ensures.room);
       kept = c.kids.ensures.kept;
-      writes_element = stops_element c.from_residual-in_err-m.ensures.0 (record { for = λ name attrs kids anc x a. owes_stop (begun_here anc (element name attrs kids nothing)) (write_kids self anc (unpacked c.packed-bits.result) (element name attrs kids nothing)) (push (break_of c.write_list_item.new.ctx)) refl c.in_err-m.was (c.kids.ensures.writes_element.for name attrs kids anc x a) });
-      ctx_value = c.write_list_item.ensures.1;
+      writes_element = stops_element c.from_residual-in_err-kids.ensures.0 (record { for = λ name attrs kids anc x a. owes_stop (begun_here anc (element name attrs kids nothing)) (write_kids self anc (unpacked c.packed-bits.result) (element name attrs kids nothing)) (push (break_of c.start_item.new.ctx)) refl (ap (wrote c.kids.new.text) c.in_err-kids.was) (c.kids.ensures.writes_element.for name attrs kids anc x a) });
+      ctx_value = c.start_item.ensures.1;
     }
 
-pub flat-returns-in_err-n : goal.flat-returns-in_err-n
-flat-returns-in_err-n t c =
+pub flat-returns-in_err-start_item : goal.flat-returns-in_err-start_item
+flat-returns-in_err-start_item t c =
     let self = self_at c.args.self.now.skip c.args.levels in record {
+      room = leaf_room c.start_item.ensures.0;
       kept = kept_none c.args.nodes.now;
       writes_element = stops_element c.from_residual.ensures.0 (record {
         for = λ name attrs kids anc x a.
-            both-full c.args.text.now c.args.len c.requires.1.0 (write_list_item self anc (element name attrs kids nothing) c.args.ctx.now) (begin_item false c.args.ctx.now)
-            (λ u. and_then (write_kids self anc (list_item c.write_list_item.new.ctx.opts) (element name attrs kids nothing) u) (push (break_of c.write_list_item.new.ctx)))
-            (item_parts self anc (element name attrs kids nothing) c.args.ctx.now c.write_list_item.new.ctx (list_item c.write_list_item.new.ctx.opts) (take c.args.len c.args.text.now) c.write_list_item.ensures.1 refl) c.write_list_item.ensures.0 c.in_err-n.was;
+            both-full c.args.text.now.room.now c.args.text.now.len c.args.text.now.fits (write_list_item self anc (element name attrs kids nothing) c.args.ctx.now) (begin_item false c.args.ctx.now)
+            (λ u. and_then (write_kids self anc (list_item c.start_item.new.ctx.opts) (element name attrs kids nothing) u) (push (break_of c.start_item.new.ctx)))
+            (item_parts self anc (element name attrs kids nothing) c.args.ctx.now c.start_item.new.ctx (list_item c.start_item.new.ctx.opts) (take c.args.text.now.len c.args.text.now.room.now) c.start_item.ensures.1 refl) c.start_item.ensures.0.writes (ap (wrote c.start_item.new.text) c.in_err-start_item.was);
       });
-      ctx_value = c.write_list_item.ensures.1;
+      ctx_value = c.start_item.ensures.1;
     }
 
 pub flow-indented-requires : goal.flow-indented-requires
@@ -558,41 +583,45 @@ flow-kids-requires t c = (
   falls_in c.args.levels c.decreases (lit< tt),
   (
     c.requires.0,
-    (reaches (done c.in_ok-n.was c.push_heading_prefix.ensures), c.requires.2.1),
+    c.requires.2,
     fits_alike (unpacked c.packed-bits.result) c.args.item.ctx.opts c.args.levels (ap (λ (o : FormatOpts). o.offset) (c.packed-bits.ensures ∙ c.list_item-inner.ensures)) c.requires.3.0,
   ),
 )
 
 pub flow-end_flow-requires : goal.flow-end_flow-requires
 flow-end_flow-requires t c =
-    element_reaches c.requires.0 c.kids.ensures.writes_element c.in_ok-m.was
+    element_reaches c.requires.0 c.kids.ensures.writes_element (ap (wrote c.kids.new.text) c.in_ok-kids.was)
 
-pub flow-returns-then-name-eq23 : goal.flow-returns-then-name-eq23
-flow-returns-then-name-eq23 t c =
+pub flow-returns-then-name-eq-PRE : goal.flow-returns-then-name-eq-PRE
+flow-returns-then-name-eq-PRE t c =
     record {
+      room = c.indented.ensures.room;
       kept = c.indented.ensures.kept;
-      writes_element = body_pre c.args.self.now.sheet.now c.args.nodes.now c.args.c c.requires.1 (self_at c.args.self.now.skip c.args.levels) (item_of c.args.item) c.if-name-eq23.true c.indented.ensures.writes_element;
+      writes_element = body_pre c.args.self.now.sheet.now c.args.nodes.now c.args.c c.requires.1 (self_at c.args.self.now.skip c.args.levels) (item_of c.args.item) c.if-name-eq-PRE.true c.indented.ensures.writes_element;
     }
 
 pub flow-returns : goal.flow-returns
 flow-returns t c =
     record {
+      room = room_on (leaf_room c.push_heading_prefix.ensures) (room_on (c.kids.ensures.room) (leaf_room c.end_flow.ensures));
       kept = c.kids.ensures.kept;
-      writes_element = flow_done c.args.self.now.sheet.now c.args.nodes.now c.args.c c.requires.1 (self_at c.args.self.now.skip c.args.levels) (item_of c.args.item) c.if-name-eq23.false c.args.text.now c.args.len c.requires.2.0 c.push_heading_prefix.ensures c.in_ok-n.was (c.packed-bits.ensures ∙ c.list_item-inner.ensures) c.kids.ensures.writes_element c.in_ok-m.was c.end_flow.ensures;
+      writes_element = flow_done c.args.self.now.sheet.now c.args.nodes.now c.args.c c.requires.1 (self_at c.args.self.now.skip c.args.levels) (item_of c.args.item) c.if-name-eq-PRE.false c.args.text.now.room.now c.args.text.now.len c.args.text.now.fits c.push_heading_prefix.ensures.writes (ap (wrote c.push_heading_prefix.new.text) c.in_ok-push_heading_prefix.was) (c.packed-bits.ensures ∙ c.list_item-inner.ensures) c.kids.ensures.writes_element (ap (wrote c.kids.new.text) c.in_ok-kids.was) c.end_flow.ensures.writes;
     }
 
-pub flow-returns-in_err-m : goal.flow-returns-in_err-m
-flow-returns-in_err-m t c =
+pub flow-returns-in_err-kids : goal.flow-returns-in_err-kids
+flow-returns-in_err-kids t c =
     record {
+      room = room_on (leaf_room c.push_heading_prefix.ensures) (c.kids.ensures.room);
       kept = c.kids.ensures.kept;
-      writes_element = stops_element c.from_residual-in_err-m.ensures.0 (flow_full c.args.self.now.sheet.now c.args.nodes.now c.args.c c.requires.1 (self_at c.args.self.now.skip c.args.levels) (item_of c.args.item) c.if-name-eq23.false c.args.text.now c.args.len c.requires.2.0 c.push_heading_prefix.ensures c.in_ok-n.was (c.packed-bits.ensures ∙ c.list_item-inner.ensures) c.kids.ensures.writes_element c.in_err-m.was);
+      writes_element = stops_element c.from_residual-in_err-kids.ensures.0 (flow_full c.args.self.now.sheet.now c.args.nodes.now c.args.c c.requires.1 (self_at c.args.self.now.skip c.args.levels) (item_of c.args.item) c.if-name-eq-PRE.false c.args.text.now.room.now c.args.text.now.len c.args.text.now.fits c.push_heading_prefix.ensures.writes (ap (wrote c.push_heading_prefix.new.text) c.in_ok-push_heading_prefix.was) (c.packed-bits.ensures ∙ c.list_item-inner.ensures) c.kids.ensures.writes_element (ap (wrote c.kids.new.text) c.in_err-kids.was));
     }
 
-pub flow-returns-in_err-n : goal.flow-returns-in_err-n
-flow-returns-in_err-n t c =
+pub flow-returns-in_err-push_heading_prefix : goal.flow-returns-in_err-push_heading_prefix
+flow-returns-in_err-push_heading_prefix t c =
     record {
+      room = leaf_room c.push_heading_prefix.ensures;
       kept = kept_none c.args.nodes.now;
-      writes_element = stops_element c.from_residual.ensures.0 (flow_none c.args.self.now.sheet.now c.args.nodes.now c.args.c c.requires.1 (self_at c.args.self.now.skip c.args.levels) (item_of c.args.item) c.if-name-eq23.false c.args.text.now c.args.len c.requires.2.0 c.push_heading_prefix.ensures c.in_err-n.was);
+      writes_element = stops_element c.from_residual.ensures.0 (flow_none c.args.self.now.sheet.now c.args.nodes.now c.args.c c.requires.1 (self_at c.args.self.now.skip c.args.levels) (item_of c.args.item) c.if-name-eq-PRE.false c.args.text.now.room.now c.args.text.now.len c.args.text.now.fits c.push_heading_prefix.ensures.writes (ap (wrote c.push_heading_prefix.new.text) c.in_err-push_heading_prefix.was));
     }
 
 pub indented-node_end-to-requires : goal.indented-node_end-to-requires
@@ -603,32 +632,34 @@ pub indented-packed-requires : goal.indented-packed-requires
 indented-packed-requires t c =
     omega (arith, fits_alike c.include_node-inner.result c.args.item.ctx.opts c.args.levels (ap (λ (o : FormatOpts). o.offset) c.include_node-inner.ensures) c.requires.2.0)
 
-pub indented-write-requires : goal.indented-write-requires
-indented-write-requires t c = (
+pub indented-write_behind-requires : goal.indented-write_behind-requires
+indented-write_behind-requires t c = (
   falls_in c.args.levels c.decreases (lit< tt),
   (
     node_range c.node_end-to.ensures (placed_alone c.args.self.now.sheet.now c.args.nodes.now c.args.c c.requires.0),
-    (omega arith, c.requires.1.1),
+    c.requires.1,
     fits_alike (unpacked c.packed.result) c.args.item.ctx.opts c.args.levels (ap (λ (o : FormatOpts). o.offset) (c.packed.ensures ∙ c.include_node-inner.ensures)) c.requires.2.0,
   ),
 )
 
 pub indented-push_indented-requires : goal.indented-push_indented-requires
 indented-push_indented-requires t c =
-    indented_fits (tags_to_skip (skip_of c.args.self.now.skip)) c.args.levels (item_of c.args.item) c.node_end-to.ensures (c.packed.ensures ∙ c.include_node-inner.ensures) c.args.text.now c.args.len c.requires.1.0 c.write.ensures.writes_forest c.requires.0 c.in_ok-n.was
+    indented_fits (tags_to_skip (skip_of c.args.self.now.skip)) c.args.levels (item_of c.args.item) c.node_end-to.ensures (c.packed.ensures ∙ c.include_node-inner.ensures) c.args.text.now.room.now c.args.text.now.len c.args.text.now.fits c.write_behind.ensures.writes_forest c.requires.0 c.in_ok-n.was
 
 pub indented-returns : goal.indented-returns
 indented-returns t c =
     record {
-      kept = subst (λ (k : ℕ). Kept c.args.c k c.args.nodes.now c.write.new.nodes) c.node_end-to.ensures c.write.ensures.kept;
-      writes_element = indented_done (tags_to_skip (skip_of c.args.self.now.skip)) c.args.levels (item_of c.args.item) c.node_end-to.ensures (c.packed.ensures ∙ c.include_node-inner.ensures) c.args.text.now c.args.len c.requires.1.0 c.write.ensures.writes_forest c.in_ok-n.was c.push_indented.ensures;
+      room = room_on (room_behind c.args.text.now c.write_behind.auto.room) (leaf_room c.push_indented.ensures);
+      kept = subst (λ (k : ℕ). Kept c.args.c k c.args.nodes.now c.write_behind.new.nodes) c.node_end-to.ensures c.write_behind.ensures.kept;
+      writes_element = indented_done (tags_to_skip (skip_of c.args.self.now.skip)) c.args.levels (item_of c.args.item) c.node_end-to.ensures (c.packed.ensures ∙ c.include_node-inner.ensures) c.args.text.now.room.now c.args.text.now.len c.args.text.now.fits c.write_behind.ensures.writes_forest c.in_ok-n.was c.push_indented.ensures.writes;
     }
 
 pub indented-returns-in_err-n : goal.indented-returns-in_err-n
 indented-returns-in_err-n t c =
     record {
-      kept = subst (λ (k : ℕ). Kept c.args.c k c.args.nodes.now c.write.new.nodes) c.node_end-to.ensures c.write.ensures.kept;
-      writes_element = stops_element c.from_residual.ensures.0 (indented_full (tags_to_skip (skip_of c.args.self.now.skip)) c.args.levels (item_of c.args.item) c.node_end-to.ensures (c.packed.ensures ∙ c.include_node-inner.ensures) c.args.text.now c.args.len c.requires.1.0 c.write.ensures.writes_forest c.in_err-n.was);
+      room = room_behind c.args.text.now c.write_behind.auto.room;
+      kept = subst (λ (k : ℕ). Kept c.args.c k c.args.nodes.now c.write_behind.new.nodes) c.node_end-to.ensures c.write_behind.ensures.kept;
+      writes_element = stops_element c.from_residual.ensures.0 (indented_full (tags_to_skip (skip_of c.args.self.now.skip)) c.args.levels (item_of c.args.item) c.node_end-to.ensures (c.packed.ensures ∙ c.include_node-inner.ensures) c.args.text.now.room.now c.args.text.now.len c.args.text.now.fits c.write_behind.ensures.writes_forest c.in_err-n.was);
     }
 
 pub inline-node_end-to-requires : goal.inline-node_end-to-requires
@@ -644,7 +675,7 @@ inline-write-requires t c = (
   falls_in c.args.levels c.decreases (lit< tt),
   (
     node_range c.node_end-to.ensures c.requires.0,
-    (reaches (done c.in_ok-n.was c.push_inline_lead.ensures), c.requires.2.1),
+    c.requires.2,
     fits_alike (unpacked c.packed.result) c.args.item.ctx.opts c.args.levels (ap (λ (o : FormatOpts). o.offset) (c.packed.ensures ∙ c.child_opts-inner.ensures) ∙ child_offset c.args.name c.args.item.ctx.opts) c.requires.3.0,
   ),
 )
@@ -652,15 +683,17 @@ inline-write-requires t c = (
 pub inline-returns : goal.inline-returns
 inline-returns t c =
     record {
+      room = room_on (leaf_room c.push_inline_lead.ensures) (c.write.ensures.room);
       kept = subst (λ (k : ℕ). Kept c.args.c k c.args.nodes.now c.write.new.nodes) c.node_end-to.ensures c.write.ensures.kept;
-      writes_forest = inline_done c.args.self.now.sheet.now c.args.nodes.now c.args.c c.requires.1 (tags_to_skip (skip_of c.args.self.now.skip)) c.args.levels (item_of c.args.item) c.args.blank c.requires.0.later c.args.text.now c.args.len c.requires.2.0 c.push_inline_lead.ensures c.in_ok-n.was c.node_end-to.ensures (c.packed.ensures ∙ c.child_opts-inner.ensures) c.write.ensures.writes_forest;
+      writes_forest = inline_done c.args.self.now.sheet.now c.args.nodes.now c.args.c c.requires.1 (tags_to_skip (skip_of c.args.self.now.skip)) c.args.levels (item_of c.args.item) c.args.blank c.requires.0.later c.args.text.now.room.now c.args.text.now.len c.args.text.now.fits c.push_inline_lead.ensures.writes (ap (wrote c.push_inline_lead.new.text) c.in_ok-push_inline_lead.was) c.node_end-to.ensures (c.packed.ensures ∙ c.child_opts-inner.ensures) c.write.ensures.writes_forest;
     }
 
-pub inline-returns-in_err-n : goal.inline-returns-in_err-n
-inline-returns-in_err-n t c =
+pub inline-returns-in_err-push_inline_lead : goal.inline-returns-in_err-push_inline_lead
+inline-returns-in_err-push_inline_lead t c =
     record {
+      room = leaf_room c.push_inline_lead.ensures;
       kept = kept_none c.args.nodes.now;
-      writes_forest = stops_forest c.from_residual.ensures.0 (inline_none c.args.self.now.sheet.now c.args.nodes.now c.args.c c.requires.1 (tags_to_skip (skip_of c.args.self.now.skip)) c.args.levels (item_of c.args.item) c.args.blank c.requires.0.later c.args.text.now c.args.len c.requires.2.0 c.push_inline_lead.ensures c.in_err-n.was);
+      writes_forest = stops_forest c.from_residual.ensures.0 (inline_none c.args.self.now.sheet.now c.args.nodes.now c.args.c c.requires.1 (tags_to_skip (skip_of c.args.self.now.skip)) c.args.levels (item_of c.args.item) c.args.blank c.requires.0.later c.args.text.now.room.now c.args.text.now.len c.args.text.now.fits c.push_inline_lead.ensures.writes (ap (wrote c.push_inline_lead.new.text) c.in_err-push_inline_lead.was));
     }
 
 pub inside-node_name-name-requires : goal.inside-node_name-name-requires
@@ -675,18 +708,20 @@ pub inside-write_element-requires-then-flags-has_writer : goal.inside-write_elem
 inside-write_element-requires-then-flags-has_writer t c =
     (falls_in c.args.levels c.decreases (lit< tt), (c.requires.0, c.node_name-name.ensures, c.requires.1, c.requires.2))
 
-pub inside-returns-then-name-lt21 : goal.inside-returns-then-name-lt21
-inside-returns-then-name-lt21 t c =
-    let by_writer_here : (name : Bytes) (attrs : List Attr) (kids : Forest) (anc : Ancestors) → ElementAt c.args.self.now.sheet.now c.args.nodes.now c.args.at name attrs kids → in_element (self_at c.args.self.now.skip c.args.levels) anc (unpacked c.args.bits) name attrs kids (take c.args.len c.args.text.now) ≡ write_element (self_at c.args.self.now.skip c.args.levels) anc (unpacked c.args.bits) name attrs kids (take c.args.len c.args.text.now) = λ name attrs kids anc x. let a = c.args in let u = c.unpacked-flags in subst (λ (o : FormatOpts). in_element (self_at a.self.now.skip a.levels) anc o name attrs kids (take a.len a.text.now) ≡ write_element (self_at a.self.now.skip a.levels) anc o name attrs kids (take a.len a.text.now)) u.ensures (inside_writer (self_at a.self.now.skip a.levels) anc u.result name attrs kids (take a.len a.text.now) (ap (λ (k : ℕ). not u.result.skip_md && has_writer u.result k) (sym (c.node_name-name.ensures ∙ element_name x)) ∙ ap (λ (b : Bool). not u.result.skip_md && b) (sym c.has_writer.ensures) ∙ c.if-flags-has_writer.true)) in
+pub inside-returns-then-name-A : goal.inside-returns-then-name-A
+inside-returns-then-name-A t c =
+    let by_writer_here : (name : Bytes) (attrs : List Attr) (kids : Forest) (anc : Ancestors) → ElementAt c.args.self.now.sheet.now c.args.nodes.now c.args.at name attrs kids → in_element (self_at c.args.self.now.skip c.args.levels) anc (unpacked c.args.bits) name attrs kids (take c.args.text.now.len c.args.text.now.room.now) ≡ write_element (self_at c.args.self.now.skip c.args.levels) anc (unpacked c.args.bits) name attrs kids (take c.args.text.now.len c.args.text.now.room.now) = λ name attrs kids anc x. let a = c.args in let u = c.unpacked-flags in subst (λ (o : FormatOpts). in_element (self_at a.self.now.skip a.levels) anc o name attrs kids (take a.text.now.len a.text.now.room.now) ≡ write_element (self_at a.self.now.skip a.levels) anc o name attrs kids (take a.text.now.len a.text.now.room.now)) u.ensures (inside_writer (self_at a.self.now.skip a.levels) anc u.result name attrs kids (take a.text.now.len a.text.now.room.now) (ap (λ (k : ℕ). not u.result.skip_md && has_writer u.result k) (sym (c.node_name-name.ensures ∙ element_name x)) ∙ ap (λ (b : Bool). not u.result.skip_md && b) (sym c.has_writer.ensures) ∙ c.if-flags-has_writer.true)) in
     record {
+      room = c.write_element.ensures.room;
       kept = c.write_element.ensures.kept;
       writes_element = record { for = λ name attrs kids anc x h. alike (by_writer_here _ _ _ anc x) (c.write_element.ensures.writes_element.for name attrs kids anc x h) };
     }
 
 pub inside-returns-then-flags-has_writer : goal.inside-returns-then-flags-has_writer
 inside-returns-then-flags-has_writer t c =
-    let by_writer_here : (name : Bytes) (attrs : List Attr) (kids : Forest) (anc : Ancestors) → ElementAt c.args.self.now.sheet.now c.args.nodes.now c.args.at name attrs kids → in_element (self_at c.args.self.now.skip c.args.levels) anc (unpacked c.args.bits) name attrs kids (take c.args.len c.args.text.now) ≡ write_element (self_at c.args.self.now.skip c.args.levels) anc (unpacked c.args.bits) name attrs kids (take c.args.len c.args.text.now) = λ name attrs kids anc x. let a = c.args in let u = c.unpacked-flags in subst (λ (o : FormatOpts). in_element (self_at a.self.now.skip a.levels) anc o name attrs kids (take a.len a.text.now) ≡ write_element (self_at a.self.now.skip a.levels) anc o name attrs kids (take a.len a.text.now)) u.ensures (inside_writer (self_at a.self.now.skip a.levels) anc u.result name attrs kids (take a.len a.text.now) (ap (λ (k : ℕ). not u.result.skip_md && has_writer u.result k) (sym (c.node_name-name.ensures ∙ element_name x)) ∙ ap (λ (b : Bool). not u.result.skip_md && b) (sym c.has_writer.ensures) ∙ c.if-flags-has_writer.true)) in
+    let by_writer_here : (name : Bytes) (attrs : List Attr) (kids : Forest) (anc : Ancestors) → ElementAt c.args.self.now.sheet.now c.args.nodes.now c.args.at name attrs kids → in_element (self_at c.args.self.now.skip c.args.levels) anc (unpacked c.args.bits) name attrs kids (take c.args.text.now.len c.args.text.now.room.now) ≡ write_element (self_at c.args.self.now.skip c.args.levels) anc (unpacked c.args.bits) name attrs kids (take c.args.text.now.len c.args.text.now.room.now) = λ name attrs kids anc x. let a = c.args in let u = c.unpacked-flags in subst (λ (o : FormatOpts). in_element (self_at a.self.now.skip a.levels) anc o name attrs kids (take a.text.now.len a.text.now.room.now) ≡ write_element (self_at a.self.now.skip a.levels) anc o name attrs kids (take a.text.now.len a.text.now.room.now)) u.ensures (inside_writer (self_at a.self.now.skip a.levels) anc u.result name attrs kids (take a.text.now.len a.text.now.room.now) (ap (λ (k : ℕ). not u.result.skip_md && has_writer u.result k) (sym (c.node_name-name.ensures ∙ element_name x)) ∙ ap (λ (b : Bool). not u.result.skip_md && b) (sym c.has_writer.ensures) ∙ c.if-flags-has_writer.true)) in
     record {
+      room = c.write_element-then-flags-has_writer.ensures.room;
       kept = c.write_element-then-flags-has_writer.ensures.kept;
       writes_element = record { for = λ name attrs kids anc x h. alike (by_writer_here _ _ _ anc x) (c.write_element-then-flags-has_writer.ensures.writes_element.for name attrs kids anc x h) };
     }
@@ -705,25 +740,27 @@ inside-siblings-requires t c =
 
 pub inside-closed-requires : goal.inside-closed-requires
 inside-closed-requires t c =
-    forest-reaches c.siblings.ensures.writes_forest (placed_kids c.args.self.now.sheet.now c.args.nodes.now c.args.at c.requires.0 c.node_end-to.ensures) c.in_ok-n.was
+    forest-reaches c.siblings.ensures.writes_forest (placed_kids c.args.self.now.sheet.now c.args.nodes.now c.args.at c.requires.0 c.node_end-to.ensures) (ap (wrote c.siblings.new.text) c.in_ok-siblings.was)
 
-pub inside-returns-in_err-n : goal.inside-returns-in_err-n
-inside-returns-in_err-n t c =
-    let plain_here : (name : Bytes) (attrs : List Attr) (kids : Forest) (anc : Ancestors) → ElementAt c.args.self.now.sheet.now c.args.nodes.now c.args.at name attrs kids → in_element (self_at c.args.self.now.skip c.args.levels) anc (unpacked c.args.bits) name attrs kids (take c.args.len c.args.text.now) ≡ and_then ((self_at c.args.self.now.skip c.args.levels).below (attrs ∷ anc) (unpacked c.args.bits) kids (take c.args.len c.args.text.now)) (closed (unpacked c.args.bits) (tag_of name)) = λ name attrs kids anc x. let a = c.args in let u = c.unpacked-flags in subst (λ (o : FormatOpts). in_element (self_at a.self.now.skip a.levels) anc o name attrs kids (take a.len a.text.now) ≡ and_then ((self_at a.self.now.skip a.levels).below (attrs ∷ anc) o kids (take a.len a.text.now)) (closed o (tag_of name))) u.ensures (inside_plain (self_at a.self.now.skip a.levels) anc u.result name attrs kids (take a.len a.text.now) (ap (λ (k : ℕ). not u.result.skip_md && has_writer u.result k) (sym (c.node_name-name.ensures ∙ element_name x)) ∙ ap (λ (b : Bool). not u.result.skip_md && b) (sym c.has_writer.ensures) ∙ c.if-flags-has_writer.false)) in
+pub inside-returns-in_err-siblings : goal.inside-returns-in_err-siblings
+inside-returns-in_err-siblings t c =
+    let plain_here : (name : Bytes) (attrs : List Attr) (kids : Forest) (anc : Ancestors) → ElementAt c.args.self.now.sheet.now c.args.nodes.now c.args.at name attrs kids → in_element (self_at c.args.self.now.skip c.args.levels) anc (unpacked c.args.bits) name attrs kids (take c.args.text.now.len c.args.text.now.room.now) ≡ and_then ((self_at c.args.self.now.skip c.args.levels).below (attrs ∷ anc) (unpacked c.args.bits) kids (take c.args.text.now.len c.args.text.now.room.now)) (closed (unpacked c.args.bits) (tag_of name)) = λ name attrs kids anc x. let a = c.args in let u = c.unpacked-flags in subst (λ (o : FormatOpts). in_element (self_at a.self.now.skip a.levels) anc o name attrs kids (take a.text.now.len a.text.now.room.now) ≡ and_then ((self_at a.self.now.skip a.levels).below (attrs ∷ anc) o kids (take a.text.now.len a.text.now.room.now)) (closed o (tag_of name))) u.ensures (inside_plain (self_at a.self.now.skip a.levels) anc u.result name attrs kids (take a.text.now.len a.text.now.room.now) (ap (λ (k : ℕ). not u.result.skip_md && has_writer u.result k) (sym (c.node_name-name.ensures ∙ element_name x)) ∙ ap (λ (b : Bool). not u.result.skip_md && b) (sym c.has_writer.ensures) ∙ c.if-flags-has_writer.false)) in
     let a = c.args in record {
+      room = c.siblings.ensures.room;
       kept = kept_in (omega arith) (omega (arith, c.node_end-to.ensures)) c.siblings.ensures.kept;
-      writes_element = stops_element c.from_residual.ensures.0 (record { for = λ name attrs kids anc x h. both-full a.text.now a.len c.requires.1.0 (in_element (self_at a.self.now.skip a.levels) anc (unpacked a.bits) name attrs kids) ((self_at a.self.now.skip a.levels).below (attrs ∷ anc) (unpacked a.bits) kids) (closed (unpacked a.bits) (tag_of name)) (plain_here _ _ _ anc x) (below-wrote a.self.now.skip a.levels (unpacked a.bits) anc x h c.node_end-to.ensures c.siblings.ensures.writes_forest) c.in_err-n.was });
+      writes_element = stops_element c.from_residual.ensures.0 (record { for = λ name attrs kids anc x h. both-full a.text.now.room.now a.text.now.len c.args.text.now.fits (in_element (self_at a.self.now.skip a.levels) anc (unpacked a.bits) name attrs kids) ((self_at a.self.now.skip a.levels).below (attrs ∷ anc) (unpacked a.bits) kids) (closed (unpacked a.bits) (tag_of name)) (plain_here _ _ _ anc x) (below-wrote a.self.now.skip a.levels (unpacked a.bits) anc x h c.node_end-to.ensures c.siblings.ensures.writes_forest) (ap (wrote c.siblings.new.text) c.in_err-siblings.was) });
     }
 
 pub inside-returns : goal.inside-returns
 inside-returns t c =
-    let plain_here : (name : Bytes) (attrs : List Attr) (kids : Forest) (anc : Ancestors) → ElementAt c.args.self.now.sheet.now c.args.nodes.now c.args.at name attrs kids → in_element (self_at c.args.self.now.skip c.args.levels) anc (unpacked c.args.bits) name attrs kids (take c.args.len c.args.text.now) ≡ and_then ((self_at c.args.self.now.skip c.args.levels).below (attrs ∷ anc) (unpacked c.args.bits) kids (take c.args.len c.args.text.now)) (closed (unpacked c.args.bits) (tag_of name)) = λ name attrs kids anc x. let a = c.args in let u = c.unpacked-flags in subst (λ (o : FormatOpts). in_element (self_at a.self.now.skip a.levels) anc o name attrs kids (take a.len a.text.now) ≡ and_then ((self_at a.self.now.skip a.levels).below (attrs ∷ anc) o kids (take a.len a.text.now)) (closed o (tag_of name))) u.ensures (inside_plain (self_at a.self.now.skip a.levels) anc u.result name attrs kids (take a.len a.text.now) (ap (λ (k : ℕ). not u.result.skip_md && has_writer u.result k) (sym (c.node_name-name.ensures ∙ element_name x)) ∙ ap (λ (b : Bool). not u.result.skip_md && b) (sym c.has_writer.ensures) ∙ c.if-flags-has_writer.false)) in
+    let plain_here : (name : Bytes) (attrs : List Attr) (kids : Forest) (anc : Ancestors) → ElementAt c.args.self.now.sheet.now c.args.nodes.now c.args.at name attrs kids → in_element (self_at c.args.self.now.skip c.args.levels) anc (unpacked c.args.bits) name attrs kids (take c.args.text.now.len c.args.text.now.room.now) ≡ and_then ((self_at c.args.self.now.skip c.args.levels).below (attrs ∷ anc) (unpacked c.args.bits) kids (take c.args.text.now.len c.args.text.now.room.now)) (closed (unpacked c.args.bits) (tag_of name)) = λ name attrs kids anc x. let a = c.args in let u = c.unpacked-flags in subst (λ (o : FormatOpts). in_element (self_at a.self.now.skip a.levels) anc o name attrs kids (take a.text.now.len a.text.now.room.now) ≡ and_then ((self_at a.self.now.skip a.levels).below (attrs ∷ anc) o kids (take a.text.now.len a.text.now.room.now)) (closed o (tag_of name))) u.ensures (inside_plain (self_at a.self.now.skip a.levels) anc u.result name attrs kids (take a.text.now.len a.text.now.room.now) (ap (λ (k : ℕ). not u.result.skip_md && has_writer u.result k) (sym (c.node_name-name.ensures ∙ element_name x)) ∙ ap (λ (b : Bool). not u.result.skip_md && b) (sym c.has_writer.ensures) ∙ c.if-flags-has_writer.false)) in
     let a = c.args in record {
+      room = room_on (c.siblings.ensures.room) (leaf_room c.closed.ensures);
       kept = kept_in (omega arith) (omega (arith, c.node_end-to.ensures)) c.siblings.ensures.kept;
       writes_element = record {
-        for = λ name attrs kids anc x h. both-done a.text.now a.len c.requires.1.0 (in_element (self_at a.self.now.skip a.levels) anc (unpacked a.bits) name attrs kids) ((self_at a.self.now.skip a.levels).below (attrs ∷ anc) (unpacked a.bits) kids) (closed (unpacked a.bits) (tag_of name)) (plain_here _ _ _ anc x) (below-wrote a.self.now.skip a.levels (unpacked a.bits) anc x h c.node_end-to.ensures c.siblings.ensures.writes_forest) c.in_ok-n.was
-            (subst (λ (o : FormatOpts). Writes (length c.siblings.new.text) c.closed.new.text c.closed.result (closed o (tag_of name) (take c.in_ok-n.n c.siblings.new.text))) c.unpacked.ensures
-            (subst (λ (k : ℕ). Writes (length c.siblings.new.text) c.closed.new.text c.closed.result (closed c.unpacked.result k (take c.in_ok-n.n c.siblings.new.text))) (c.node_name-name.ensures ∙ element_name x) c.closed.ensures));
+        for = λ name attrs kids anc x h. both-done a.text.now.room.now a.text.now.len c.args.text.now.fits (in_element (self_at a.self.now.skip a.levels) anc (unpacked a.bits) name attrs kids) ((self_at a.self.now.skip a.levels).below (attrs ∷ anc) (unpacked a.bits) kids) (closed (unpacked a.bits) (tag_of name)) (plain_here _ _ _ anc x) (below-wrote a.self.now.skip a.levels (unpacked a.bits) anc x h c.node_end-to.ensures c.siblings.ensures.writes_forest) (ap (wrote c.siblings.new.text) c.in_ok-siblings.was)
+            (subst (λ (o : FormatOpts). Writes (length c.siblings.new.text) c.closed.new.text.room.now c.closed.result (closed o (tag_of name) (take c.siblings.new.text.len c.siblings.new.text))) c.unpacked.ensures
+            (subst (λ (k : ℕ). Writes (length c.siblings.new.text) c.closed.new.text.room.now c.closed.result (closed c.unpacked.result k (take c.siblings.new.text.len c.siblings.new.text))) (c.node_name-name.ensures ∙ element_name x) c.closed.ensures.writes));
       };
     }
 
@@ -747,11 +784,12 @@ item-returns-then-not-li t c =
     let inner_here : c.include_node-inner.result ≡ include_node (fresh c.args.ctx.now.opts) = c.include_node-inner.ensures ∙ ap include_node c.fresh.ensures in
     let a = c.args in
     let skips = tags_to_skip (skip_of a.self.now.skip) in record {
+      room = c.write.ensures.room;
       kept = kept_in (omega arith) (omega (arith, c.node_end-to.ensures)) c.write.ensures.kept;
       writes_forest = record {
         for = λ parent f anc h x.
-            alike (head_other skips a.levels anc a.ctx.now (take a.len a.text.now) a.self.now.sheet.now a.nodes.now parent a.c f h c.requires.0.later (sym c.requires.1 ∙ c.if-not-li.true)
-            ∙ ap (λ (o : FormatOpts). write_at skips a.levels anc o f (take a.len a.text.now)) (sym (c.packed.ensures ∙ inner_here)))
+            alike (head_other skips a.levels anc a.ctx.now (take a.text.now.len a.text.now.room.now) a.self.now.sheet.now a.nodes.now parent a.c f h c.requires.0.later (sym c.requires.1 ∙ c.if-not-li.true)
+            ∙ ap (λ (o : FormatOpts). write_at skips a.levels anc o f (take a.text.now.len a.text.now.room.now)) (sym (c.packed.ensures ∙ inner_here)))
             (c.write.ensures.writes_forest.for parent f anc (subst (λ (e : ℕ). Rep a.self.now.sheet.now a.nodes.now parent a.c e f) (sym c.node_end-to.ensures) h) x);
       };
       ctx_value = sym (ap (λ (b : Bool). cond b (advance_ol_number a.ctx.now) a.ctx.now) (c.if-not-li.true));
@@ -786,6 +824,7 @@ pub item-returns-then-has_blocks : goal.item-returns-then-has_blocks
 item-returns-then-has_blocks t c =
     let named_here : name_at c.args.self.now.sheet.now (place_at c.args.nodes.now c.args.c) ≡ 16 = eqb-true (name_at c.args.self.now.sheet.now (place_at c.args.nodes.now c.args.c)) 16 (sym c.requires.1 ∙ c.if-not-li.false) in
     let a = c.args in record {
+      room = c.blocks.ensures.room;
       kept = c.blocks-then-has_blocks.ensures.kept;
       writes_forest = head_item c.requires.0 (named_here) (self_at a.self.now.skip a.levels) a.ctx.now true c.node_end-to.ensures (λ parent f h. sym c.if-has_blocks.true ∙ c.has_blocks.ensures parent f h) c.blocks-then-has_blocks.ensures.writes_element;
       ctx_value = c.blocks-then-has_blocks.ensures.ctx_value ∙ sym (ap (λ (b : Bool). cond b (advance_ol_number a.ctx.now) a.ctx.now) (c.if-not-li.false));
@@ -795,6 +834,7 @@ pub item-returns : goal.item-returns
 item-returns t c =
     let named_here : name_at c.args.self.now.sheet.now (place_at c.args.nodes.now c.args.c) ≡ 16 = eqb-true (name_at c.args.self.now.sheet.now (place_at c.args.nodes.now c.args.c)) 16 (sym c.requires.1 ∙ c.if-not-li.false) in
     let a = c.args in record {
+      room = c.flat.ensures.room;
       kept = c.flat.ensures.kept;
       writes_forest = head_item c.requires.0 (named_here) (self_at a.self.now.skip a.levels) a.ctx.now false c.node_end-to.ensures (λ parent f h. sym c.if-has_blocks.false ∙ c.has_blocks.ensures parent f h) c.flat.ensures.writes_element;
       ctx_value = c.flat.ensures.ctx_value ∙ sym (ap (λ (b : Bool). cond b (advance_ol_number a.ctx.now) a.ctx.now) (c.if-not-li.false));
@@ -802,13 +842,13 @@ item-returns t c =
 
 pub items-loop-c-init : goal.items-loop-c-init
 items-loop-c-init t c = (
-  c.requires.1.0,
+  c.args.text.now.fits,
   refl,
   kept_none c.args.nodes.now,
   omega arith,
   c.requires.0,
   c.requires.2,
-  turn_first c.args.self.now.sheet.now c.args.nodes.now c.args.from c.args.to (λ anc f. list_children (self_at c.args.self.now.skip c.args.levels) anc f c.args.first) c.args.text.now c.args.len c.requires.1.0,
+  turn_first c.args.self.now.sheet.now c.args.nodes.now c.args.from c.args.to (λ anc f. list_children (self_at c.args.self.now.skip c.args.levels) anc f c.args.first) c.args.text.now.room.now c.args.text.now.len c.args.text.now.fits,
 )
 
 pub items-node_place-place-requires : goal.items-node_place-place-requires
@@ -833,19 +873,20 @@ pub items-item-requires : goal.items-item-requires
 items-item-requires t c =
     let here_here : PlacedNode c.args.self.now.sheet.now c.loop-c.nodes c.loop-c.c = node_kept c.loop-c.invariant.2 (placeds_first c.loop-c.invariant.4 c.loop-c-test.true) in
     let fits_here : FitsIn c.renumbered-ctx.result c.args.levels = fits_child c.args.levels (eqb c.node_name-li.result 16) (number_of (attr (ascii "value") (attrs_behind c.args.self.now.sheet.now c.node_place-place.result))) c.loop-c.ctx c.renumbered-ctx.result c.renumbered-ctx.ensures c.loop-c.invariant.5 in
-    (falls_in c.args.levels c.decreases (lit< tt), (here_here, ap (λ (k : ℕ). eqb k 16) c.node_name-li.ensures, (c.loop-c.invariant.0, c.requires.1.1), fits_here))
+    (falls_in c.args.levels c.decreases (lit< tt), (here_here, ap (λ (k : ℕ). eqb k 16) c.node_name-li.ensures, (c.loop-c.invariant.0, c.requires.1), fits_here))
 
-pub items-returns-in_err-end : goal.items-returns-in_err-end
-items-returns-in_err-end t c =
+pub items-returns-in_err-item : goal.items-returns-in_err-item
+items-returns-in_err-item t c =
     let kept_here : Kept c.args.from c.args.to c.args.nodes.now c.item.new.nodes = let l = c.loop-c in let lt = c.loop-c-test.true in kept_then l.invariant.2 (kept_in l.invariant.3 (omega (arith, end_kept l.invariant.2 l.c, placeds_within l.invariant.4 lt)) c.item.ensures.kept) in
     let parts_here : (next : ListContext) → next ≡ cond (eqb c.node_name-li.result 16) (advance_ol_number c.renumbered-ctx.result) c.renumbered-ctx.result → (parent : ℕ) (anc : Ancestors) (g : Forest) → Rep c.args.self.now.sheet.now c.args.nodes.now parent c.loop-c.c c.args.to g → (u : Bytes) → list_children (self_at c.args.self.now.skip c.args.levels) anc g c.loop-c.ctx u ≡ and_then (list_head (self_at c.args.self.now.skip c.args.levels) anc (head_of g) c.renumbered-ctx.result u) (list_children (self_at c.args.self.now.skip c.args.levels) anc (rest_of g) next) = λ next b parent anc g h u. let l = c.loop-c in let k = place_kept l.invariant.2 l.c in list_first (self_at c.args.self.now.skip c.args.levels) anc l.ctx u c.args.self.now.sheet.now c.args.nodes.now parent l.c c.args.to g h c.loop-c-test.true c.node_place-place.result (eqb c.node_name-li.result 16) c.renumbered-ctx.result next (c.node_place-place.ensures ∙ k) (ap (λ (j : ℕ). eqb j 16) (c.node_name-li.ensures ∙ ap (name_at c.args.self.now.sheet.now) k)) c.renumbered-ctx.ensures b in
-    let wrote_here : WritesForest c.args.self.now.sheet.now c.args.nodes.now c.loop-c.c (end_at c.args.nodes.now c.loop-c.c) (λ anc f. list_head (self_at c.args.self.now.skip c.args.levels) anc f c.renumbered-ctx.result) (take c.loop-c.end c.loop-c.text) (length c.loop-c.text) c.item.new.text c.item.result = writes_before c.loop-c.invariant.2 c.item.ensures.writes_forest in
+    let wrote_here : WritesForest c.args.self.now.sheet.now c.args.nodes.now c.loop-c.c (end_at c.args.nodes.now c.loop-c.c) (λ anc f. list_head (self_at c.args.self.now.skip c.args.levels) anc f c.renumbered-ctx.result) (take c.loop-c.end c.loop-c.text) (length c.loop-c.text) c.item.new.text.room.now c.item.result = writes_before c.loop-c.invariant.2 c.item.ensures.writes_forest in
     let self = self_at c.args.self.now.skip c.args.levels in
     let next = cond (eqb c.node_name-li.result 16) (advance_ol_number c.renumbered-ctx.result) c.renumbered-ctx.result in record {
+      room = room_on (c.loop-c.invariant.0) (c.item.ensures.room);
       kept = kept_here;
       writes_forest = stops_forest c.from_residual.ensures.0 (record {
         for = λ parent f anc h a.
-            turn_stop c.loop-c.invariant.6 (λ anc f. list_head self anc f c.renumbered-ctx.result) (λ anc f. list_children self anc f next) (parts_here next refl) c.loop-c-test.true (wrote_here) c.in_err-end.was parent f anc h a;
+            turn_stop c.loop-c.invariant.6 (λ anc f. list_head self anc f c.renumbered-ctx.result) (λ anc f. list_children self anc f next) (parts_here next refl) c.loop-c-test.true (wrote_here) (ap (wrote c.item.new.text) c.in_err-item.was) parent f anc h a;
       });
     }
 
@@ -865,24 +906,25 @@ items-loop-c-preserved t c =
     let here_here : PlacedNode c.args.self.now.sheet.now c.loop-c.nodes c.loop-c.c = node_kept c.loop-c.invariant.2 (placeds_first c.loop-c.invariant.4 c.loop-c-test.true) in
     let fits_here : FitsIn c.renumbered-ctx.result c.args.levels = fits_child c.args.levels (eqb c.node_name-li.result 16) (number_of (attr (ascii "value") (attrs_behind c.args.self.now.sheet.now c.node_place-place.result))) c.loop-c.ctx c.renumbered-ctx.result c.renumbered-ctx.ensures c.loop-c.invariant.5 in
     let parts_here : (next : ListContext) → next ≡ cond (eqb c.node_name-li.result 16) (advance_ol_number c.renumbered-ctx.result) c.renumbered-ctx.result → (parent : ℕ) (anc : Ancestors) (g : Forest) → Rep c.args.self.now.sheet.now c.args.nodes.now parent c.loop-c.c c.args.to g → (u : Bytes) → list_children (self_at c.args.self.now.skip c.args.levels) anc g c.loop-c.ctx u ≡ and_then (list_head (self_at c.args.self.now.skip c.args.levels) anc (head_of g) c.renumbered-ctx.result u) (list_children (self_at c.args.self.now.skip c.args.levels) anc (rest_of g) next) = λ next b parent anc g h u. let l = c.loop-c in let k = place_kept l.invariant.2 l.c in list_first (self_at c.args.self.now.skip c.args.levels) anc l.ctx u c.args.self.now.sheet.now c.args.nodes.now parent l.c c.args.to g h c.loop-c-test.true c.node_place-place.result (eqb c.node_name-li.result 16) c.renumbered-ctx.result next (c.node_place-place.ensures ∙ k) (ap (λ (j : ℕ). eqb j 16) (c.node_name-li.ensures ∙ ap (name_at c.args.self.now.sheet.now) k)) c.renumbered-ctx.ensures b in
-    let wrote_here : WritesForest c.args.self.now.sheet.now c.args.nodes.now c.loop-c.c (end_at c.args.nodes.now c.loop-c.c) (λ anc f. list_head (self_at c.args.self.now.skip c.args.levels) anc f c.renumbered-ctx.result) (take c.loop-c.end c.loop-c.text) (length c.loop-c.text) c.item.new.text c.item.result = writes_before c.loop-c.invariant.2 c.item.ensures.writes_forest in
+    let wrote_here : WritesForest c.args.self.now.sheet.now c.args.nodes.now c.loop-c.c (end_at c.args.nodes.now c.loop-c.c) (λ anc f. list_head (self_at c.args.self.now.skip c.args.levels) anc f c.renumbered-ctx.result) (take c.loop-c.end c.loop-c.text) (length c.loop-c.text) c.item.new.text.room.now c.item.result = writes_before c.loop-c.invariant.2 c.item.ensures.writes_forest in
     let l = c.loop-c in
     let lt = c.loop-c-test.true in
     let K = kept_here in
     let q = c.node_end-c.ensures ∙ end_kept K l.c in
     let self = self_at c.args.self.now.skip c.args.levels in (
-      forest-reaches c.item.ensures.writes_forest (here_here).alone c.in_ok-end.was,
-      forest-long c.item.ensures.writes_forest (here_here).alone c.in_ok-end.was ∙ l.invariant.1,
+      forest-reaches c.item.ensures.writes_forest (here_here).alone (ap (wrote c.item.new.text) c.in_ok-item.was),
+      forest-long c.item.ensures.writes_forest (here_here).alone (ap (wrote c.item.new.text) c.in_ok-item.was) ∙ l.invariant.1,
       K,
       omega (arith, placeds_later l.invariant.4 lt, l.invariant.3, q),
       subst (λ (k : ℕ). Placeds c.args.self.now.sheet.now c.args.nodes.now k c.args.to) (sym q) (placeds_on l.invariant.4 lt),
       fits_behind c.args.levels (eqb c.node_name-li.result 16) c.renumbered-ctx.result c.item.new.ctx c.item.ensures.ctx_value (fits_here),
-      turn_on l.invariant.6 (λ anc f. list_head self anc f c.renumbered-ctx.result) (λ anc f. list_children self anc f c.item.new.ctx) (parts_here c.item.new.ctx c.item.ensures.ctx_value) lt (wrote_here) q c.in_ok-end.was,
+      turn_on l.invariant.6 (λ anc f. list_head self anc f c.renumbered-ctx.result) (λ anc f. list_children self anc f c.item.new.ctx) (parts_here c.item.new.ctx c.item.ensures.ctx_value) lt (wrote_here) q (ap (wrote c.item.new.text) c.in_ok-item.was),
     )
 
 pub items-returns : goal.items-returns
 items-returns t c =
     let l = c.loop-c in record {
+      room = c.loop-c.invariant.0;
       kept = l.invariant.2;
       writes_forest = record {
         for = λ parent f anc h a.
@@ -909,7 +951,7 @@ kids-overflow_add-at-then-levels-is_one_text t c =
 
 pub kids-trim_behind_text-requires : goal.kids-trim_behind_text-requires
 kids-trim_behind_text-requires t c =
-    (placeds_at (placed_kids c.args.self.now.sheet.now c.args.nodes.now c.args.at c.requires.0 c.node_end-to.ensures) (omega (arith, (c.is_one_text.ensures (some_one c.args.levels c.is_one_text.result c.if-levels-is_one_text.true).1).0)), c.requires.1.0)
+    (placeds_at (placed_kids c.args.self.now.sheet.now c.args.nodes.now c.args.at c.requires.0 c.node_end-to.ensures) (omega (arith, (c.is_one_text.ensures (some_one c.args.levels c.is_one_text.result c.if-levels-is_one_text.true).1).0)), c.args.text.now.fits)
 
 pub kids-returns-then-levels-is_one_text : goal.kids-returns-then-levels-is_one_text
 unfolding serializer
@@ -918,14 +960,15 @@ kids-returns-then-levels-is_one_text t c =
     let u = c.unpacked-opts in
     let b = some_one a.levels c.is_one_text.result c.if-levels-is_one_text.true in
     let o = c.is_one_text.ensures b.1 in record {
+      room = leaf_room c.trim_behind_text.ensures;
       kept = kept_none a.nodes.now;
       writes_element = record {
         for = λ name attrs kids anc x h.
-            alike (ap (λ (o : FormatOpts). write_kids (self_at a.self.now.skip a.levels) anc o (element name attrs kids nothing) (take a.len a.text.now)) (sym u.ensures)
-            ∙ kids_is (self_at a.self.now.skip a.levels) anc u.result name attrs kids (take a.len a.text.now)
-            ∙ ap (λ (z : Out). and_then z trim_space) (write_some (tags_to_skip (skip_of a.self.now.skip)) a.levels (attrs ∷ anc) u.result kids (take a.len a.text.now) b.0
-            ∙ one_is a.self.now.sheet.now a.nodes.now a.at (a.at + 1) c.node_end-to.result o.0 o.1 (self_at a.self.now.skip (a.levels - 1)) (attrs ∷ anc) u.result (take a.len a.text.now) kids (element_kids x c.node_end-to.ensures)))
-            c.trim_behind_text.ensures;
+            alike (ap (λ (o : FormatOpts). write_kids (self_at a.self.now.skip a.levels) anc o (element name attrs kids nothing) (take a.text.now.len a.text.now.room.now)) (sym u.ensures)
+            ∙ kids_is (self_at a.self.now.skip a.levels) anc u.result name attrs kids (take a.text.now.len a.text.now.room.now)
+            ∙ ap (λ (z : Out). and_then z trim_space) (write_some (tags_to_skip (skip_of a.self.now.skip)) a.levels (attrs ∷ anc) u.result kids (take a.text.now.len a.text.now.room.now) b.0
+            ∙ one_is a.self.now.sheet.now a.nodes.now a.at (a.at + 1) c.node_end-to.result o.0 o.1 (self_at a.self.now.skip (a.levels - 1)) (attrs ∷ anc) u.result (take a.text.now.len a.text.now.room.now) kids (element_kids x c.node_end-to.ensures)))
+            c.trim_behind_text.ensures.writes;
       };
     }
 
@@ -939,51 +982,56 @@ kids-write-requires t c =
 
 pub kids-trim_space-requires : goal.kids-trim_space-requires
 kids-trim_space-requires t c =
-    forest-reaches c.write.ensures.writes_forest (placed_kids c.args.self.now.sheet.now c.args.nodes.now c.args.at c.requires.0 c.node_end-to.ensures) c.in_ok-n.was
+    forest-reaches c.write.ensures.writes_forest (placed_kids c.args.self.now.sheet.now c.args.nodes.now c.args.at c.requires.0 c.node_end-to.ensures) (ap (wrote c.write.new.text) c.in_ok-write.was)
 
-pub kids-returns-in_err-n : goal.kids-returns-in_err-n
-kids-returns-in_err-n t c =
+pub kids-returns-in_err-write : goal.kids-returns-in_err-write
+kids-returns-in_err-write t c =
     let a = c.args in record {
+      room = c.write.ensures.room;
       kept = kept_in (omega arith) (omega (arith, c.node_end-to.ensures)) c.write.ensures.kept;
-      writes_element = stops_element c.from_residual.ensures.0 (record { for = λ name attrs kids anc x h. both-full a.text.now a.len c.requires.1.0 (write_kids (self_at a.self.now.skip a.levels) anc (unpacked a.bits) (element name attrs kids nothing)) ((self_at a.self.now.skip a.levels).below (attrs ∷ anc) (unpacked a.bits) kids) trim_space (kids_is (self_at a.self.now.skip a.levels) anc (unpacked a.bits) name attrs kids (take a.len a.text.now)) (below-wrote a.self.now.skip a.levels (unpacked a.bits) anc x h c.node_end-to.ensures c.write.ensures.writes_forest) c.in_err-n.was });
+      writes_element = stops_element c.from_residual.ensures.0 (record { for = λ name attrs kids anc x h. both-full a.text.now.room.now a.text.now.len c.args.text.now.fits (write_kids (self_at a.self.now.skip a.levels) anc (unpacked a.bits) (element name attrs kids nothing)) ((self_at a.self.now.skip a.levels).below (attrs ∷ anc) (unpacked a.bits) kids) trim_space (kids_is (self_at a.self.now.skip a.levels) anc (unpacked a.bits) name attrs kids (take a.text.now.len a.text.now.room.now)) (below-wrote a.self.now.skip a.levels (unpacked a.bits) anc x h c.node_end-to.ensures c.write.ensures.writes_forest) (ap (wrote c.write.new.text) c.in_err-write.was) });
     }
 
 pub kids-returns : goal.kids-returns
 kids-returns t c =
     let a = c.args in record {
+      room = room_on (c.write.ensures.room) (leaf_room c.trim_space.ensures);
       kept = kept_in (omega arith) (omega (arith, c.node_end-to.ensures)) c.write.ensures.kept;
-      writes_element = record { for = λ name attrs kids anc x h. both-done a.text.now a.len c.requires.1.0 (write_kids (self_at a.self.now.skip a.levels) anc (unpacked a.bits) (element name attrs kids nothing)) ((self_at a.self.now.skip a.levels).below (attrs ∷ anc) (unpacked a.bits) kids) trim_space (kids_is (self_at a.self.now.skip a.levels) anc (unpacked a.bits) name attrs kids (take a.len a.text.now)) (below-wrote a.self.now.skip a.levels (unpacked a.bits) anc x h c.node_end-to.ensures c.write.ensures.writes_forest) c.in_ok-n.was (record { says = c.trim_space.ensures }) };
+      writes_element = record { for = λ name attrs kids anc x h. both-done a.text.now.room.now a.text.now.len c.args.text.now.fits (write_kids (self_at a.self.now.skip a.levels) anc (unpacked a.bits) (element name attrs kids nothing)) ((self_at a.self.now.skip a.levels).below (attrs ∷ anc) (unpacked a.bits) kids) trim_space (kids_is (self_at a.self.now.skip a.levels) anc (unpacked a.bits) name attrs kids (take a.text.now.len a.text.now.room.now)) (below-wrote a.self.now.skip a.levels (unpacked a.bits) anc x h c.node_end-to.ensures c.write.ensures.writes_forest) (ap (wrote c.write.new.text) c.in_ok-write.was) (record { says = c.trim_space.ensures.writes }) };
     }
 
 pub led-flow-requires : goal.led-flow-requires
 led-flow-requires t c = (
   falls_in c.args.levels c.decreases (lit< tt),
-  (c.requires.0, c.requires.1, (reaches (done c.in_ok-n.was c.push_block_lead.ensures), c.requires.2.1), c.requires.3),
+  (c.requires.0, c.requires.1, c.requires.2, c.requires.3),
 )
 
 pub led-push_linebreak-requires : goal.led-push_linebreak-requires
 led-push_linebreak-requires t c =
-    element_reaches c.requires.0 c.flow.ensures.writes_element c.in_ok-m.was
+    element_reaches c.requires.0 c.flow.ensures.writes_element (ap (wrote c.flow.new.text) c.in_ok-flow.was)
 
 pub led-returns : goal.led-returns
 led-returns t c =
     record {
+      room = room_on (leaf_room c.push_block_lead.ensures) (room_on (c.flow.ensures.room) (leaf_room c.push_linebreak.ensures));
       kept = c.flow.ensures.kept;
-      writes_element = led_done c.args.self.now.sheet.now c.args.nodes.now c.args.c c.requires.1 (self_at c.args.self.now.skip c.args.levels) (item_of c.args.item) c.args.first c.args.text.now c.args.len c.requires.2.0 c.push_block_lead.ensures c.in_ok-n.was c.flow.ensures.writes_element c.in_ok-m.was c.push_linebreak.ensures;
+      writes_element = led_done c.args.self.now.sheet.now c.args.nodes.now c.args.c c.requires.1 (self_at c.args.self.now.skip c.args.levels) (item_of c.args.item) c.args.first c.args.text.now.room.now c.args.text.now.len c.args.text.now.fits c.push_block_lead.ensures.writes (ap (wrote c.push_block_lead.new.text) c.in_ok-push_block_lead.was) c.flow.ensures.writes_element (ap (wrote c.flow.new.text) c.in_ok-flow.was) c.push_linebreak.ensures.writes;
     }
 
-pub led-returns-in_err-m : goal.led-returns-in_err-m
-led-returns-in_err-m t c =
+pub led-returns-in_err-flow : goal.led-returns-in_err-flow
+led-returns-in_err-flow t c =
     record {
+      room = room_on (leaf_room c.push_block_lead.ensures) (c.flow.ensures.room);
       kept = c.flow.ensures.kept;
-      writes_element = stops_element c.from_residual-in_err-m.ensures.0 (led_full c.args.self.now.sheet.now c.args.nodes.now c.args.c c.requires.1 (self_at c.args.self.now.skip c.args.levels) (item_of c.args.item) c.args.first c.args.text.now c.args.len c.requires.2.0 c.push_block_lead.ensures c.in_ok-n.was c.flow.ensures.writes_element c.in_err-m.was);
+      writes_element = stops_element c.from_residual-in_err-flow.ensures.0 (led_full c.args.self.now.sheet.now c.args.nodes.now c.args.c c.requires.1 (self_at c.args.self.now.skip c.args.levels) (item_of c.args.item) c.args.first c.args.text.now.room.now c.args.text.now.len c.args.text.now.fits c.push_block_lead.ensures.writes (ap (wrote c.push_block_lead.new.text) c.in_ok-push_block_lead.was) c.flow.ensures.writes_element (ap (wrote c.flow.new.text) c.in_err-flow.was));
     }
 
-pub led-returns-in_err-n : goal.led-returns-in_err-n
-led-returns-in_err-n t c =
+pub led-returns-in_err-push_block_lead : goal.led-returns-in_err-push_block_lead
+led-returns-in_err-push_block_lead t c =
     record {
+      room = leaf_room c.push_block_lead.ensures;
       kept = kept_none c.args.nodes.now;
-      writes_element = stops_element c.from_residual.ensures.0 (led_none c.args.self.now.sheet.now c.args.nodes.now c.args.c c.requires.1 (self_at c.args.self.now.skip c.args.levels) (item_of c.args.item) c.args.first c.args.text.now c.args.len c.requires.2.0 c.push_block_lead.ensures c.in_err-n.was);
+      writes_element = stops_element c.from_residual.ensures.0 (led_none c.args.self.now.sheet.now c.args.nodes.now c.args.c c.requires.1 (self_at c.args.self.now.skip c.args.levels) (item_of c.args.item) c.args.first c.args.text.now.room.now c.args.text.now.len c.args.text.now.fits c.push_block_lead.ensures.writes (ap (wrote c.push_block_lead.new.text) c.in_err-push_block_lead.was));
     }
 
 pub link-node_end-end-requires : goal.link-node_end-end-requires
@@ -1011,40 +1059,42 @@ pub link-returns-then-has_element : goal.link-returns-then-has_element
 link-returns-then-has_element t c =
     let a = c.args in
     let href = a.dest.now in record {
+      room = c.body.ensures.room;
       kept = c.body.ensures.kept;
       writes_element = record {
         for = λ name attrs kids anc x h.
-            alike (to_image (self_at a.self.now.skip a.levels) anc a.opts href name attrs kids (take a.len a.text.now) (sym (c.has_element.ensures a.at kids (element_kids x c.node_end-end.ensures)) ∙ c.if-has_element.true))
-            (subst (λ (o : FormatOpts). Writes (length a.text.now) c.body.new.text c.body.result (link_of attrs href (write_kids (self_at a.self.now.skip a.levels) anc o (element name attrs kids nothing) []) push (take a.len a.text.now))) (c.link_body.ensures ∙ ap link_body c.fresh-fresh.ensures) (c.body.ensures.writes_element.for name attrs kids anc x h));
+            alike (to_image (self_at a.self.now.skip a.levels) anc a.opts href name attrs kids (take a.text.now.len a.text.now.room.now) (sym (c.has_element.ensures a.at kids (element_kids x c.node_end-end.ensures)) ∙ c.if-has_element.true))
+            (subst (λ (o : FormatOpts). Writes (length a.text.now.room.now) c.body.new.text.room.now c.body.result (link_of attrs href (write_kids (self_at a.self.now.skip a.levels) anc o (element name attrs kids nothing) []) push (take a.text.now.len a.text.now.room.now))) (c.link_body.ensures ∙ ap link_body c.fresh-fresh.ensures) (c.body.ensures.writes_element.for name attrs kids anc x h));
       };
     }
 
-pub link-write_text-requires : goal.link-write_text-requires
-link-write_text-requires t c =
+pub link-write_text_behind-requires : goal.link-write_text_behind-requires
+link-write_text_behind-requires t c =
     let k = placed_kids c.args.self.now.sheet.now c.args.nodes.now c.args.at c.requires.0 c.node_end-end.ensures in
     ((k.parent, k.forest, k.rep), omega arith)
 
 pub link-body-requires-then-n-eq0 : goal.link-body-requires-then-n-eq0
 link-body-requires-then-n-eq0 t c =
-    let wrote_here : (name : Bytes) (attrs : List Attr) (kids : Forest) → ElementAt c.args.self.now.sheet.now c.args.nodes.now c.args.at name attrs kids → Writes (length (lent c.args.text.now c.args.len)) c.write_text.new.text c.write_text.result (shown_text c.args.opts kids) = λ name attrs kids x. let a = c.args in subst (λ (o : FormatOpts). Writes (length (lent a.text.now a.len)) c.write_text.new.text c.write_text.result (write_text o kids [])) (c.skip_escape-plain.ensures ∙ ap skip_escape (c.include_node.ensures ∙ ap include_node c.fresh-fresh.ensures)) (c.write_text.ensures a.at kids (element_kids x c.node_end-end.ensures)) in
+    let wrote_here : (name : Bytes) (attrs : List Attr) (kids : Forest) → ElementAt c.args.self.now.sheet.now c.args.nodes.now c.args.at name attrs kids → Writes (length (lent c.args.text.now.room.now c.args.text.now.len)) c.write_text_behind.new.room c.write_text_behind.result (shown_text c.args.opts kids) = λ name attrs kids x. let a = c.args in subst (λ (o : FormatOpts). Writes (length (lent a.text.now.room.now a.text.now.len)) c.write_text_behind.new.room c.write_text_behind.result (write_text o kids [])) (c.skip_escape-plain.ensures ∙ ap skip_escape (c.include_node.ensures ∙ ap include_node c.fresh-fresh.ensures)) (c.write_text_behind.ensures a.at kids (element_kids x c.node_end-end.ensures)) in
     let a = c.args in
     let p = c.requires.0 in
     let w = done c.in_ok-n.was (wrote_here _ _ _ p.0.3) in
-    (falls_in a.levels c.decreases (lit< tt), (p, (omega (arith, back_length a.text.now a.len c.requires.1.0 (shown_text a.opts p.0.2) w, c.requires.1.0), c.requires.1.1), subst (λ (o : FormatOpts). Fits o a.levels) (sym c.fresh-fresh.ensures) (omega (arith, c.requires.2)), c.requires.3))
+    (falls_in a.levels c.decreases (lit< tt), (p, (omega (arith, back_length a.text.now.room.now a.text.now.len c.args.text.now.fits (shown_text a.opts p.0.2) w, c.args.text.now.fits), c.requires.1), subst (λ (o : FormatOpts). Fits o a.levels) (sym c.fresh-fresh.ensures) (omega (arith, c.requires.2)), c.requires.3))
 
 pub link-returns-then-n-eq0 : goal.link-returns-then-n-eq0
 link-returns-then-n-eq0 t c =
-    let wrote_here : (name : Bytes) (attrs : List Attr) (kids : Forest) → ElementAt c.args.self.now.sheet.now c.args.nodes.now c.args.at name attrs kids → Writes (length (lent c.args.text.now c.args.len)) c.write_text.new.text c.write_text.result (shown_text c.args.opts kids) = λ name attrs kids x. let a = c.args in subst (λ (o : FormatOpts). Writes (length (lent a.text.now a.len)) c.write_text.new.text c.write_text.result (write_text o kids [])) (c.skip_escape-plain.ensures ∙ ap skip_escape (c.include_node.ensures ∙ ap include_node c.fresh-fresh.ensures)) (c.write_text.ensures a.at kids (element_kids x c.node_end-end.ensures)) in
+    let wrote_here : (name : Bytes) (attrs : List Attr) (kids : Forest) → ElementAt c.args.self.now.sheet.now c.args.nodes.now c.args.at name attrs kids → Writes (length (lent c.args.text.now.room.now c.args.text.now.len)) c.write_text_behind.new.room c.write_text_behind.result (shown_text c.args.opts kids) = λ name attrs kids x. let a = c.args in subst (λ (o : FormatOpts). Writes (length (lent a.text.now.room.now a.text.now.len)) c.write_text_behind.new.room c.write_text_behind.result (write_text o kids [])) (c.skip_escape-plain.ensures ∙ ap skip_escape (c.include_node.ensures ∙ ap include_node c.fresh-fresh.ensures)) (c.write_text_behind.ensures a.at kids (element_kids x c.node_end-end.ensures)) in
     let bare_here : (name : Bytes) (attrs : List Attr) (kids : Forest) → ElementAt c.args.self.now.sheet.now c.args.nodes.now c.args.at name attrs kids → has_element 22 kids ≡ false = λ _ _ kids x. sym (c.has_element.ensures c.args.at kids (element_kids x c.node_end-end.ensures)) ∙ c.if-has_element.false in
     let a = c.args in
     let href = a.dest.now in record {
+      room = room_on (room_behind c.args.text.now c.write_text_behind.auto.room) (c.body-then-n-eq0.ensures.room);
       kept = c.body-then-n-eq0.ensures.kept;
       writes_element = record {
         for = λ name attrs kids anc x h.
             let w = done c.in_ok-n.was (wrote_here _ _ _ x) in
-            alike (to_body (self_at a.self.now.skip a.levels) anc a.opts href name attrs kids (take a.len a.text.now) (bare_here _ _ _ x) (null_none (shown_text a.opts kids).text (sym w.count ∙ c.if-n-eq0.true)))
-            (subst₂ (λ (k : ℕ) (u : Bytes). Writes k c.body-then-n-eq0.new.text c.body-then-n-eq0.result (link_of attrs href (write_kids (self_at a.self.now.skip a.levels) anc (fresh a.opts) (element name attrs kids nothing) []) push u)) (back_length a.text.now a.len c.requires.1.0 (shown_text a.opts kids) w) (back_text a.text.now a.len c.requires.1.0 (shown_text a.opts kids) w)
-            (subst (λ (o : FormatOpts). Writes (length (back a.text.now a.len c.write_text.new.text)) c.body-then-n-eq0.new.text c.body-then-n-eq0.result (link_of attrs href (write_kids (self_at a.self.now.skip a.levels) anc o (element name attrs kids nothing) []) push (take a.len (back a.text.now a.len c.write_text.new.text)))) c.fresh-fresh.ensures (c.body-then-n-eq0.ensures.writes_element.for name attrs kids anc x h)));
+            alike (to_body (self_at a.self.now.skip a.levels) anc a.opts href name attrs kids (take a.text.now.len a.text.now.room.now) (bare_here _ _ _ x) (null_none (shown_text a.opts kids).text (sym w.count ∙ c.if-n-eq0.true)))
+            (subst₂ (λ (k : ℕ) (u : Bytes). Writes k c.body-then-n-eq0.new.text c.body-then-n-eq0.result (link_of attrs href (write_kids (self_at a.self.now.skip a.levels) anc (fresh a.opts) (element name attrs kids nothing) []) push u)) (back_length a.text.now.room.now a.text.now.len c.args.text.now.fits (shown_text a.opts kids) w) (back_text a.text.now.room.now a.text.now.len c.args.text.now.fits (shown_text a.opts kids) w)
+            (subst (λ (o : FormatOpts). Writes (length (back a.text.now.room.now a.text.now.len c.write_text_behind.new.room)) c.body-then-n-eq0.new.text c.body-then-n-eq0.result (link_of attrs href (write_kids (self_at a.self.now.skip a.levels) anc o (element name attrs kids nothing) []) push (take a.text.now.len (back a.text.now.room.now a.text.now.len c.write_text_behind.new.room)))) c.fresh-fresh.ensures (c.body-then-n-eq0.ensures.writes_element.for name attrs kids anc x h)));
       };
     }
 
@@ -1054,47 +1104,49 @@ link-node_place-place-requires t c =
 
 pub link-push_text_link-requires : goal.link-push_text_link-requires
 link-push_text_link-requires t c =
-    let wrote_here : (name : Bytes) (attrs : List Attr) (kids : Forest) → ElementAt c.args.self.now.sheet.now c.args.nodes.now c.args.at name attrs kids → Writes (length (lent c.args.text.now c.args.len)) c.write_text.new.text c.write_text.result (shown_text c.args.opts kids) = λ name attrs kids x. let a = c.args in subst (λ (o : FormatOpts). Writes (length (lent a.text.now a.len)) c.write_text.new.text c.write_text.result (write_text o kids [])) (c.skip_escape-plain.ensures ∙ ap skip_escape (c.include_node.ensures ∙ ap include_node c.fresh-fresh.ensures)) (c.write_text.ensures a.at kids (element_kids x c.node_end-end.ensures)) in
+    let wrote_here : (name : Bytes) (attrs : List Attr) (kids : Forest) → ElementAt c.args.self.now.sheet.now c.args.nodes.now c.args.at name attrs kids → Writes (length (lent c.args.text.now.room.now c.args.text.now.len)) c.write_text_behind.new.room c.write_text_behind.result (shown_text c.args.opts kids) = λ name attrs kids x. let a = c.args in subst (λ (o : FormatOpts). Writes (length (lent a.text.now.room.now a.text.now.len)) c.write_text_behind.new.room c.write_text_behind.result (write_text o kids [])) (c.skip_escape-plain.ensures ∙ ap skip_escape (c.include_node.ensures ∙ ap include_node c.fresh-fresh.ensures)) (c.write_text_behind.ensures a.at kids (element_kids x c.node_end-end.ensures)) in
     let p = c.requires.0 in
-    (nest-fits c.args.text.now c.args.len c.requires.1.0 (wrote_here _ _ _ p.0.3) c.in_ok-n.was, omega (arith, c.node_place-place.ensures, (placed_node c.args.self.now.sheet.now c.args.nodes.now c.args.at p).placed), c.requires.3)
+    (nest-fits c.args.text.now.room.now c.args.text.now.len c.args.text.now.fits (wrote_here _ _ _ p.0.3) c.in_ok-n.was, omega (arith, c.node_place-place.ensures, (placed_node c.args.self.now.sheet.now c.args.nodes.now c.args.at p).placed), c.requires.3)
 
 pub link-returns-else-n-eq0 : goal.link-returns-else-n-eq0
 link-returns-else-n-eq0 t c =
-    let wrote_here : (name : Bytes) (attrs : List Attr) (kids : Forest) → ElementAt c.args.self.now.sheet.now c.args.nodes.now c.args.at name attrs kids → Writes (length (lent c.args.text.now c.args.len)) c.write_text.new.text c.write_text.result (shown_text c.args.opts kids) = λ name attrs kids x. let a = c.args in subst (λ (o : FormatOpts). Writes (length (lent a.text.now a.len)) c.write_text.new.text c.write_text.result (write_text o kids [])) (c.skip_escape-plain.ensures ∙ ap skip_escape (c.include_node.ensures ∙ ap include_node c.fresh-fresh.ensures)) (c.write_text.ensures a.at kids (element_kids x c.node_end-end.ensures)) in
+    let wrote_here : (name : Bytes) (attrs : List Attr) (kids : Forest) → ElementAt c.args.self.now.sheet.now c.args.nodes.now c.args.at name attrs kids → Writes (length (lent c.args.text.now.room.now c.args.text.now.len)) c.write_text_behind.new.room c.write_text_behind.result (shown_text c.args.opts kids) = λ name attrs kids x. let a = c.args in subst (λ (o : FormatOpts). Writes (length (lent a.text.now.room.now a.text.now.len)) c.write_text_behind.new.room c.write_text_behind.result (write_text o kids [])) (c.skip_escape-plain.ensures ∙ ap skip_escape (c.include_node.ensures ∙ ap include_node c.fresh-fresh.ensures)) (c.write_text_behind.ensures a.at kids (element_kids x c.node_end-end.ensures)) in
     let bare_here : (name : Bytes) (attrs : List Attr) (kids : Forest) → ElementAt c.args.self.now.sheet.now c.args.nodes.now c.args.at name attrs kids → has_element 22 kids ≡ false = λ _ _ kids x. sym (c.has_element.ensures c.args.at kids (element_kids x c.node_end-end.ensures)) ∙ c.if-has_element.false in
     let a = c.args in
     let href = a.dest.now in record {
+      room = room_on (room_behind c.args.text.now c.write_text_behind.auto.room) (leaf_room c.push_text_link.ensures);
       kept = kept_none a.nodes.now;
       writes_element = record {
         for = λ name attrs kids anc x h.
             let w = done c.in_ok-n.was (wrote_here _ _ _ x) in
-            alike (to_text (self_at a.self.now.skip a.levels) anc a.opts href name attrs kids (take a.len a.text.now) (bare_here _ _ _ x) (null_more (shown_text a.opts kids).text (λ z. c.if-n-eq0.false (w.count ∙ z))))
-            (nest-done a.text.now a.len c.requires.1.0 (wrote_here _ _ _ x) (λ z. text_link_step a.opts attrs href z) c.in_ok-n.was
-            (subst (λ (l : List Attr). Writes (length (back a.text.now a.len c.write_text.new.text)) c.push_text_link.new.text c.push_text_link.result (text_link_step a.opts l href (take c.in_ok-n.n (drop a.len (back a.text.now a.len c.write_text.new.text))) (take a.len (back a.text.now a.len c.write_text.new.text)))) (ap (attrs_behind a.self.now.sheet.now) c.node_place-place.ensures ∙ sym x.attrs_are) c.push_text_link.ensures));
+            alike (to_text (self_at a.self.now.skip a.levels) anc a.opts href name attrs kids (take a.text.now.len a.text.now.room.now) (bare_here _ _ _ x) (null_more (shown_text a.opts kids).text (λ z. c.if-n-eq0.false (w.count ∙ z))))
+            (nest-done a.text.now.room.now a.text.now.len c.args.text.now.fits (wrote_here _ _ _ x) (λ z. text_link_step a.opts attrs href z) c.in_ok-n.was
+            (subst (λ (l : List Attr). Writes (length (back a.text.now.room.now a.text.now.len c.write_text_behind.new.room)) c.push_text_link.new.text.room.now c.push_text_link.result (text_link_step a.opts l href (take c.in_ok-n.n (drop a.text.now.len (back a.text.now.room.now a.text.now.len c.write_text_behind.new.room))) (take a.text.now.len (back a.text.now.room.now a.text.now.len c.write_text_behind.new.room)))) (ap (attrs_behind a.self.now.sheet.now) c.node_place-place.ensures ∙ sym x.attrs_are) c.push_text_link.ensures.writes));
       };
     }
 
 pub link-returns-in_err-n : goal.link-returns-in_err-n
 link-returns-in_err-n t c =
     let bare_here : (name : Bytes) (attrs : List Attr) (kids : Forest) → ElementAt c.args.self.now.sheet.now c.args.nodes.now c.args.at name attrs kids → has_element 22 kids ≡ false = λ _ _ kids x. sym (c.has_element.ensures c.args.at kids (element_kids x c.node_end-end.ensures)) ∙ c.if-has_element.false in
-    let wrote_here : (name : Bytes) (attrs : List Attr) (kids : Forest) → ElementAt c.args.self.now.sheet.now c.args.nodes.now c.args.at name attrs kids → Writes (length (lent c.args.text.now c.args.len)) c.write_text.new.text c.write_text.result (shown_text c.args.opts kids) = λ name attrs kids x. let a = c.args in subst (λ (o : FormatOpts). Writes (length (lent a.text.now a.len)) c.write_text.new.text c.write_text.result (write_text o kids [])) (c.skip_escape-plain.ensures ∙ ap skip_escape (c.include_node.ensures ∙ ap include_node c.fresh-fresh.ensures)) (c.write_text.ensures a.at kids (element_kids x c.node_end-end.ensures)) in
+    let wrote_here : (name : Bytes) (attrs : List Attr) (kids : Forest) → ElementAt c.args.self.now.sheet.now c.args.nodes.now c.args.at name attrs kids → Writes (length (lent c.args.text.now.room.now c.args.text.now.len)) c.write_text_behind.new.room c.write_text_behind.result (shown_text c.args.opts kids) = λ name attrs kids x. let a = c.args in subst (λ (o : FormatOpts). Writes (length (lent a.text.now.room.now a.text.now.len)) c.write_text_behind.new.room c.write_text_behind.result (write_text o kids [])) (c.skip_escape-plain.ensures ∙ ap skip_escape (c.include_node.ensures ∙ ap include_node c.fresh-fresh.ensures)) (c.write_text_behind.ensures a.at kids (element_kids x c.node_end-end.ensures)) in
     let a = c.args in
     let href = a.dest.now in record {
+      room = room_behind c.args.text.now c.write_text_behind.auto.room;
       kept = kept_none a.nodes.now;
       writes_element = stops_element c.from_residual.ensures.0 (record {
         for = λ name attrs kids anc x h.
-            alike (to_text (self_at a.self.now.skip a.levels) anc a.opts href name attrs kids (take a.len a.text.now) (bare_here _ _ _ x) (shown_null (shown_text a.opts kids) (text_grown (skip_escape (include_node (fresh a.opts))) kids []) (full c.in_err-n.was (wrote_here _ _ _ x))))
-            (nest-full a.text.now a.len c.requires.1.0 (wrote_here _ _ _ x) (text_link_step a.opts attrs href (shown_text a.opts kids).text) c.in_err-n.was);
+            alike (to_text (self_at a.self.now.skip a.levels) anc a.opts href name attrs kids (take a.text.now.len a.text.now.room.now) (bare_here _ _ _ x) (shown_null (shown_text a.opts kids) (text_grown (skip_escape (include_node (fresh a.opts))) kids []) (full c.in_err-n.was (wrote_here _ _ _ x))))
+            (nest-full a.text.now.room.now a.text.now.len c.args.text.now.fits (wrote_here _ _ _ x) (text_link_step a.opts attrs href (shown_text a.opts kids).text) c.in_err-n.was);
       });
     }
 
-pub link-slice_bounds-write_text-count : goal.link-slice_bounds-write_text-count
-link-slice_bounds-write_text-count t c =
-    c.requires.1.0
+pub link-slice_bounds-write_text_behind-count : goal.link-slice_bounds-write_text_behind-count
+link-slice_bounds-write_text_behind-count t c =
+    c.args.text.now.fits
 
-pub link-slice_bounds-write_text-start : goal.link-slice_bounds-write_text-start
-link-slice_bounds-write_text-start t c =
-    c.requires.1.0
+pub link-slice_bounds-write_text_behind-start : goal.link-slice_bounds-write_text_behind-start
+link-slice_bounds-write_text_behind-start t c =
+    c.args.text.now.fits
 
 pub node-node_place-place-requires : goal.node-node_place-place-requires
 node-node_place-place-requires t c =
@@ -1114,81 +1166,85 @@ node-node_is_skipped-requires t c =
 pub node-write_text_node-requires : goal.node-write_text_node-requires
 node-write_text_node-requires t c =
     let here_here : NodeAt c.args.self.now.sheet.now c.args.nodes.now c.args.at = placeds_at c.requires.0.alone c.requires.0.later in
-    (here_here, c.requires.1.0)
+    (here_here, c.args.text.now.fits)
 
-pub node-returns-then-tag_at-ne1 : goal.node-returns-then-tag_at-ne1
-node-returns-then-tag_at-ne1 t c =
+pub node-returns-then-tag_at-ne-OPEN : goal.node-returns-then-tag_at-ne-OPEN
+node-returns-then-tag_at-ne-OPEN t c =
     let a = c.args in
     let u = c.unpacked-opts in
     record {
+      room = leaf_room c.write_text_node.ensures;
       kept = kept_none a.nodes.now;
-      writes_forest = record { for = λ parent f anc h q. alike (ap (λ (o : FormatOpts). write_nodes (self_at a.self.now.skip a.levels) anc o f (take a.len a.text.now)) (sym u.ensures) ∙ node_text a.self.now.sheet.now a.nodes.now parent a.at c.requires.0.later (self_at a.self.now.skip a.levels) anc u.result (take a.len a.text.now) f h (λ e. c.if-tag_at-ne1.true (c.tag_at.ensures ∙ ap (λ (k : ℕ). get_or a.self.now.sheet.now k 0) c.node_place-place.ensures ∙ e))) c.write_text_node.ensures };
+      writes_forest = record { for = λ parent f anc h q. alike (ap (λ (o : FormatOpts). write_nodes (self_at a.self.now.skip a.levels) anc o f (take a.text.now.len a.text.now.room.now)) (sym u.ensures) ∙ node_text a.self.now.sheet.now a.nodes.now parent a.at c.requires.0.later (self_at a.self.now.skip a.levels) anc u.result (take a.text.now.len a.text.now.room.now) f h (λ e. c.if-tag_at-ne-OPEN.true (c.tag_at.ensures ∙ ap (λ (k : ℕ). get_or a.self.now.sheet.now k 0) c.node_place-place.ensures ∙ e))) c.write_text_node.ensures.writes };
     }
 
 pub node-returns-then-node_is_skipped : goal.node-returns-then-node_is_skipped
 unfolding serializer
 node-returns-then-node_is_skipped t c =
-    let tagged_here : get_or c.args.self.now.sheet.now (place_at c.args.nodes.now c.args.at) 0 ≡ 1 = omega (arith, c.if-tag_at-ne1.false, c.tag_at.ensures ∙ ap (λ (k : ℕ). get_or c.args.self.now.sheet.now k 0) c.node_place-place.ensures) in
-    let tagged_here_2 : get_or c.args.self.now.sheet.now (place_at c.args.nodes.now c.args.at) 0 ≡ 1 = omega (arith, c.if-tag_at-ne1.false, c.tag_at.ensures ∙ ap (λ (k : ℕ). get_or c.args.self.now.sheet.now k 0) c.node_place-place.ensures) in
+    let tagged_here : get_or c.args.self.now.sheet.now (place_at c.args.nodes.now c.args.at) 0 ≡ 1 = omega (arith, c.if-tag_at-ne-OPEN.false, c.tag_at.ensures ∙ ap (λ (k : ℕ). get_or c.args.self.now.sheet.now k 0) c.node_place-place.ensures) in
+    let tagged_here_2 : get_or c.args.self.now.sheet.now (place_at c.args.nodes.now c.args.at) 0 ≡ 1 = omega (arith, c.if-tag_at-ne-OPEN.false, c.tag_at.ensures ∙ ap (λ (k : ℕ). get_or c.args.self.now.sheet.now k 0) c.node_place-place.ensures) in
     let skips_here : among (body_at c.args.self.now.sheet.now (place_at c.args.nodes.now c.args.at)) (tags_to_skip (skip_of c.args.self.now.skip)) ≡ c.node_is_skipped.result = let a = c.args in sym (first_skipped a.self.now.sheet.now (place_at a.nodes.now a.at) (tags_to_skip (skip_of a.self.now.skip)) (tagged_here_2)) ∙ sym c.node_is_skipped.ensures in
     let a = c.args in record {
+      room = (refl, refl);
       kept = kept_none a.nodes.now;
       writes_forest = record {
         for = λ parent f anc h q.
-            alike (ap (λ (g : Forest). write_nodes (self_at a.self.now.skip a.levels) anc (unpacked a.bits) g (take a.len a.text.now)) (alone_element a.self.now.sheet.now a.nodes.now parent a.at c.requires.0.later f h (tagged_here))
-            ∙ element_skipped (self_at a.self.now.skip a.levels) anc (unpacked a.bits) (body_at a.self.now.sheet.now (place_at a.nodes.now a.at)) (attrs_behind a.self.now.sheet.now (place_at a.nodes.now a.at)) (kids_of f) (take a.len a.text.now) (skips_here ∙ c.if-node_is_skipped.true))
-            (record { says = keeps a.text.now a.len c.requires.1.0 });
+            alike (ap (λ (g : Forest). write_nodes (self_at a.self.now.skip a.levels) anc (unpacked a.bits) g (take a.text.now.len a.text.now.room.now)) (alone_element a.self.now.sheet.now a.nodes.now parent a.at c.requires.0.later f h (tagged_here))
+            ∙ element_skipped (self_at a.self.now.skip a.levels) anc (unpacked a.bits) (body_at a.self.now.sheet.now (place_at a.nodes.now a.at)) (attrs_behind a.self.now.sheet.now (place_at a.nodes.now a.at)) (kids_of f) (take a.text.now.len a.text.now.room.now) (skips_here ∙ c.if-node_is_skipped.true))
+            (record { says = keeps a.text.now.room.now a.text.now.len c.args.text.now.fits });
       };
     }
 
 pub node-opened-requires : goal.node-opened-requires
 node-opened-requires t c =
-    let tagged_here : get_or c.args.self.now.sheet.now (place_at c.args.nodes.now c.args.at) 0 ≡ 1 = omega (arith, c.if-tag_at-ne1.false, c.tag_at.ensures ∙ ap (λ (k : ℕ). get_or c.args.self.now.sheet.now k 0) c.node_place-place.ensures) in
+    let tagged_here : get_or c.args.self.now.sheet.now (place_at c.args.nodes.now c.args.at) 0 ≡ 1 = omega (arith, c.if-tag_at-ne-OPEN.false, c.tag_at.ensures ∙ ap (λ (k : ℕ). get_or c.args.self.now.sheet.now k 0) c.node_place-place.ensures) in
     let placed_here : Placed c.args.self.now.sheet.now c.args.nodes.now c.args.at = node_placed c.requires.0 (tagged_here) in
-    ((placed_here).0, c.requires.1.0)
+    ((placed_here).0, c.args.text.now.fits)
 
 pub node-inside-requires : goal.node-inside-requires
 node-inside-requires t c =
-    let tagged_here : get_or c.args.self.now.sheet.now (place_at c.args.nodes.now c.args.at) 0 ≡ 1 = omega (arith, c.if-tag_at-ne1.false, c.tag_at.ensures ∙ ap (λ (k : ℕ). get_or c.args.self.now.sheet.now k 0) c.node_place-place.ensures) in
+    let tagged_here : get_or c.args.self.now.sheet.now (place_at c.args.nodes.now c.args.at) 0 ≡ 1 = omega (arith, c.if-tag_at-ne-OPEN.false, c.tag_at.ensures ∙ ap (λ (k : ℕ). get_or c.args.self.now.sheet.now k 0) c.node_place-place.ensures) in
     let placed_here : Placed c.args.self.now.sheet.now c.args.nodes.now c.args.at = node_placed c.requires.0 (tagged_here) in
     let p = placed_here in
-    (falls_in c.args.levels c.decreases (lit< tt), (p, (reaches (done c.in_ok-n.was (c.opened.ensures p.0.0 p.0.1 p.0.2 p.0.3)), c.requires.1.1), c.requires.2))
+    (falls_in c.args.levels c.decreases (lit< tt), (p, c.requires.1, c.requires.2))
 
 pub node-returns : goal.node-returns
 unfolding serializer
 node-returns t c =
-    let tagged_here : get_or c.args.self.now.sheet.now (place_at c.args.nodes.now c.args.at) 0 ≡ 1 = omega (arith, c.if-tag_at-ne1.false, c.tag_at.ensures ∙ ap (λ (k : ℕ). get_or c.args.self.now.sheet.now k 0) c.node_place-place.ensures) in
-    let tagged_here_2 : get_or c.args.self.now.sheet.now (place_at c.args.nodes.now c.args.at) 0 ≡ 1 = omega (arith, c.if-tag_at-ne1.false, c.tag_at.ensures ∙ ap (λ (k : ℕ). get_or c.args.self.now.sheet.now k 0) c.node_place-place.ensures) in
+    let tagged_here : get_or c.args.self.now.sheet.now (place_at c.args.nodes.now c.args.at) 0 ≡ 1 = omega (arith, c.if-tag_at-ne-OPEN.false, c.tag_at.ensures ∙ ap (λ (k : ℕ). get_or c.args.self.now.sheet.now k 0) c.node_place-place.ensures) in
+    let tagged_here_2 : get_or c.args.self.now.sheet.now (place_at c.args.nodes.now c.args.at) 0 ≡ 1 = omega (arith, c.if-tag_at-ne-OPEN.false, c.tag_at.ensures ∙ ap (λ (k : ℕ). get_or c.args.self.now.sheet.now k 0) c.node_place-place.ensures) in
     let skips_here : among (body_at c.args.self.now.sheet.now (place_at c.args.nodes.now c.args.at)) (tags_to_skip (skip_of c.args.self.now.skip)) ≡ c.node_is_skipped.result = let a = c.args in sym (first_skipped a.self.now.sheet.now (place_at a.nodes.now a.at) (tags_to_skip (skip_of a.self.now.skip)) (tagged_here_2)) ∙ sym c.node_is_skipped.ensures in
-    let goes_here : (parent : ℕ) (f : Forest) (anc : Ancestors) → Rep c.args.self.now.sheet.now c.args.nodes.now parent c.args.at (end_at c.args.nodes.now c.args.at) f → write_nodes (self_at c.args.self.now.skip c.args.levels) anc (unpacked c.args.bits) f (take c.args.len c.args.text.now) ≡ and_then (opened (unpacked c.args.bits) (tag_of (body_at c.args.self.now.sheet.now (place_at c.args.nodes.now c.args.at))) (attrs_behind c.args.self.now.sheet.now (place_at c.args.nodes.now c.args.at)) (kids_of f) (take c.args.len c.args.text.now)) (in_element (self_at c.args.self.now.skip c.args.levels) anc (unpacked c.args.bits) (body_at c.args.self.now.sheet.now (place_at c.args.nodes.now c.args.at)) (attrs_behind c.args.self.now.sheet.now (place_at c.args.nodes.now c.args.at)) (kids_of f)) = λ parent f anc h. let a = c.args in ap (λ (g : Forest). write_nodes (self_at a.self.now.skip a.levels) anc (unpacked a.bits) g (take a.len a.text.now)) (alone_element a.self.now.sheet.now a.nodes.now parent a.at c.requires.0.later f h (tagged_here)) ∙ element_opened (self_at a.self.now.skip a.levels) anc (unpacked a.bits) (body_at a.self.now.sheet.now (place_at a.nodes.now a.at)) (attrs_behind a.self.now.sheet.now (place_at a.nodes.now a.at)) (kids_of f) (take a.len a.text.now) (skips_here ∙ c.if-node_is_skipped.false) in
-    let tagged_here_3 : get_or c.args.self.now.sheet.now (place_at c.args.nodes.now c.args.at) 0 ≡ 1 = omega (arith, c.if-tag_at-ne1.false, c.tag_at.ensures ∙ ap (λ (k : ℕ). get_or c.args.self.now.sheet.now k 0) c.node_place-place.ensures) in
-    let opens_here : (parent : ℕ) (f : Forest) → Rep c.args.self.now.sheet.now c.args.nodes.now parent c.args.at (end_at c.args.nodes.now c.args.at) f → Writes (length c.args.text.now) c.opened.new.text c.opened.result (opened (unpacked c.args.bits) (tag_of (body_at c.args.self.now.sheet.now (place_at c.args.nodes.now c.args.at))) (attrs_behind c.args.self.now.sheet.now (place_at c.args.nodes.now c.args.at)) (kids_of f) (take c.args.len c.args.text.now)) = λ parent f h. let a = c.args in subst (λ (o : FormatOpts). Writes (length a.text.now) c.opened.new.text c.opened.result (opened o (tag_of (body_at a.self.now.sheet.now (place_at a.nodes.now a.at))) (attrs_behind a.self.now.sheet.now (place_at a.nodes.now a.at)) (kids_of f) (take a.len a.text.now))) c.unpacked-opts-2.ensures (c.opened.ensures (body_at c.args.self.now.sheet.now (place_at c.args.nodes.now c.args.at)) (attrs_behind c.args.self.now.sheet.now (place_at c.args.nodes.now c.args.at)) (kids_of f) (node_element c.args.self.now.sheet.now c.args.nodes.now parent c.args.at (end_at c.args.nodes.now c.args.at) f h c.requires.0.later c.requires.0.alone.positive (tagged_here_3))) in
-    let tagged_here_4 : get_or c.args.self.now.sheet.now (place_at c.args.nodes.now c.args.at) 0 ≡ 1 = omega (arith, c.if-tag_at-ne1.false, c.tag_at.ensures ∙ ap (λ (k : ℕ). get_or c.args.self.now.sheet.now k 0) c.node_place-place.ensures) in
+    let goes_here : (parent : ℕ) (f : Forest) (anc : Ancestors) → Rep c.args.self.now.sheet.now c.args.nodes.now parent c.args.at (end_at c.args.nodes.now c.args.at) f → write_nodes (self_at c.args.self.now.skip c.args.levels) anc (unpacked c.args.bits) f (take c.args.text.now.len c.args.text.now.room.now) ≡ and_then (opened (unpacked c.args.bits) (tag_of (body_at c.args.self.now.sheet.now (place_at c.args.nodes.now c.args.at))) (attrs_behind c.args.self.now.sheet.now (place_at c.args.nodes.now c.args.at)) (kids_of f) (take c.args.text.now.len c.args.text.now.room.now)) (in_element (self_at c.args.self.now.skip c.args.levels) anc (unpacked c.args.bits) (body_at c.args.self.now.sheet.now (place_at c.args.nodes.now c.args.at)) (attrs_behind c.args.self.now.sheet.now (place_at c.args.nodes.now c.args.at)) (kids_of f)) = λ parent f anc h. let a = c.args in ap (λ (g : Forest). write_nodes (self_at a.self.now.skip a.levels) anc (unpacked a.bits) g (take a.text.now.len a.text.now.room.now)) (alone_element a.self.now.sheet.now a.nodes.now parent a.at c.requires.0.later f h (tagged_here)) ∙ element_opened (self_at a.self.now.skip a.levels) anc (unpacked a.bits) (body_at a.self.now.sheet.now (place_at a.nodes.now a.at)) (attrs_behind a.self.now.sheet.now (place_at a.nodes.now a.at)) (kids_of f) (take a.text.now.len a.text.now.room.now) (skips_here ∙ c.if-node_is_skipped.false) in
+    let tagged_here_3 : get_or c.args.self.now.sheet.now (place_at c.args.nodes.now c.args.at) 0 ≡ 1 = omega (arith, c.if-tag_at-ne-OPEN.false, c.tag_at.ensures ∙ ap (λ (k : ℕ). get_or c.args.self.now.sheet.now k 0) c.node_place-place.ensures) in
+    let opens_here : (parent : ℕ) (f : Forest) → Rep c.args.self.now.sheet.now c.args.nodes.now parent c.args.at (end_at c.args.nodes.now c.args.at) f → Writes (length c.args.text.now.room.now) c.opened.new.text.room.now c.opened.result (opened (unpacked c.args.bits) (tag_of (body_at c.args.self.now.sheet.now (place_at c.args.nodes.now c.args.at))) (attrs_behind c.args.self.now.sheet.now (place_at c.args.nodes.now c.args.at)) (kids_of f) (take c.args.text.now.len c.args.text.now.room.now)) = λ parent f h. let a = c.args in subst (λ (o : FormatOpts). Writes (length a.text.now.room.now) c.opened.new.text.room.now c.opened.result (opened o (tag_of (body_at a.self.now.sheet.now (place_at a.nodes.now a.at))) (attrs_behind a.self.now.sheet.now (place_at a.nodes.now a.at)) (kids_of f) (take a.text.now.len a.text.now.room.now))) c.unpacked-opts-2.ensures (c.opened.ensures.writes (body_at c.args.self.now.sheet.now (place_at c.args.nodes.now c.args.at)) (attrs_behind c.args.self.now.sheet.now (place_at c.args.nodes.now c.args.at)) (kids_of f) (node_element c.args.self.now.sheet.now c.args.nodes.now parent c.args.at (end_at c.args.nodes.now c.args.at) f h c.requires.0.later c.requires.0.alone.positive (tagged_here_3))) in
+    let tagged_here_4 : get_or c.args.self.now.sheet.now (place_at c.args.nodes.now c.args.at) 0 ≡ 1 = omega (arith, c.if-tag_at-ne-OPEN.false, c.tag_at.ensures ∙ ap (λ (k : ℕ). get_or c.args.self.now.sheet.now k 0) c.node_place-place.ensures) in
     let a = c.args in record {
+      room = room_on (leaf_room c.opened.ensures) (c.inside.ensures.room);
       kept = c.inside.ensures.kept;
       writes_forest = record {
         for = λ parent f anc h q.
-            both-done a.text.now a.len c.requires.1.0 (write_nodes (self_at a.self.now.skip a.levels) anc (unpacked a.bits) f) (opened (unpacked a.bits) (tag_of (body_at a.self.now.sheet.now (place_at a.nodes.now a.at))) (attrs_behind a.self.now.sheet.now (place_at a.nodes.now a.at)) (kids_of f))
-            (in_element (self_at a.self.now.skip a.levels) anc (unpacked a.bits) (body_at a.self.now.sheet.now (place_at a.nodes.now a.at)) (attrs_behind a.self.now.sheet.now (place_at a.nodes.now a.at)) (kids_of f)) (goes_here parent f anc h) (opens_here parent f h) c.in_ok-n.was
+            both-done a.text.now.room.now a.text.now.len c.args.text.now.fits (write_nodes (self_at a.self.now.skip a.levels) anc (unpacked a.bits) f) (opened (unpacked a.bits) (tag_of (body_at a.self.now.sheet.now (place_at a.nodes.now a.at))) (attrs_behind a.self.now.sheet.now (place_at a.nodes.now a.at)) (kids_of f))
+            (in_element (self_at a.self.now.skip a.levels) anc (unpacked a.bits) (body_at a.self.now.sheet.now (place_at a.nodes.now a.at)) (attrs_behind a.self.now.sheet.now (place_at a.nodes.now a.at)) (kids_of f)) (goes_here parent f anc h) (opens_here parent f h) (ap (wrote c.opened.new.text) c.in_ok-opened.was)
             (alone_writes c.requires.0 (tagged_here_4) c.inside.ensures.writes_element parent f anc h q);
       };
     }
 
-pub node-returns-in_err-n : goal.node-returns-in_err-n
+pub node-returns-in_err-opened : goal.node-returns-in_err-opened
 unfolding serializer
-node-returns-in_err-n t c =
-    let tagged_here : get_or c.args.self.now.sheet.now (place_at c.args.nodes.now c.args.at) 0 ≡ 1 = omega (arith, c.if-tag_at-ne1.false, c.tag_at.ensures ∙ ap (λ (k : ℕ). get_or c.args.self.now.sheet.now k 0) c.node_place-place.ensures) in
-    let tagged_here_2 : get_or c.args.self.now.sheet.now (place_at c.args.nodes.now c.args.at) 0 ≡ 1 = omega (arith, c.if-tag_at-ne1.false, c.tag_at.ensures ∙ ap (λ (k : ℕ). get_or c.args.self.now.sheet.now k 0) c.node_place-place.ensures) in
+node-returns-in_err-opened t c =
+    let tagged_here : get_or c.args.self.now.sheet.now (place_at c.args.nodes.now c.args.at) 0 ≡ 1 = omega (arith, c.if-tag_at-ne-OPEN.false, c.tag_at.ensures ∙ ap (λ (k : ℕ). get_or c.args.self.now.sheet.now k 0) c.node_place-place.ensures) in
+    let tagged_here_2 : get_or c.args.self.now.sheet.now (place_at c.args.nodes.now c.args.at) 0 ≡ 1 = omega (arith, c.if-tag_at-ne-OPEN.false, c.tag_at.ensures ∙ ap (λ (k : ℕ). get_or c.args.self.now.sheet.now k 0) c.node_place-place.ensures) in
     let skips_here : among (body_at c.args.self.now.sheet.now (place_at c.args.nodes.now c.args.at)) (tags_to_skip (skip_of c.args.self.now.skip)) ≡ c.node_is_skipped.result = let a = c.args in sym (first_skipped a.self.now.sheet.now (place_at a.nodes.now a.at) (tags_to_skip (skip_of a.self.now.skip)) (tagged_here_2)) ∙ sym c.node_is_skipped.ensures in
-    let goes_here : (parent : ℕ) (f : Forest) (anc : Ancestors) → Rep c.args.self.now.sheet.now c.args.nodes.now parent c.args.at (end_at c.args.nodes.now c.args.at) f → write_nodes (self_at c.args.self.now.skip c.args.levels) anc (unpacked c.args.bits) f (take c.args.len c.args.text.now) ≡ and_then (opened (unpacked c.args.bits) (tag_of (body_at c.args.self.now.sheet.now (place_at c.args.nodes.now c.args.at))) (attrs_behind c.args.self.now.sheet.now (place_at c.args.nodes.now c.args.at)) (kids_of f) (take c.args.len c.args.text.now)) (in_element (self_at c.args.self.now.skip c.args.levels) anc (unpacked c.args.bits) (body_at c.args.self.now.sheet.now (place_at c.args.nodes.now c.args.at)) (attrs_behind c.args.self.now.sheet.now (place_at c.args.nodes.now c.args.at)) (kids_of f)) = λ parent f anc h. let a = c.args in ap (λ (g : Forest). write_nodes (self_at a.self.now.skip a.levels) anc (unpacked a.bits) g (take a.len a.text.now)) (alone_element a.self.now.sheet.now a.nodes.now parent a.at c.requires.0.later f h (tagged_here)) ∙ element_opened (self_at a.self.now.skip a.levels) anc (unpacked a.bits) (body_at a.self.now.sheet.now (place_at a.nodes.now a.at)) (attrs_behind a.self.now.sheet.now (place_at a.nodes.now a.at)) (kids_of f) (take a.len a.text.now) (skips_here ∙ c.if-node_is_skipped.false) in
-    let tagged_here_3 : get_or c.args.self.now.sheet.now (place_at c.args.nodes.now c.args.at) 0 ≡ 1 = omega (arith, c.if-tag_at-ne1.false, c.tag_at.ensures ∙ ap (λ (k : ℕ). get_or c.args.self.now.sheet.now k 0) c.node_place-place.ensures) in
-    let opens_here : (parent : ℕ) (f : Forest) → Rep c.args.self.now.sheet.now c.args.nodes.now parent c.args.at (end_at c.args.nodes.now c.args.at) f → Writes (length c.args.text.now) c.opened.new.text c.opened.result (opened (unpacked c.args.bits) (tag_of (body_at c.args.self.now.sheet.now (place_at c.args.nodes.now c.args.at))) (attrs_behind c.args.self.now.sheet.now (place_at c.args.nodes.now c.args.at)) (kids_of f) (take c.args.len c.args.text.now)) = λ parent f h. let a = c.args in subst (λ (o : FormatOpts). Writes (length a.text.now) c.opened.new.text c.opened.result (opened o (tag_of (body_at a.self.now.sheet.now (place_at a.nodes.now a.at))) (attrs_behind a.self.now.sheet.now (place_at a.nodes.now a.at)) (kids_of f) (take a.len a.text.now))) c.unpacked-opts-2.ensures (c.opened.ensures (body_at c.args.self.now.sheet.now (place_at c.args.nodes.now c.args.at)) (attrs_behind c.args.self.now.sheet.now (place_at c.args.nodes.now c.args.at)) (kids_of f) (node_element c.args.self.now.sheet.now c.args.nodes.now parent c.args.at (end_at c.args.nodes.now c.args.at) f h c.requires.0.later c.requires.0.alone.positive (tagged_here_3))) in
+    let goes_here : (parent : ℕ) (f : Forest) (anc : Ancestors) → Rep c.args.self.now.sheet.now c.args.nodes.now parent c.args.at (end_at c.args.nodes.now c.args.at) f → write_nodes (self_at c.args.self.now.skip c.args.levels) anc (unpacked c.args.bits) f (take c.args.text.now.len c.args.text.now.room.now) ≡ and_then (opened (unpacked c.args.bits) (tag_of (body_at c.args.self.now.sheet.now (place_at c.args.nodes.now c.args.at))) (attrs_behind c.args.self.now.sheet.now (place_at c.args.nodes.now c.args.at)) (kids_of f) (take c.args.text.now.len c.args.text.now.room.now)) (in_element (self_at c.args.self.now.skip c.args.levels) anc (unpacked c.args.bits) (body_at c.args.self.now.sheet.now (place_at c.args.nodes.now c.args.at)) (attrs_behind c.args.self.now.sheet.now (place_at c.args.nodes.now c.args.at)) (kids_of f)) = λ parent f anc h. let a = c.args in ap (λ (g : Forest). write_nodes (self_at a.self.now.skip a.levels) anc (unpacked a.bits) g (take a.text.now.len a.text.now.room.now)) (alone_element a.self.now.sheet.now a.nodes.now parent a.at c.requires.0.later f h (tagged_here)) ∙ element_opened (self_at a.self.now.skip a.levels) anc (unpacked a.bits) (body_at a.self.now.sheet.now (place_at a.nodes.now a.at)) (attrs_behind a.self.now.sheet.now (place_at a.nodes.now a.at)) (kids_of f) (take a.text.now.len a.text.now.room.now) (skips_here ∙ c.if-node_is_skipped.false) in
+    let tagged_here_3 : get_or c.args.self.now.sheet.now (place_at c.args.nodes.now c.args.at) 0 ≡ 1 = omega (arith, c.if-tag_at-ne-OPEN.false, c.tag_at.ensures ∙ ap (λ (k : ℕ). get_or c.args.self.now.sheet.now k 0) c.node_place-place.ensures) in
+    let opens_here : (parent : ℕ) (f : Forest) → Rep c.args.self.now.sheet.now c.args.nodes.now parent c.args.at (end_at c.args.nodes.now c.args.at) f → Writes (length c.args.text.now.room.now) c.opened.new.text.room.now c.opened.result (opened (unpacked c.args.bits) (tag_of (body_at c.args.self.now.sheet.now (place_at c.args.nodes.now c.args.at))) (attrs_behind c.args.self.now.sheet.now (place_at c.args.nodes.now c.args.at)) (kids_of f) (take c.args.text.now.len c.args.text.now.room.now)) = λ parent f h. let a = c.args in subst (λ (o : FormatOpts). Writes (length a.text.now.room.now) c.opened.new.text.room.now c.opened.result (opened o (tag_of (body_at a.self.now.sheet.now (place_at a.nodes.now a.at))) (attrs_behind a.self.now.sheet.now (place_at a.nodes.now a.at)) (kids_of f) (take a.text.now.len a.text.now.room.now))) c.unpacked-opts-2.ensures (c.opened.ensures.writes (body_at c.args.self.now.sheet.now (place_at c.args.nodes.now c.args.at)) (attrs_behind c.args.self.now.sheet.now (place_at c.args.nodes.now c.args.at)) (kids_of f) (node_element c.args.self.now.sheet.now c.args.nodes.now parent c.args.at (end_at c.args.nodes.now c.args.at) f h c.requires.0.later c.requires.0.alone.positive (tagged_here_3))) in
     let a = c.args in record {
+      room = leaf_room c.opened.ensures;
       kept = kept_none a.nodes.now;
       writes_forest = stops_forest c.from_residual.ensures.0 (record {
         for = λ parent f anc h q.
-            both-full a.text.now a.len c.requires.1.0 (write_nodes (self_at a.self.now.skip a.levels) anc (unpacked a.bits) f) (opened (unpacked a.bits) (tag_of (body_at a.self.now.sheet.now (place_at a.nodes.now a.at))) (attrs_behind a.self.now.sheet.now (place_at a.nodes.now a.at)) (kids_of f))
-            (in_element (self_at a.self.now.skip a.levels) anc (unpacked a.bits) (body_at a.self.now.sheet.now (place_at a.nodes.now a.at)) (attrs_behind a.self.now.sheet.now (place_at a.nodes.now a.at)) (kids_of f)) (goes_here parent f anc h) (opens_here parent f h) c.in_err-n.was;
+            both-full a.text.now.room.now a.text.now.len c.args.text.now.fits (write_nodes (self_at a.self.now.skip a.levels) anc (unpacked a.bits) f) (opened (unpacked a.bits) (tag_of (body_at a.self.now.sheet.now (place_at a.nodes.now a.at))) (attrs_behind a.self.now.sheet.now (place_at a.nodes.now a.at)) (kids_of f))
+            (in_element (self_at a.self.now.skip a.levels) anc (unpacked a.bits) (body_at a.self.now.sheet.now (place_at a.nodes.now a.at)) (attrs_behind a.self.now.sheet.now (place_at a.nodes.now a.at)) (kids_of f)) (goes_here parent f anc h) (opens_here parent f h) (ap (wrote c.opened.new.text) c.in_err-opened.was);
       });
     }
 
@@ -1209,7 +1265,7 @@ row-next_cell-c-requires t c =
 pub row-loop-c-init : goal.row-loop-c-init
 row-loop-c-init t c =
     let a = c.args in
-    row_start (serializer (tags_to_skip (skip_of a.self.now.skip)) a.levels) a.opts c.requires.0 c.node_end-to.ensures c.next_cell-c.ensures.later c.next_cell-c.ensures.cells a.text.now a.len c.requires.1.0
+    row_start (serializer (tags_to_skip (skip_of a.self.now.skip)) a.levels) a.opts c.requires.0 c.node_end-to.ensures c.next_cell-c.ensures.later c.next_cell-c.ensures.cells a.text.now.room.now a.text.now.len c.args.text.now.fits
 
 pub row-slice_bounds-cell-count : goal.row-slice_bounds-cell-count
 row-slice_bounds-cell-count t c =
@@ -1225,7 +1281,7 @@ row-slice_bounds-cell-end t c =
 
 pub row-cell-requires : goal.row-cell-requires
 row-cell-requires t c =
-    (falls_in c.args.levels c.decreases (lit< tt), (row_placed c.loop-c.invariant c.loop-c-test.true, c.requires.1.1, c.requires.2))
+    (falls_in c.args.levels c.decreases (lit< tt), (row_placed c.loop-c.invariant c.loop-c-test.true, c.requires.1, c.requires.2))
 
 pub row-store_span-requires : goal.row-store_span-requires
 row-store_span-requires t c =
@@ -1241,6 +1297,7 @@ pub row-returns-in_err-n : goal.row-returns-in_err-n
 row-returns-in_err-n t c =
     let p = c.loop-c.invariant in
     record {
+      room = room_on (c.loop-c.invariant.0) (room_behind c.loop-c.text c.cell.auto.room);
       kept = row_kept p c.loop-c-test.true c.cell.ensures.kept;
       row_writes = λ cells x. stops_row c.from_residual.ensures.0 (row_stop p c.loop-c-test.true (row_writes p c.loop-c-test.true c.cell.ensures.writes) c.in_err-n.was _ _ cells x);
     }
@@ -1273,6 +1330,7 @@ row-shape_of-text t c =
 pub row-returns : goal.row-returns
 row-returns t c =
     record {
+      room = c.loop-c.invariant.0;
       kept = subst (λ (j : ℕ). Kept (c.args.tr + 1) j c.args.nodes.now c.loop-c.nodes) c.loop-c.invariant.to_is c.loop-c.invariant.kept;
       row_writes = row_end c.loop-c.invariant c.loop-c-test.false;
     }
@@ -1284,7 +1342,7 @@ siblings-is_one_text-requires t c =
 
 pub siblings-write_text_node-requires : goal.siblings-write_text_node-requires
 siblings-write_text_node-requires t c =
-    (placeds_at c.requires.0 (omega (arith, (c.is_one_text.ensures (some_one c.args.levels c.is_one_text.result c.if-levels-is_one_text.true).1).0)), c.requires.1.0)
+    (placeds_at c.requires.0 (omega (arith, (c.is_one_text.ensures (some_one c.args.levels c.is_one_text.result c.if-levels-is_one_text.true).1).0)), c.args.text.now.fits)
 
 pub siblings-returns-then-levels-is_one_text : goal.siblings-returns-then-levels-is_one_text
 siblings-returns-then-levels-is_one_text t c =
@@ -1292,13 +1350,14 @@ siblings-returns-then-levels-is_one_text t c =
     let u = c.unpacked-opts in
     let b = some_one a.levels c.is_one_text.result c.if-levels-is_one_text.true in
     let o = c.is_one_text.ensures b.1 in record {
+      room = leaf_room c.write_text_node.ensures;
       kept = kept_none a.nodes.now;
       writes_forest = record {
         for = λ parent f anc h q.
-            alike (ap (λ (o : FormatOpts). write_at (tags_to_skip (skip_of a.self.now.skip)) a.levels anc o f (take a.len a.text.now)) (sym u.ensures)
-            ∙ write_some (tags_to_skip (skip_of a.self.now.skip)) a.levels anc u.result f (take a.len a.text.now) b.0
-            ∙ one_is a.self.now.sheet.now a.nodes.now parent a.from a.to o.0 o.1 (self_at a.self.now.skip (a.levels - 1)) anc u.result (take a.len a.text.now) f h)
-            c.write_text_node.ensures;
+            alike (ap (λ (o : FormatOpts). write_at (tags_to_skip (skip_of a.self.now.skip)) a.levels anc o f (take a.text.now.len a.text.now.room.now)) (sym u.ensures)
+            ∙ write_some (tags_to_skip (skip_of a.self.now.skip)) a.levels anc u.result f (take a.text.now.len a.text.now.room.now) b.0
+            ∙ one_is a.self.now.sheet.now a.nodes.now parent a.from a.to o.0 o.1 (self_at a.self.now.skip (a.levels - 1)) anc u.result (take a.text.now.len a.text.now.room.now) f h)
+            c.write_text_node.ensures.writes;
       };
     }
 
@@ -1313,18 +1372,19 @@ siblings-returns t c =
 pub write-returns-then-levels-eq0 : goal.write-returns-then-levels-eq0
 write-returns-then-levels-eq0 t c =
     record {
+      room = (refl, refl);
       kept = kept_none c.args.nodes.now;
-      writes_forest = record { for = λ parent f anc h a. alike (write_none (tags_to_skip (skip_of c.args.self.now.skip)) c.args.levels anc (unpacked c.args.bits) f (take c.args.len c.args.text.now) c.if-levels-eq0.true) (record { says = keeps c.args.text.now c.args.len c.requires.1.0 }) };
+      writes_forest = record { for = λ parent f anc h a. alike (write_none (tags_to_skip (skip_of c.args.self.now.skip)) c.args.levels anc (unpacked c.args.bits) f (take c.args.text.now.len c.args.text.now.room.now) c.if-levels-eq0.true) (record { says = keeps c.args.text.now.room.now c.args.text.now.len c.args.text.now.fits }) };
     }
 
 pub write-loop-at-init : goal.write-loop-at-init
 write-loop-at-init t c = (
-  c.requires.1.0,
+  c.args.text.now.fits,
   refl,
   kept_none c.args.nodes.now,
   omega arith,
   c.requires.0,
-  turn_first c.args.self.now.sheet.now c.args.nodes.now c.args.from c.args.to (λ anc f. write_nodes (self_at c.args.self.now.skip (c.args.levels - 1)) anc (unpacked c.args.bits) f) c.args.text.now c.args.len c.requires.1.0,
+  turn_first c.args.self.now.sheet.now c.args.nodes.now c.args.from c.args.to (λ anc f. write_nodes (self_at c.args.self.now.skip (c.args.levels - 1)) anc (unpacked c.args.bits) f) c.args.text.now.room.now c.args.text.now.len c.args.text.now.fits,
 )
 
 pub write-overflow_sub-levels : goal.write-overflow_sub-levels
@@ -1335,17 +1395,18 @@ pub write-node-requires : goal.write-node-requires
 write-node-requires t c =
     let l = c.loop-at in
     let p : 0 < c.args.levels = omega (arith, c.if-levels-eq0.false) in
-    (falls_out c.args.levels c.decreases p (lit< tt), (node_kept l.invariant.2 (placeds_first l.invariant.4 c.loop-at-test.true), (l.invariant.0, c.requires.1.1), omega (arith, p, c.requires.2)))
+    (falls_out c.args.levels c.decreases p (lit< tt), (node_kept l.invariant.2 (placeds_first l.invariant.4 c.loop-at-test.true), (l.invariant.0, c.requires.1), omega (arith, p, c.requires.2)))
 
-pub write-returns-in_err-end : goal.write-returns-in_err-end
-write-returns-in_err-end t c =
+pub write-returns-in_err-node : goal.write-returns-in_err-node
+write-returns-in_err-node t c =
     let kept_here : Kept c.args.from c.args.to c.args.nodes.now c.node.new.nodes = let l = c.loop-at in let lt = c.loop-at-test.true in kept_then l.invariant.2 (kept_in l.invariant.3 (omega (arith, end_kept l.invariant.2 l.at, placeds_within l.invariant.4 lt)) c.node.ensures.kept) in
-    let wrote_here : WritesForest c.args.self.now.sheet.now c.args.nodes.now c.loop-at.at (end_at c.args.nodes.now c.loop-at.at) (λ anc f. write_nodes (self_at c.args.self.now.skip (c.args.levels - 1)) anc (unpacked c.args.bits) f) (take c.loop-at.end c.loop-at.text) (length c.loop-at.text) c.node.new.text c.node.result = writes_before c.loop-at.invariant.2 c.node.ensures.writes_forest in
+    let wrote_here : WritesForest c.args.self.now.sheet.now c.args.nodes.now c.loop-at.at (end_at c.args.nodes.now c.loop-at.at) (λ anc f. write_nodes (self_at c.args.self.now.skip (c.args.levels - 1)) anc (unpacked c.args.bits) f) (take c.loop-at.end c.loop-at.text) (length c.loop-at.text) c.node.new.text.room.now c.node.result = writes_before c.loop-at.invariant.2 c.node.ensures.writes_forest in
     record {
+      room = room_on (c.loop-at.invariant.0) (c.node.ensures.room);
       kept = kept_here;
       writes_forest = stops_forest c.from_residual.ensures.0 (record {
-        for = λ parent f anc h a. alike (write_some (tags_to_skip (skip_of c.args.self.now.skip)) c.args.levels anc (unpacked c.args.bits) f (take c.args.len c.args.text.now) (omega (arith, c.if-levels-eq0.false)))
-            (turn_stop c.loop-at.invariant.5 (λ anc f. write_nodes (self_at c.args.self.now.skip (c.args.levels - 1)) anc (unpacked c.args.bits) f) (λ anc f. write_nodes (self_at c.args.self.now.skip (c.args.levels - 1)) anc (unpacked c.args.bits) f) (λ parent anc g h u. nodes_first (self_at c.args.self.now.skip (c.args.levels - 1)) anc (unpacked c.args.bits) g u) c.loop-at-test.true (wrote_here) c.in_err-end.was parent f anc h a);
+        for = λ parent f anc h a. alike (write_some (tags_to_skip (skip_of c.args.self.now.skip)) c.args.levels anc (unpacked c.args.bits) f (take c.args.text.now.len c.args.text.now.room.now) (omega (arith, c.if-levels-eq0.false)))
+            (turn_stop c.loop-at.invariant.5 (λ anc f. write_nodes (self_at c.args.self.now.skip (c.args.levels - 1)) anc (unpacked c.args.bits) f) (λ anc f. write_nodes (self_at c.args.self.now.skip (c.args.levels - 1)) anc (unpacked c.args.bits) f) (λ parent anc g h u. nodes_first (self_at c.args.self.now.skip (c.args.levels - 1)) anc (unpacked c.args.bits) g u) c.loop-at-test.true (wrote_here) (ap (wrote c.node.new.text) c.in_err-node.was) parent f anc h a);
       });
     }
 
@@ -1362,26 +1423,27 @@ write-loop-at-smaller t c =
 pub write-loop-at-preserved : goal.write-loop-at-preserved
 write-loop-at-preserved t c =
     let kept_here : Kept c.args.from c.args.to c.args.nodes.now c.node.new.nodes = let l = c.loop-at in let lt = c.loop-at-test.true in kept_then l.invariant.2 (kept_in l.invariant.3 (omega (arith, end_kept l.invariant.2 l.at, placeds_within l.invariant.4 lt)) c.node.ensures.kept) in
-    let wrote_here : WritesForest c.args.self.now.sheet.now c.args.nodes.now c.loop-at.at (end_at c.args.nodes.now c.loop-at.at) (λ anc f. write_nodes (self_at c.args.self.now.skip (c.args.levels - 1)) anc (unpacked c.args.bits) f) (take c.loop-at.end c.loop-at.text) (length c.loop-at.text) c.node.new.text c.node.result = writes_before c.loop-at.invariant.2 c.node.ensures.writes_forest in
+    let wrote_here : WritesForest c.args.self.now.sheet.now c.args.nodes.now c.loop-at.at (end_at c.args.nodes.now c.loop-at.at) (λ anc f. write_nodes (self_at c.args.self.now.skip (c.args.levels - 1)) anc (unpacked c.args.bits) f) (take c.loop-at.end c.loop-at.text) (length c.loop-at.text) c.node.new.text.room.now c.node.result = writes_before c.loop-at.invariant.2 c.node.ensures.writes_forest in
     let l = c.loop-at in
     let lt = c.loop-at-test.true in
     let K = kept_here in
     let q = c.node_end-at.ensures ∙ end_kept K l.at in
-    let d = done c.in_ok-end.was (c.node.ensures.writes_forest.for (node_kept l.invariant.2 (placeds_first l.invariant.4 lt)).alone.parent (node_kept l.invariant.2 (placeds_first l.invariant.4 lt)).alone.forest (node_kept l.invariant.2 (placeds_first l.invariant.4 lt)).alone.anc (node_kept l.invariant.2 (placeds_first l.invariant.4 lt)).alone.rep (node_kept l.invariant.2 (placeds_first l.invariant.4 lt)).alone.around) in (
+    let d = done (ap (wrote c.node.new.text) c.in_ok-node.was) (c.node.ensures.writes_forest.for (node_kept l.invariant.2 (placeds_first l.invariant.4 lt)).alone.parent (node_kept l.invariant.2 (placeds_first l.invariant.4 lt)).alone.forest (node_kept l.invariant.2 (placeds_first l.invariant.4 lt)).alone.anc (node_kept l.invariant.2 (placeds_first l.invariant.4 lt)).alone.rep (node_kept l.invariant.2 (placeds_first l.invariant.4 lt)).alone.around) in (
       reaches d,
       d.long ∙ l.invariant.1,
       K,
       omega (arith, placeds_later l.invariant.4 lt, l.invariant.3, q),
       subst (λ (k : ℕ). Placeds c.args.self.now.sheet.now c.args.nodes.now k c.args.to) (sym q) (placeds_on l.invariant.4 lt),
-      turn_on l.invariant.5 (λ anc f. write_nodes (self_at c.args.self.now.skip (c.args.levels - 1)) anc (unpacked c.args.bits) f) (λ anc f. write_nodes (self_at c.args.self.now.skip (c.args.levels - 1)) anc (unpacked c.args.bits) f) (λ parent anc g h u. nodes_first (self_at c.args.self.now.skip (c.args.levels - 1)) anc (unpacked c.args.bits) g u) lt (wrote_here) q c.in_ok-end.was,
+      turn_on l.invariant.5 (λ anc f. write_nodes (self_at c.args.self.now.skip (c.args.levels - 1)) anc (unpacked c.args.bits) f) (λ anc f. write_nodes (self_at c.args.self.now.skip (c.args.levels - 1)) anc (unpacked c.args.bits) f) (λ parent anc g h u. nodes_first (self_at c.args.self.now.skip (c.args.levels - 1)) anc (unpacked c.args.bits) g u) lt (wrote_here) q (ap (wrote c.node.new.text) c.in_ok-node.was),
     )
 
 pub write-returns : goal.write-returns
 write-returns t c =
     let l = c.loop-at in record {
+      room = c.loop-at.invariant.0;
       kept = l.invariant.2;
       writes_forest = record {
-        for = λ parent f anc h a. alike (write_some (tags_to_skip (skip_of c.args.self.now.skip)) c.args.levels anc (unpacked c.args.bits) f (take c.args.len c.args.text.now) (omega (arith, c.if-levels-eq0.false)))
+        for = λ parent f anc h a. alike (write_some (tags_to_skip (skip_of c.args.self.now.skip)) c.args.levels anc (unpacked c.args.bits) f (take c.args.text.now.len c.args.text.now.room.now) (omega (arith, c.if-levels-eq0.false)))
             (turn_last l.invariant.5 c.loop-at-test.false (λ anc u. nodes_none (self_at c.args.self.now.skip (c.args.levels - 1)) anc (unpacked c.args.bits) u) parent f anc h a);
       };
     }
@@ -1396,10 +1458,11 @@ write_element-returns-then-is_list t c =
     let named_here : (name : Bytes) (attrs : List Attr) (kids : Forest) → ElementAt c.args.self.now.sheet.now c.args.nodes.now c.args.at name attrs kids → c.args.name ≡ tag_of name = λ _ _ _ x. c.requires.1 ∙ element_name x in
     let u = c.unpacked-opts in
     let a = c.args in record {
+      room = c.write_list.ensures.room;
       kept = c.write_list.ensures.kept;
       writes_element = record {
         for = λ name attrs kids anc x h.
-            alike (ap (λ (o : FormatOpts). write_element (self_at a.self.now.skip a.levels) anc o name attrs kids (take a.len a.text.now)) (sym u.ensures) ∙ by_list (self_at a.self.now.skip a.levels) anc u.result name attrs kids (take a.len a.text.now) (named_here _ _ _ x) (sym c.is_list.ensures ∙ c.if-is_list.true)) (c.write_list.ensures.writes_element.for name attrs kids anc x h);
+            alike (ap (λ (o : FormatOpts). write_element (self_at a.self.now.skip a.levels) anc o name attrs kids (take a.text.now.len a.text.now.room.now)) (sym u.ensures) ∙ by_list (self_at a.self.now.skip a.levels) anc u.result name attrs kids (take a.text.now.len a.text.now.room.now) (named_here _ _ _ x) (sym c.is_list.ensures ∙ c.if-is_list.true)) (c.write_list.ensures.writes_element.for name attrs kids anc x h);
       };
     }
 
@@ -1418,10 +1481,11 @@ write_element-returns-then-name-eq21 t c =
     let named_here : (name : Bytes) (attrs : List Attr) (kids : Forest) → ElementAt c.args.self.now.sheet.now c.args.nodes.now c.args.at name attrs kids → c.args.name ≡ tag_of name = λ _ _ _ x. c.requires.1 ∙ element_name x in
     let u = c.unpacked-opts in
     let a = c.args in record {
+      room = c.write_link.ensures.room;
       kept = c.write_link.ensures.kept;
       writes_element = record {
         for = λ name attrs kids anc x h.
-            alike (ap (λ (o : FormatOpts). write_element (self_at a.self.now.skip a.levels) anc o name attrs kids (take a.len a.text.now)) (sym u.ensures) ∙ by_link (self_at a.self.now.skip a.levels) anc u.result name attrs kids (take a.len a.text.now) (named_here _ _ _ x) (sym c.is_list.ensures ∙ c.if-is_list.false) c.if-name-eq21.true) (c.write_link.ensures.writes_element.for name attrs kids anc x h);
+            alike (ap (λ (o : FormatOpts). write_element (self_at a.self.now.skip a.levels) anc o name attrs kids (take a.text.now.len a.text.now.room.now)) (sym u.ensures) ∙ by_link (self_at a.self.now.skip a.levels) anc u.result name attrs kids (take a.text.now.len a.text.now.room.now) (named_here _ _ _ x) (sym c.is_list.ensures ∙ c.if-is_list.false) c.if-name-eq21.true) (c.write_link.ensures.writes_element.for name attrs kids anc x h);
       };
     }
 
@@ -1431,34 +1495,36 @@ write_element-node_place-place-requires t c =
 
 pub write_element-write_img-requires : goal.write_element-write_img-requires
 write_element-write_img-requires t c =
-    (c.requires.2.0, omega (arith, c.node_place-place.ensures, (placed_node c.args.self.now.sheet.now c.args.nodes.now c.args.at c.requires.0).placed), c.requires.2.1)
+    (c.args.text.now.fits, omega (arith, c.node_place-place.ensures, (placed_node c.args.self.now.sheet.now c.args.nodes.now c.args.at c.requires.0).placed), c.requires.2)
 
 pub write_element-returns-then-name-eq22 : goal.write_element-returns-then-name-eq22
 write_element-returns-then-name-eq22 t c =
     let named_here : (name : Bytes) (attrs : List Attr) (kids : Forest) → ElementAt c.args.self.now.sheet.now c.args.nodes.now c.args.at name attrs kids → c.args.name ≡ tag_of name = λ _ _ _ x. c.requires.1 ∙ element_name x in
     let u = c.unpacked-opts in
     let a = c.args in record {
+      room = leaf_room c.write_img.ensures;
       kept = kept_none a.nodes.now;
       writes_element = record {
         for = λ name attrs kids anc x h.
-            alike (ap (λ (o : FormatOpts). write_element (self_at a.self.now.skip a.levels) anc o name attrs kids (take a.len a.text.now)) (sym u.ensures) ∙ by_img (self_at a.self.now.skip a.levels) anc u.result name attrs kids (take a.len a.text.now) (named_here _ _ _ x) (sym c.is_list.ensures ∙ c.if-is_list.false) c.if-name-eq22.true
-            ∙ ap (λ (l : List Attr). write_img l (take a.len a.text.now)) (x.attrs_are ∙ ap (attrs_behind a.self.now.sheet.now) (sym c.node_place-place.ensures))) c.write_img.ensures;
+            alike (ap (λ (o : FormatOpts). write_element (self_at a.self.now.skip a.levels) anc o name attrs kids (take a.text.now.len a.text.now.room.now)) (sym u.ensures) ∙ by_img (self_at a.self.now.skip a.levels) anc u.result name attrs kids (take a.text.now.len a.text.now.room.now) (named_here _ _ _ x) (sym c.is_list.ensures ∙ c.if-is_list.false) c.if-name-eq22.true
+            ∙ ap (λ (l : List Attr). write_img l (take a.text.now.len a.text.now.room.now)) (x.attrs_are ∙ ap (attrs_behind a.self.now.sheet.now) (sym c.node_place-place.ensures))) c.write_img.ensures.writes;
       };
     }
 
 pub write_element-write_pre-requires : goal.write_element-write_pre-requires
 write_element-write_pre-requires t c =
-    (c.requires.0, c.requires.2.0)
+    (c.requires.0, c.args.text.now.fits)
 
 pub write_element-returns-then-name-eq23 : goal.write_element-returns-then-name-eq23
 write_element-returns-then-name-eq23 t c =
     let named_here : (name : Bytes) (attrs : List Attr) (kids : Forest) → ElementAt c.args.self.now.sheet.now c.args.nodes.now c.args.at name attrs kids → c.args.name ≡ tag_of name = λ _ _ _ x. c.requires.1 ∙ element_name x in
     let u = c.unpacked-opts in
     let a = c.args in record {
+      room = leaf_room c.write_pre.ensures;
       kept = kept_none a.nodes.now;
       writes_element = record {
         for = λ name attrs kids anc x h.
-            alike (ap (λ (o : FormatOpts). write_element (self_at a.self.now.skip a.levels) anc o name attrs kids (take a.len a.text.now)) (sym u.ensures) ∙ by_pre (self_at a.self.now.skip a.levels) anc u.result name attrs kids (take a.len a.text.now) (named_here _ _ _ x) (sym c.is_list.ensures ∙ c.if-is_list.false) c.if-name-eq23.true) (c.write_pre.ensures name attrs kids anc x h);
+            alike (ap (λ (o : FormatOpts). write_element (self_at a.self.now.skip a.levels) anc o name attrs kids (take a.text.now.len a.text.now.room.now)) (sym u.ensures) ∙ by_pre (self_at a.self.now.skip a.levels) anc u.result name attrs kids (take a.text.now.len a.text.now.room.now) (named_here _ _ _ x) (sym c.is_list.ensures ∙ c.if-is_list.false) c.if-name-eq-PRE.true) (c.write_pre.ensures.writes name attrs kids anc x h);
       };
     }
 
@@ -1467,26 +1533,28 @@ write_element-returns-then-name-eq14 t c =
     let named_here : (name : Bytes) (attrs : List Attr) (kids : Forest) → ElementAt c.args.self.now.sheet.now c.args.nodes.now c.args.at name attrs kids → c.args.name ≡ tag_of name = λ _ _ _ x. c.requires.1 ∙ element_name x in
     let u = c.unpacked-opts in
     let a = c.args in record {
+      room = c.write_table.ensures.room;
       kept = c.write_table.ensures.kept;
       writes_element = record {
         for = λ name attrs kids anc x h.
-            alike (ap (λ (o : FormatOpts). write_element (self_at a.self.now.skip a.levels) anc o name attrs kids (take a.len a.text.now)) (sym u.ensures) ∙ by_table (self_at a.self.now.skip a.levels) anc u.result name attrs kids (take a.len a.text.now) (named_here _ _ _ x) (sym c.is_list.ensures ∙ c.if-is_list.false) c.if-name-eq14.true) (c.write_table.ensures.writes_element.for name attrs kids anc x h);
+            alike (ap (λ (o : FormatOpts). write_element (self_at a.self.now.skip a.levels) anc o name attrs kids (take a.text.now.len a.text.now.room.now)) (sym u.ensures) ∙ by_table (self_at a.self.now.skip a.levels) anc u.result name attrs kids (take a.text.now.len a.text.now.room.now) (named_here _ _ _ x) (sym c.is_list.ensures ∙ c.if-is_list.false) c.if-name-eq14.true) (c.write_table.ensures.writes_element.for name attrs kids anc x h);
       };
     }
 
 pub write_element-write_code-requires : goal.write_element-write_code-requires
 write_element-write_code-requires t c =
-    (c.requires.0, c.requires.2.0)
+    (c.requires.0, c.args.text.now.fits)
 
 pub write_element-returns-then-name-eq24 : goal.write_element-returns-then-name-eq24
 write_element-returns-then-name-eq24 t c =
     let named_here : (name : Bytes) (attrs : List Attr) (kids : Forest) → ElementAt c.args.self.now.sheet.now c.args.nodes.now c.args.at name attrs kids → c.args.name ≡ tag_of name = λ _ _ _ x. c.requires.1 ∙ element_name x in
     let u = c.unpacked-opts in
     let a = c.args in record {
+      room = leaf_room c.write_code.ensures;
       kept = kept_none a.nodes.now;
       writes_element = record {
         for = λ name attrs kids anc x h.
-            alike (ap (λ (o : FormatOpts). write_element (self_at a.self.now.skip a.levels) anc o name attrs kids (take a.len a.text.now)) (sym u.ensures) ∙ by_code (self_at a.self.now.skip a.levels) anc u.result name attrs kids (take a.len a.text.now) (named_here _ _ _ x) (sym c.is_list.ensures ∙ c.if-is_list.false) c.if-name-eq24.true) (c.write_code.ensures a.levels name attrs kids anc x h);
+            alike (ap (λ (o : FormatOpts). write_element (self_at a.self.now.skip a.levels) anc o name attrs kids (take a.text.now.len a.text.now.room.now)) (sym u.ensures) ∙ by_code (self_at a.self.now.skip a.levels) anc u.result name attrs kids (take a.text.now.len a.text.now.room.now) (named_here _ _ _ x) (sym c.is_list.ensures ∙ c.if-is_list.false) c.if-name-eq24.true) (c.write_code.ensures.writes a.levels name attrs kids anc x h);
       };
     }
 
@@ -1500,10 +1568,11 @@ write_element-returns t c =
     let named_here : (name : Bytes) (attrs : List Attr) (kids : Forest) → ElementAt c.args.self.now.sheet.now c.args.nodes.now c.args.at name attrs kids → c.args.name ≡ tag_of name = λ _ _ _ x. c.requires.1 ∙ element_name x in
     let u = c.unpacked-opts in
     let a = c.args in record {
+      room = c.write_emphasis.ensures.room;
       kept = c.write_emphasis.ensures.kept;
       writes_element = record {
         for = λ name attrs kids anc x h.
-            alike (ap (λ (o : FormatOpts). write_element (self_at a.self.now.skip a.levels) anc o name attrs kids (take a.len a.text.now)) (sym u.ensures) ∙ by_emphasis (self_at a.self.now.skip a.levels) anc u.result name attrs kids (take a.len a.text.now) (named_here _ _ _ x) (sym c.is_list.ensures ∙ c.if-is_list.false) c.if-name-eq21.false c.if-name-eq22.false c.if-name-eq23.false c.if-name-eq14.false c.if-name-eq24.false) (c.write_emphasis.ensures.writes_element.for name attrs kids anc x h);
+            alike (ap (λ (o : FormatOpts). write_element (self_at a.self.now.skip a.levels) anc o name attrs kids (take a.text.now.len a.text.now.room.now)) (sym u.ensures) ∙ by_emphasis (self_at a.self.now.skip a.levels) anc u.result name attrs kids (take a.text.now.len a.text.now.room.now) (named_here _ _ _ x) (sym c.is_list.ensures ∙ c.if-is_list.false) c.if-name-eq21.false c.if-name-eq22.false c.if-name-eq-PRE.false c.if-name-eq14.false c.if-name-eq24.false) (c.write_emphasis.ensures.writes_element.for name attrs kids anc x h);
       };
     }
 
@@ -1519,42 +1588,44 @@ pub write_emphasis-packed-requires : goal.write_emphasis-packed-requires
 write_emphasis-packed-requires t c =
     omega (arith, subst (λ (o : FormatOpts). Fits o c.args.levels) (sym c.emphasis_opts-inner.ensures) (omega (arith, c.requires.3)))
 
-pub write_emphasis-write-requires : goal.write_emphasis-write-requires
-write_emphasis-write-requires t c = (
+pub write_emphasis-write_behind-requires : goal.write_emphasis-write_behind-requires
+write_emphasis-write_behind-requires t c = (
   falls_in c.args.levels c.decreases (lit< tt),
   (
     placed_kids c.args.self.now.sheet.now c.args.nodes.now c.args.at c.requires.0 c.node_end-to.ensures,
-    (omega arith, c.requires.2.1),
+    c.requires.2,
     subst (λ (o : FormatOpts). Fits o c.args.levels) (sym (c.packed.ensures ∙ c.emphasis_opts-inner.ensures)) (omega (arith, c.requires.3)),
   ),
 )
 
 pub write_emphasis-push_emphasis_by-requires : goal.write_emphasis-push_emphasis_by-requires
 write_emphasis-push_emphasis_by-requires t c =
-    let wrote_here : (name : Bytes) (attrs : List Attr) (kids : Forest) (anc : Ancestors) → ElementAt c.args.self.now.sheet.now c.args.nodes.now c.args.at name attrs kids → Around c.args.self.now.sheet.now c.args.nodes.now (parent_at c.args.nodes.now c.args.at) anc → Writes (length (lent c.args.text.now c.args.len)) c.write.new.text c.write.result ((self_at c.args.self.now.skip c.args.levels).below (attrs ∷ anc) (emphasis_scope (scope_of (md_emphasis (tag_of name))) (inline (include_node c.args.opts))) kids []) = λ name attrs kids anc x h. let a = c.args in subst (λ (o : FormatOpts). Writes (length (lent a.text.now a.len)) c.write.new.text c.write.result ((self_at a.self.now.skip a.levels).below (attrs ∷ anc) o kids [])) (c.packed.ensures ∙ c.emphasis_opts-inner.ensures ∙ ap (λ (k : ℕ). emphasis_scope (scope_of (md_emphasis k)) (inline (include_node a.opts))) (c.requires.1 ∙ element_name x)) (below-wrote a.self.now.skip a.levels (unpacked c.packed.result) anc x h c.node_end-to.ensures c.write.ensures.writes_forest) in
+    let wrote_here : (name : Bytes) (attrs : List Attr) (kids : Forest) (anc : Ancestors) → ElementAt c.args.self.now.sheet.now c.args.nodes.now c.args.at name attrs kids → Around c.args.self.now.sheet.now c.args.nodes.now (parent_at c.args.nodes.now c.args.at) anc → Writes (length (lent c.args.text.now.room.now c.args.text.now.len)) c.write_behind.new.room c.write_behind.result ((self_at c.args.self.now.skip c.args.levels).below (attrs ∷ anc) (emphasis_scope (scope_of (md_emphasis (tag_of name))) (inline (include_node c.args.opts))) kids []) = λ name attrs kids anc x h. let a = c.args in subst (λ (o : FormatOpts). Writes (length (lent a.text.now.room.now a.text.now.len)) c.write_behind.new.room c.write_behind.result ((self_at a.self.now.skip a.levels).below (attrs ∷ anc) o kids [])) (c.packed.ensures ∙ c.emphasis_opts-inner.ensures ∙ ap (λ (k : ℕ). emphasis_scope (scope_of (md_emphasis k)) (inline (include_node a.opts))) (c.requires.1 ∙ element_name x)) (below-wrote a.self.now.skip a.levels (unpacked c.packed.result) anc x h c.node_end-to.ensures c.write_behind.ensures.writes_forest) in
     let p = c.requires.0 in
-    nest-fits c.args.text.now c.args.len c.requires.2.0 (wrote_here _ _ _ p.1.0 p.0.3 p.1.1) c.in_ok-n.was
+    nest-fits c.args.text.now.room.now c.args.text.now.len c.args.text.now.fits (wrote_here _ _ _ p.1.0 p.0.3 p.1.1) c.in_ok-n.was
 
 pub write_emphasis-returns : goal.write_emphasis-returns
 write_emphasis-returns t c =
-    let wrote_here : (name : Bytes) (attrs : List Attr) (kids : Forest) (anc : Ancestors) → ElementAt c.args.self.now.sheet.now c.args.nodes.now c.args.at name attrs kids → Around c.args.self.now.sheet.now c.args.nodes.now (parent_at c.args.nodes.now c.args.at) anc → Writes (length (lent c.args.text.now c.args.len)) c.write.new.text c.write.result ((self_at c.args.self.now.skip c.args.levels).below (attrs ∷ anc) (emphasis_scope (scope_of (md_emphasis (tag_of name))) (inline (include_node c.args.opts))) kids []) = λ name attrs kids anc x h. let a = c.args in subst (λ (o : FormatOpts). Writes (length (lent a.text.now a.len)) c.write.new.text c.write.result ((self_at a.self.now.skip a.levels).below (attrs ∷ anc) o kids [])) (c.packed.ensures ∙ c.emphasis_opts-inner.ensures ∙ ap (λ (k : ℕ). emphasis_scope (scope_of (md_emphasis k)) (inline (include_node a.opts))) (c.requires.1 ∙ element_name x)) (below-wrote a.self.now.skip a.levels (unpacked c.packed.result) anc x h c.node_end-to.ensures c.write.ensures.writes_forest) in
+    let wrote_here : (name : Bytes) (attrs : List Attr) (kids : Forest) (anc : Ancestors) → ElementAt c.args.self.now.sheet.now c.args.nodes.now c.args.at name attrs kids → Around c.args.self.now.sheet.now c.args.nodes.now (parent_at c.args.nodes.now c.args.at) anc → Writes (length (lent c.args.text.now.room.now c.args.text.now.len)) c.write_behind.new.room c.write_behind.result ((self_at c.args.self.now.skip c.args.levels).below (attrs ∷ anc) (emphasis_scope (scope_of (md_emphasis (tag_of name))) (inline (include_node c.args.opts))) kids []) = λ name attrs kids anc x h. let a = c.args in subst (λ (o : FormatOpts). Writes (length (lent a.text.now.room.now a.text.now.len)) c.write_behind.new.room c.write_behind.result ((self_at a.self.now.skip a.levels).below (attrs ∷ anc) o kids [])) (c.packed.ensures ∙ c.emphasis_opts-inner.ensures ∙ ap (λ (k : ℕ). emphasis_scope (scope_of (md_emphasis k)) (inline (include_node a.opts))) (c.requires.1 ∙ element_name x)) (below-wrote a.self.now.skip a.levels (unpacked c.packed.result) anc x h c.node_end-to.ensures c.write_behind.ensures.writes_forest) in
     let a = c.args in record {
-      kept = kept_in (omega arith) (omega (arith, c.node_end-to.ensures)) c.write.ensures.kept;
+      room = room_on (room_behind c.args.text.now c.write_behind.auto.room) (leaf_room c.push_emphasis_by.ensures);
+      kept = kept_in (omega arith) (omega (arith, c.node_end-to.ensures)) c.write_behind.ensures.kept;
       writes_element = record {
-        for = λ name attrs kids anc x h. alike (ap (λ (f : Step). f (take a.len a.text.now)) (emphasis_is (self_at a.self.now.skip a.levels) anc a.opts (tag_of name) attrs kids))
-            (nest-done a.text.now a.len c.requires.2.0 (wrote_here _ _ _ anc x h) (λ z. emphasis_step a.opts (tag_of name) z) c.in_ok-n.was
-            (subst (λ (k : ℕ). Writes (length (back a.text.now a.len c.write.new.text)) c.push_emphasis_by.new.text c.push_emphasis_by.result (emphasis_step a.opts k (take c.in_ok-n.n (drop a.len (back a.text.now a.len c.write.new.text))) (take a.len (back a.text.now a.len c.write.new.text)))) (c.requires.1 ∙ element_name x) c.push_emphasis_by.ensures));
+        for = λ name attrs kids anc x h. alike (ap (λ (f : Step). f (take a.text.now.len a.text.now.room.now)) (emphasis_is (self_at a.self.now.skip a.levels) anc a.opts (tag_of name) attrs kids))
+            (nest-done a.text.now.room.now a.text.now.len c.args.text.now.fits (wrote_here _ _ _ anc x h) (λ z. emphasis_step a.opts (tag_of name) z) c.in_ok-n.was
+            (subst (λ (k : ℕ). Writes (length (back a.text.now.room.now a.text.now.len c.write_behind.new.text)) c.push_emphasis_by.new.text.room.now c.push_emphasis_by.result (emphasis_step a.opts k (take c.in_ok-n.n (drop a.text.now.len (back a.text.now.room.now a.text.now.len c.write_behind.new.text))) (take a.text.now.len (back a.text.now.room.now a.text.now.len c.write_behind.new.text)))) (c.requires.1 ∙ element_name x) c.push_emphasis_by.ensures.writes));
       };
     }
 
 pub write_emphasis-returns-in_err-n : goal.write_emphasis-returns-in_err-n
 write_emphasis-returns-in_err-n t c =
-    let wrote_here : (name : Bytes) (attrs : List Attr) (kids : Forest) (anc : Ancestors) → ElementAt c.args.self.now.sheet.now c.args.nodes.now c.args.at name attrs kids → Around c.args.self.now.sheet.now c.args.nodes.now (parent_at c.args.nodes.now c.args.at) anc → Writes (length (lent c.args.text.now c.args.len)) c.write.new.text c.write.result ((self_at c.args.self.now.skip c.args.levels).below (attrs ∷ anc) (emphasis_scope (scope_of (md_emphasis (tag_of name))) (inline (include_node c.args.opts))) kids []) = λ name attrs kids anc x h. let a = c.args in subst (λ (o : FormatOpts). Writes (length (lent a.text.now a.len)) c.write.new.text c.write.result ((self_at a.self.now.skip a.levels).below (attrs ∷ anc) o kids [])) (c.packed.ensures ∙ c.emphasis_opts-inner.ensures ∙ ap (λ (k : ℕ). emphasis_scope (scope_of (md_emphasis k)) (inline (include_node a.opts))) (c.requires.1 ∙ element_name x)) (below-wrote a.self.now.skip a.levels (unpacked c.packed.result) anc x h c.node_end-to.ensures c.write.ensures.writes_forest) in
+    let wrote_here : (name : Bytes) (attrs : List Attr) (kids : Forest) (anc : Ancestors) → ElementAt c.args.self.now.sheet.now c.args.nodes.now c.args.at name attrs kids → Around c.args.self.now.sheet.now c.args.nodes.now (parent_at c.args.nodes.now c.args.at) anc → Writes (length (lent c.args.text.now.room.now c.args.text.now.len)) c.write_behind.new.room c.write_behind.result ((self_at c.args.self.now.skip c.args.levels).below (attrs ∷ anc) (emphasis_scope (scope_of (md_emphasis (tag_of name))) (inline (include_node c.args.opts))) kids []) = λ name attrs kids anc x h. let a = c.args in subst (λ (o : FormatOpts). Writes (length (lent a.text.now.room.now a.text.now.len)) c.write_behind.new.room c.write_behind.result ((self_at a.self.now.skip a.levels).below (attrs ∷ anc) o kids [])) (c.packed.ensures ∙ c.emphasis_opts-inner.ensures ∙ ap (λ (k : ℕ). emphasis_scope (scope_of (md_emphasis k)) (inline (include_node a.opts))) (c.requires.1 ∙ element_name x)) (below-wrote a.self.now.skip a.levels (unpacked c.packed.result) anc x h c.node_end-to.ensures c.write_behind.ensures.writes_forest) in
     let a = c.args in record {
-      kept = kept_in (omega arith) (omega (arith, c.node_end-to.ensures)) c.write.ensures.kept;
+      room = room_behind c.args.text.now c.write_behind.auto.room;
+      kept = kept_in (omega arith) (omega (arith, c.node_end-to.ensures)) c.write_behind.ensures.kept;
       writes_element = stops_element c.from_residual.ensures.0 (record {
-        for = λ name attrs kids anc x h. alike (ap (λ (f : Step). f (take a.len a.text.now)) (emphasis_is (self_at a.self.now.skip a.levels) anc a.opts (tag_of name) attrs kids))
-            (nest-full a.text.now a.len c.requires.2.0 (wrote_here _ _ _ anc x h) (emphasis_step a.opts (tag_of name) ((self_at a.self.now.skip a.levels).below (attrs ∷ anc) (emphasis_scope (scope_of (md_emphasis (tag_of name))) (inline (include_node a.opts))) kids []).text) c.in_err-n.was);
+        for = λ name attrs kids anc x h. alike (ap (λ (f : Step). f (take a.text.now.len a.text.now.room.now)) (emphasis_is (self_at a.self.now.skip a.levels) anc a.opts (tag_of name) attrs kids))
+            (nest-full a.text.now.room.now a.text.now.len c.args.text.now.fits (wrote_here _ _ _ anc x h) (emphasis_step a.opts (tag_of name) ((self_at a.self.now.skip a.levels).below (attrs ∷ anc) (emphasis_scope (scope_of (md_emphasis (tag_of name))) (inline (include_node a.opts))) kids []).text) c.in_err-n.was);
       });
     }
 
@@ -1569,16 +1640,17 @@ write_link-attribute-requires t c =
 pub write_link-link-requires : goal.write_link-link-requires
 write_link-link-requires t c =
     let k = c.in-Some.ensures in
-    (falls_in c.args.levels c.decreases (lit< tt), (c.requires.0, c.requires.1, c.requires.2, omega (arith, part_short c.args.self.now.sheet.now c.in-Some.dest.now k.inside, c.requires.1.1)))
+    (falls_in c.args.levels c.decreases (lit< tt), (c.requires.0, c.requires.1, c.requires.2, omega (arith, part_short c.args.self.now.sheet.now c.in-Some.dest.now k.inside, c.requires.1)))
 
 pub write_link-returns-in-Some : goal.write_link-returns-in-Some
 write_link-returns-in-Some t c =
     let a = c.args in
     let k = c.in-Some.ensures in record {
+      room = c.link.ensures.room;
       kept = c.link.ensures.kept;
       writes_element = record {
         for = λ name attrs kids anc x h.
-            alike (link_some (self_at a.self.now.skip a.levels) anc a.opts c.in-Some.dest.now name attrs kids (take a.len a.text.now)
+            alike (link_some (self_at a.self.now.skip a.levels) anc a.opts c.in-Some.dest.now name attrs kids (take a.text.now.len a.text.now.room.now)
             (ap (attr (ascii "href")) (x.attrs_are ∙ ap (attrs_behind a.self.now.sheet.now) (sym c.node_place-place.ensures)) ∙ k.value_is)) (c.link.ensures.writes_element.for name attrs kids anc x h);
       };
     }
@@ -1594,12 +1666,13 @@ write_link-kids-requires t c =
 pub write_link-returns-in-None : goal.write_link-returns-in-None
 write_link-returns-in-None t c =
     let a = c.args in record {
+      room = c.kids.ensures.room;
       kept = c.kids.ensures.kept;
       writes_element = record {
         for = λ name attrs kids anc x h.
-            alike (link_none (self_at a.self.now.skip a.levels) anc a.opts name attrs kids (take a.len a.text.now)
+            alike (link_none (self_at a.self.now.skip a.levels) anc a.opts name attrs kids (take a.text.now.len a.text.now.room.now)
             (ap (attr (ascii "href")) (x.attrs_are ∙ ap (attrs_behind a.self.now.sheet.now) (sym c.node_place-place.ensures)) ∙ (c.in-None.ensures).value_is))
-            (subst (λ (o : FormatOpts). Writes (length a.text.now) c.kids.new.text c.kids.result (write_kids (self_at a.self.now.skip a.levels) anc o (element name attrs kids nothing) (take a.len a.text.now))) (c.packed-bits.ensures ∙ c.fresh-fresh.ensures) (c.kids.ensures.writes_element.for name attrs kids anc x h));
+            (subst (λ (o : FormatOpts). Writes (length a.text.now.room.now) c.kids.new.text.room.now c.kids.result (write_kids (self_at a.self.now.skip a.levels) anc o (element name attrs kids nothing) (take a.text.now.len a.text.now.room.now))) (c.packed-bits.ensures ∙ c.fresh-fresh.ensures) (c.kids.ensures.writes_element.for name attrs kids anc x h));
       };
     }
 
@@ -1633,31 +1706,33 @@ write_list-items-requires t c =
 
 pub write_list-end_list-requires : goal.write_list-end_list-requires
 write_list-end_list-requires t c =
-    forest-reaches c.items.ensures.writes_forest (placed_kids c.args.self.now.sheet.now c.args.nodes.now c.args.at c.requires.0 c.node_end-to.ensures) c.in_ok-n.was
+    forest-reaches c.items.ensures.writes_forest (placed_kids c.args.self.now.sheet.now c.args.nodes.now c.args.at c.requires.0 c.node_end-to.ensures) (ap (wrote c.items.new.text) c.in_ok-items.was)
 
 pub write_list-returns : goal.write_list-returns
 write_list-returns t c =
     let a = c.args in
     let self = self_at a.self.now.skip a.levels in record {
+      room = room_on (c.items.ensures.room) (leaf_room c.end_list.ensures);
       kept = kept_in (omega arith) (omega (arith, c.node_end-to.ensures)) c.items.ensures.kept;
       writes_element = record {
         for = λ name attrs kids anc x h.
-            both-done a.text.now a.len c.requires.2.0 (write_list self anc a.opts (tag_of name) attrs kids) (list_children self (attrs ∷ anc) kids c.new-ctx.result) (ended_list a.opts)
-            (list_parts a.self.now.sheet.now c.node_place-place.result a.name a.opts c.new-ctx.ensures c.kind_of-kind.ensures self anc (take a.len a.text.now) c.node_place-place.ensures c.requires.1 x)
-            (c.items.ensures.writes_forest.for a.at kids (attrs ∷ anc) (element_kids x c.node_end-to.ensures) (around_it anc x h)) c.in_ok-n.was c.end_list.ensures;
+            both-done a.text.now.room.now a.text.now.len c.args.text.now.fits (write_list self anc a.opts (tag_of name) attrs kids) (list_children self (attrs ∷ anc) kids c.new-ctx.result) (ended_list a.opts)
+            (list_parts a.self.now.sheet.now c.node_place-place.result a.name a.opts c.new-ctx.ensures c.kind_of-kind.ensures self anc (take a.text.now.len a.text.now.room.now) c.node_place-place.ensures c.requires.1 x)
+            (c.items.ensures.writes_forest.for a.at kids (attrs ∷ anc) (element_kids x c.node_end-to.ensures) (around_it anc x h)) (ap (wrote c.items.new.text) c.in_ok-items.was) c.end_list.ensures.writes;
       };
     }
 
-pub write_list-returns-in_err-n : goal.write_list-returns-in_err-n
-write_list-returns-in_err-n t c =
+pub write_list-returns-in_err-items : goal.write_list-returns-in_err-items
+write_list-returns-in_err-items t c =
     let a = c.args in
     let self = self_at a.self.now.skip a.levels in record {
+      room = c.items.ensures.room;
       kept = kept_in (omega arith) (omega (arith, c.node_end-to.ensures)) c.items.ensures.kept;
       writes_element = stops_element c.from_residual.ensures.0 (record {
         for = λ name attrs kids anc x h.
-            both-full a.text.now a.len c.requires.2.0 (write_list self anc a.opts (tag_of name) attrs kids) (list_children self (attrs ∷ anc) kids c.new-ctx.result) (ended_list a.opts)
-            (list_parts a.self.now.sheet.now c.node_place-place.result a.name a.opts c.new-ctx.ensures c.kind_of-kind.ensures self anc (take a.len a.text.now) c.node_place-place.ensures c.requires.1 x)
-            (c.items.ensures.writes_forest.for a.at kids (attrs ∷ anc) (element_kids x c.node_end-to.ensures) (around_it anc x h)) c.in_err-n.was;
+            both-full a.text.now.room.now a.text.now.len c.args.text.now.fits (write_list self anc a.opts (tag_of name) attrs kids) (list_children self (attrs ∷ anc) kids c.new-ctx.result) (ended_list a.opts)
+            (list_parts a.self.now.sheet.now c.node_place-place.result a.name a.opts c.new-ctx.ensures c.kind_of-kind.ensures self anc (take a.text.now.len a.text.now.room.now) c.node_place-place.ensures c.requires.1 x)
+            (c.items.ensures.writes_forest.for a.at kids (attrs ∷ anc) (element_kids x c.node_end-to.ensures) (around_it anc x h)) (ap (wrote c.items.new.text) c.in_err-items.was);
       });
     }
 
@@ -1701,11 +1776,12 @@ write_table-returns-then-not-is_table_node_writable t c =
     let filled_here : (name : Bytes) (attrs : List Attr) (kids : Forest) (anc : Ancestors) → ElementAt c.args.self.now.sheet.now c.args.nodes.now c.args.at name attrs kids → Around c.args.self.now.sheet.now c.args.nodes.now (parent_at c.args.nodes.now c.args.at) anc → RowsAt c.args.self.now.sheet.now c.args.nodes.now c.next_filled_row-first.result c.node_end-to.result (from_cells (rows_of (attrs ∷ anc) kids)) = λ name attrs kids anc x h. c.next_filled_row-first.ensures.rows (rows_of (attrs ∷ anc) kids) (rows_here _ _ _ anc x h) in
     let writable_here : (name : Bytes) (attrs : List Attr) (kids : Forest) (anc : Ancestors) → ElementAt c.args.self.now.sheet.now c.args.nodes.now c.args.at name attrs kids → Around c.args.self.now.sheet.now c.args.nodes.now (parent_at c.args.nodes.now c.args.at) anc → c.is_table_node_writable.result ≡ is_table_node_writable kids (from_cells (rows_of (attrs ∷ anc) kids)) = λ name attrs kids anc x h. c.is_table_node_writable.ensures c.args.at kids (from_cells (rows_of (attrs ∷ anc) kids)) (element_kids x c.node_end-to.ensures) (filled_here _ _ _ anc x h) in
     let a = c.args in record {
+      room = c.kids.ensures.room;
       kept = c.kids.ensures.kept;
       writes_element = record {
         for = λ name attrs kids anc x h.
-            alike (table_flat (self_at a.self.now.skip a.levels) anc a.opts name attrs kids (take a.len a.text.now) (sym (writable_here _ _ _ anc x h) ∙ c.if-not-is_table_node_writable.true))
-            (subst (λ (o : FormatOpts). Writes (length a.text.now) c.kids.new.text c.kids.result (write_kids (self_at a.self.now.skip a.levels) anc o (element name attrs kids nothing) (take a.len a.text.now))) (c.packed-bits.ensures ∙ c.fresh-fresh.ensures) (c.kids.ensures.writes_element.for name attrs kids anc x h));
+            alike (table_flat (self_at a.self.now.skip a.levels) anc a.opts name attrs kids (take a.text.now.len a.text.now.room.now) (sym (writable_here _ _ _ anc x h) ∙ c.if-not-is_table_node_writable.true))
+            (subst (λ (o : FormatOpts). Writes (length a.text.now.room.now) c.kids.new.text.room.now c.kids.result (write_kids (self_at a.self.now.skip a.levels) anc o (element name attrs kids nothing) (take a.text.now.len a.text.now.room.now))) (c.packed-bits.ensures ∙ c.fresh-fresh.ensures) (c.kids.ensures.writes_element.for name attrs kids anc x h));
       };
     }
 
@@ -1728,16 +1804,16 @@ pub write_table-overflow_sub-end : goal.write_table-overflow_sub-end
 write_table-overflow_sub-end t c =
     let rows_here : (name : Bytes) (attrs : List Attr) (kids : Forest) (anc : Ancestors) → ElementAt c.args.self.now.sheet.now c.args.nodes.now c.args.at name attrs kids → Around c.args.self.now.sheet.now c.args.nodes.now (parent_at c.args.nodes.now c.args.at) anc → Rows c.args.self.now.sheet.now c.args.nodes.now (c.args.at + 1) c.node_end-to.result (rows_of (attrs ∷ anc) kids) = λ name attrs kids anc x h. let a = c.args in rows_of_lem a.self.now.sheet.now a.nodes.now a.at (a.at + 1) c.node_end-to.result kids (attrs ∷ anc) (element_kids x c.node_end-to.ensures) (around_it anc x h) (omega arith) in
     let filled_here : (name : Bytes) (attrs : List Attr) (kids : Forest) (anc : Ancestors) → ElementAt c.args.self.now.sheet.now c.args.nodes.now c.args.at name attrs kids → Around c.args.self.now.sheet.now c.args.nodes.now (parent_at c.args.nodes.now c.args.at) anc → RowsAt c.args.self.now.sheet.now c.args.nodes.now c.next_filled_row-first.result c.node_end-to.result (from_cells (rows_of (attrs ∷ anc) kids)) = λ name attrs kids anc x h. c.next_filled_row-first.ensures.rows (rows_of (attrs ∷ anc) kids) (rows_here _ _ _ anc x h) in
-    let wrote_here : (name : Bytes) (attrs : List Attr) (kids : Forest) (anc : Ancestors) → ElementAt c.args.self.now.sheet.now c.args.nodes.now c.args.at name attrs kids → Around c.args.self.now.sheet.now c.args.nodes.now (parent_at c.args.nodes.now c.args.at) anc → RowsWrites (length c.args.text.now) c.cells.new.text (table_lengths c.args.self.now.sheet.now c.cells.new.nodes c.next_filled_row-first.result c.node_end-to.result) c.cells.result (rows_texts (self_at c.args.self.now.skip c.args.levels) c.args.opts (from_cells (rows_of (attrs ∷ anc) kids))) (take c.args.len c.args.text.now) = λ name attrs kids anc x h. let a = c.args in c.cells.ensures.rows_writes (from_cells (rows_of (attrs ∷ anc) kids)) (rows_at a.self.now.sheet.now a.nodes.now c.next_filled_row-first.result c.node_end-to.result (from_cells (rows_of (attrs ∷ anc) kids)) (filled_here _ _ _ anc x h)) in
+    let wrote_here : (name : Bytes) (attrs : List Attr) (kids : Forest) (anc : Ancestors) → ElementAt c.args.self.now.sheet.now c.args.nodes.now c.args.at name attrs kids → Around c.args.self.now.sheet.now c.args.nodes.now (parent_at c.args.nodes.now c.args.at) anc → RowsWrites (length c.args.text.now.room.now) c.cells.new.text.room.now (table_lengths c.args.self.now.sheet.now c.cells.new.nodes c.next_filled_row-first.result c.node_end-to.result) c.cells.result (rows_texts (self_at c.args.self.now.skip c.args.levels) c.args.opts (from_cells (rows_of (attrs ∷ anc) kids))) (take c.args.text.now.len c.args.text.now.room.now) = λ name attrs kids anc x h. let a = c.args in c.cells.ensures.rows_writes (from_cells (rows_of (attrs ∷ anc) kids)) (rows_at a.self.now.sheet.now a.nodes.now c.next_filled_row-first.result c.node_end-to.result (from_cells (rows_of (attrs ∷ anc) kids)) (filled_here _ _ _ anc x h)) in
     let a = c.args in
     let p = c.requires.0 in
-    omega (arith, behind_count a.text.now a.len (concat (rows_texts (self_at a.self.now.skip a.levels) a.opts (from_cells (rows_of (p.0.1 ∷ p.1.0) p.0.2)))) c.requires.1.0 (done c.in_ok-end.was (wrote_here _ _ _ p.1.0 p.0.3 p.1.1).writes))
+    omega (arith, behind_count a.text.now.room.now a.text.now.len (concat (rows_texts (self_at a.self.now.skip a.levels) a.opts (from_cells (rows_of (p.0.1 ∷ p.1.0) p.0.2)))) c.args.text.now.fits (done (ap (wrote c.cells.new.text) c.in_ok-cells.was) (wrote_here _ _ _ p.1.0 p.0.3 p.1.1).writes))
 
 pub write_table-push_table-requires : goal.write_table-push_table-requires
 write_table-push_table-requires t c =
     let rows_here : (name : Bytes) (attrs : List Attr) (kids : Forest) (anc : Ancestors) → ElementAt c.args.self.now.sheet.now c.args.nodes.now c.args.at name attrs kids → Around c.args.self.now.sheet.now c.args.nodes.now (parent_at c.args.nodes.now c.args.at) anc → Rows c.args.self.now.sheet.now c.args.nodes.now (c.args.at + 1) c.node_end-to.result (rows_of (attrs ∷ anc) kids) = λ name attrs kids anc x h. let a = c.args in rows_of_lem a.self.now.sheet.now a.nodes.now a.at (a.at + 1) c.node_end-to.result kids (attrs ∷ anc) (element_kids x c.node_end-to.ensures) (around_it anc x h) (omega arith) in
     let filled_here : (name : Bytes) (attrs : List Attr) (kids : Forest) (anc : Ancestors) → ElementAt c.args.self.now.sheet.now c.args.nodes.now c.args.at name attrs kids → Around c.args.self.now.sheet.now c.args.nodes.now (parent_at c.args.nodes.now c.args.at) anc → RowsAt c.args.self.now.sheet.now c.args.nodes.now c.next_filled_row-first.result c.node_end-to.result (from_cells (rows_of (attrs ∷ anc) kids)) = λ name attrs kids anc x h. c.next_filled_row-first.ensures.rows (rows_of (attrs ∷ anc) kids) (rows_here _ _ _ anc x h) in
-    let wrote_here : (name : Bytes) (attrs : List Attr) (kids : Forest) (anc : Ancestors) → ElementAt c.args.self.now.sheet.now c.args.nodes.now c.args.at name attrs kids → Around c.args.self.now.sheet.now c.args.nodes.now (parent_at c.args.nodes.now c.args.at) anc → RowsWrites (length c.args.text.now) c.cells.new.text (table_lengths c.args.self.now.sheet.now c.cells.new.nodes c.next_filled_row-first.result c.node_end-to.result) c.cells.result (rows_texts (self_at c.args.self.now.skip c.args.levels) c.args.opts (from_cells (rows_of (attrs ∷ anc) kids))) (take c.args.len c.args.text.now) = λ name attrs kids anc x h. let a = c.args in c.cells.ensures.rows_writes (from_cells (rows_of (attrs ∷ anc) kids)) (rows_at a.self.now.sheet.now a.nodes.now c.next_filled_row-first.result c.node_end-to.result (from_cells (rows_of (attrs ∷ anc) kids)) (filled_here _ _ _ anc x h)) in
+    let wrote_here : (name : Bytes) (attrs : List Attr) (kids : Forest) (anc : Ancestors) → ElementAt c.args.self.now.sheet.now c.args.nodes.now c.args.at name attrs kids → Around c.args.self.now.sheet.now c.args.nodes.now (parent_at c.args.nodes.now c.args.at) anc → RowsWrites (length c.args.text.now.room.now) c.cells.new.text.room.now (table_lengths c.args.self.now.sheet.now c.cells.new.nodes c.next_filled_row-first.result c.node_end-to.result) c.cells.result (rows_texts (self_at c.args.self.now.skip c.args.levels) c.args.opts (from_cells (rows_of (attrs ∷ anc) kids))) (take c.args.text.now.len c.args.text.now.room.now) = λ name attrs kids anc x h. let a = c.args in c.cells.ensures.rows_writes (from_cells (rows_of (attrs ∷ anc) kids)) (rows_at a.self.now.sheet.now a.nodes.now c.next_filled_row-first.result c.node_end-to.result (from_cells (rows_of (attrs ∷ anc) kids)) (filled_here _ _ _ anc x h)) in
     let rows_here_2 : (name : Bytes) (attrs : List Attr) (kids : Forest) (anc : Ancestors) → ElementAt c.args.self.now.sheet.now c.args.nodes.now c.args.at name attrs kids → Around c.args.self.now.sheet.now c.args.nodes.now (parent_at c.args.nodes.now c.args.at) anc → Rows c.args.self.now.sheet.now c.args.nodes.now (c.args.at + 1) c.node_end-to.result (rows_of (attrs ∷ anc) kids) = λ name attrs kids anc x h. let a = c.args in rows_of_lem a.self.now.sheet.now a.nodes.now a.at (a.at + 1) c.node_end-to.result kids (attrs ∷ anc) (element_kids x c.node_end-to.ensures) (around_it anc x h) (omega arith) in
     let filled_here_2 : (name : Bytes) (attrs : List Attr) (kids : Forest) (anc : Ancestors) → ElementAt c.args.self.now.sheet.now c.args.nodes.now c.args.at name attrs kids → Around c.args.self.now.sheet.now c.args.nodes.now (parent_at c.args.nodes.now c.args.at) anc → RowsAt c.args.self.now.sheet.now c.args.nodes.now c.next_filled_row-first.result c.node_end-to.result (from_cells (rows_of (attrs ∷ anc) kids)) = λ name attrs kids anc x h. c.next_filled_row-first.ensures.rows (rows_of (attrs ∷ anc) kids) (rows_here_2 _ _ _ anc x h) in
     let writable_here : (name : Bytes) (attrs : List Attr) (kids : Forest) (anc : Ancestors) → ElementAt c.args.self.now.sheet.now c.args.nodes.now c.args.at name attrs kids → Around c.args.self.now.sheet.now c.args.nodes.now (parent_at c.args.nodes.now c.args.at) anc → c.is_table_node_writable.result ≡ is_table_node_writable kids (from_cells (rows_of (attrs ∷ anc) kids)) = λ name attrs kids anc x h. c.is_table_node_writable.ensures c.args.at kids (from_cells (rows_of (attrs ∷ anc) kids)) (element_kids x c.node_end-to.ensures) (filled_here_2 _ _ _ anc x h) in
@@ -1751,52 +1827,54 @@ write_table-push_table-requires t c =
     let R = from_cells (rows_of (p.0.1 ∷ p.1.0) p.0.2) in
     let k = c.cells.ensures.kept in
     let w = wrote_here _ _ _ p.1.0 p.0.3 p.1.1 in
-    let d = done c.in_ok-end.was w.writes in (
+    let d = done (ap (wrote c.cells.new.text) c.in_ok-cells.was) w.writes in (
       table_at a.self.now.sheet.now c.cells.new.nodes a.at (a.at + 1) c.next_filled_row-first.result c.node_end-to.result p.0.2 (p.0.1 ∷ p.1.0)
           (rep_kept k a.self.now.sheet.now a.at (a.at + 1) c.node_end-to.result p.0.2 (element_kids p.0.3 c.node_end-to.ensures)) (omega arith) c.next_filled_row-first.ensures.later (some_here)
           (rows_at_kept k a.self.now.sheet.now c.next_filled_row-first.result c.node_end-to.result R (filled_here_4 _ _ _ p.1.0 p.0.3 p.1.1)),
-      omega (arith, reaches d, behind_count a.text.now a.len (concat (rows_texts (self_at a.self.now.skip a.levels) a.opts R)) c.requires.1.0 d),
-      table_sum (self_at a.self.now.skip a.levels) a.opts R a.text.now a.len c.requires.1.0 d (w.lengths_are c.in_ok-end.end c.in_ok-end.was),
+      omega (arith, reaches d, behind_count a.text.now.room.now a.text.now.len (concat (rows_texts (self_at a.self.now.skip a.levels) a.opts R)) c.args.text.now.fits d),
+      table_sum (self_at a.self.now.skip a.levels) a.opts R a.text.now.room.now a.text.now.len c.args.text.now.fits d (w.lengths_are c.cells.new.text.len (ap (wrote c.cells.new.text) c.in_ok-cells.was)),
     )
 
 pub write_table-returns : goal.write_table-returns
 write_table-returns t c =
     let rows_here : (name : Bytes) (attrs : List Attr) (kids : Forest) (anc : Ancestors) → ElementAt c.args.self.now.sheet.now c.args.nodes.now c.args.at name attrs kids → Around c.args.self.now.sheet.now c.args.nodes.now (parent_at c.args.nodes.now c.args.at) anc → Rows c.args.self.now.sheet.now c.args.nodes.now (c.args.at + 1) c.node_end-to.result (rows_of (attrs ∷ anc) kids) = λ name attrs kids anc x h. let a = c.args in rows_of_lem a.self.now.sheet.now a.nodes.now a.at (a.at + 1) c.node_end-to.result kids (attrs ∷ anc) (element_kids x c.node_end-to.ensures) (around_it anc x h) (omega arith) in
     let filled_here : (name : Bytes) (attrs : List Attr) (kids : Forest) (anc : Ancestors) → ElementAt c.args.self.now.sheet.now c.args.nodes.now c.args.at name attrs kids → Around c.args.self.now.sheet.now c.args.nodes.now (parent_at c.args.nodes.now c.args.at) anc → RowsAt c.args.self.now.sheet.now c.args.nodes.now c.next_filled_row-first.result c.node_end-to.result (from_cells (rows_of (attrs ∷ anc) kids)) = λ name attrs kids anc x h. c.next_filled_row-first.ensures.rows (rows_of (attrs ∷ anc) kids) (rows_here _ _ _ anc x h) in
-    let wrote_here : (name : Bytes) (attrs : List Attr) (kids : Forest) (anc : Ancestors) → ElementAt c.args.self.now.sheet.now c.args.nodes.now c.args.at name attrs kids → Around c.args.self.now.sheet.now c.args.nodes.now (parent_at c.args.nodes.now c.args.at) anc → RowsWrites (length c.args.text.now) c.cells.new.text (table_lengths c.args.self.now.sheet.now c.cells.new.nodes c.next_filled_row-first.result c.node_end-to.result) c.cells.result (rows_texts (self_at c.args.self.now.skip c.args.levels) c.args.opts (from_cells (rows_of (attrs ∷ anc) kids))) (take c.args.len c.args.text.now) = λ name attrs kids anc x h. let a = c.args in c.cells.ensures.rows_writes (from_cells (rows_of (attrs ∷ anc) kids)) (rows_at a.self.now.sheet.now a.nodes.now c.next_filled_row-first.result c.node_end-to.result (from_cells (rows_of (attrs ∷ anc) kids)) (filled_here _ _ _ anc x h)) in
+    let wrote_here : (name : Bytes) (attrs : List Attr) (kids : Forest) (anc : Ancestors) → ElementAt c.args.self.now.sheet.now c.args.nodes.now c.args.at name attrs kids → Around c.args.self.now.sheet.now c.args.nodes.now (parent_at c.args.nodes.now c.args.at) anc → RowsWrites (length c.args.text.now.room.now) c.cells.new.text.room.now (table_lengths c.args.self.now.sheet.now c.cells.new.nodes c.next_filled_row-first.result c.node_end-to.result) c.cells.result (rows_texts (self_at c.args.self.now.skip c.args.levels) c.args.opts (from_cells (rows_of (attrs ∷ anc) kids))) (take c.args.text.now.len c.args.text.now.room.now) = λ name attrs kids anc x h. let a = c.args in c.cells.ensures.rows_writes (from_cells (rows_of (attrs ∷ anc) kids)) (rows_at a.self.now.sheet.now a.nodes.now c.next_filled_row-first.result c.node_end-to.result (from_cells (rows_of (attrs ∷ anc) kids)) (filled_here _ _ _ anc x h)) in
     let rows_here_2 : (name : Bytes) (attrs : List Attr) (kids : Forest) (anc : Ancestors) → ElementAt c.args.self.now.sheet.now c.args.nodes.now c.args.at name attrs kids → Around c.args.self.now.sheet.now c.args.nodes.now (parent_at c.args.nodes.now c.args.at) anc → Rows c.args.self.now.sheet.now c.args.nodes.now (c.args.at + 1) c.node_end-to.result (rows_of (attrs ∷ anc) kids) = λ name attrs kids anc x h. let a = c.args in rows_of_lem a.self.now.sheet.now a.nodes.now a.at (a.at + 1) c.node_end-to.result kids (attrs ∷ anc) (element_kids x c.node_end-to.ensures) (around_it anc x h) (omega arith) in
     let filled_here_2 : (name : Bytes) (attrs : List Attr) (kids : Forest) (anc : Ancestors) → ElementAt c.args.self.now.sheet.now c.args.nodes.now c.args.at name attrs kids → Around c.args.self.now.sheet.now c.args.nodes.now (parent_at c.args.nodes.now c.args.at) anc → RowsAt c.args.self.now.sheet.now c.args.nodes.now c.next_filled_row-first.result c.node_end-to.result (from_cells (rows_of (attrs ∷ anc) kids)) = λ name attrs kids anc x h. c.next_filled_row-first.ensures.rows (rows_of (attrs ∷ anc) kids) (rows_here_2 _ _ _ anc x h) in
     let writable_here : (name : Bytes) (attrs : List Attr) (kids : Forest) (anc : Ancestors) → ElementAt c.args.self.now.sheet.now c.args.nodes.now c.args.at name attrs kids → Around c.args.self.now.sheet.now c.args.nodes.now (parent_at c.args.nodes.now c.args.at) anc → c.is_table_node_writable.result ≡ is_table_node_writable kids (from_cells (rows_of (attrs ∷ anc) kids)) = λ name attrs kids anc x h. c.is_table_node_writable.ensures c.args.at kids (from_cells (rows_of (attrs ∷ anc) kids)) (element_kids x c.node_end-to.ensures) (filled_here_2 _ _ _ anc x h) in
     let rows_here_3 : (name : Bytes) (attrs : List Attr) (kids : Forest) (anc : Ancestors) → ElementAt c.args.self.now.sheet.now c.args.nodes.now c.args.at name attrs kids → Around c.args.self.now.sheet.now c.args.nodes.now (parent_at c.args.nodes.now c.args.at) anc → Rows c.args.self.now.sheet.now c.args.nodes.now (c.args.at + 1) c.node_end-to.result (rows_of (attrs ∷ anc) kids) = λ name attrs kids anc x h. let a = c.args in rows_of_lem a.self.now.sheet.now a.nodes.now a.at (a.at + 1) c.node_end-to.result kids (attrs ∷ anc) (element_kids x c.node_end-to.ensures) (around_it anc x h) (omega arith) in
     let filled_here_3 : (name : Bytes) (attrs : List Attr) (kids : Forest) (anc : Ancestors) → ElementAt c.args.self.now.sheet.now c.args.nodes.now c.args.at name attrs kids → Around c.args.self.now.sheet.now c.args.nodes.now (parent_at c.args.nodes.now c.args.at) anc → RowsAt c.args.self.now.sheet.now c.args.nodes.now c.next_filled_row-first.result c.node_end-to.result (from_cells (rows_of (attrs ∷ anc) kids)) = λ name attrs kids anc x h. c.next_filled_row-first.ensures.rows (rows_of (attrs ∷ anc) kids) (rows_here_3 _ _ _ anc x h) in
     let a = c.args in record {
+      room = room_on (c.cells.ensures.room) (leaf_room c.push_table.ensures);
       kept = kept_in (omega (arith, c.next_filled_row-first.ensures.later)) (omega (arith, c.node_end-to.ensures)) c.cells.ensures.kept;
       writes_element = record {
         for = λ name attrs kids anc x h.
             let R = from_cells (rows_of (attrs ∷ anc) kids) in
             let w = wrote_here _ _ _ anc x h in
-            let d = done c.in_ok-end.was w.writes in
-            alike (table_written (self_at a.self.now.skip a.levels) anc a.opts name attrs kids (take a.len a.text.now) (sym (writable_here _ _ _ anc x h) ∙ c.if-not-is_table_node_writable.false))
-            (table_done (self_at a.self.now.skip a.levels) a.opts R a.text.now a.len c.requires.1.0 d
-            (c.push_table.ensures (self_at a.self.now.skip a.levels) a.opts R (rows_at_kept c.cells.ensures.kept a.self.now.sheet.now c.next_filled_row-first.result c.node_end-to.result R (filled_here_3 _ _ _ anc x h)) (w.lengths_are c.in_ok-end.end c.in_ok-end.was)
-            (behind_bytes a.text.now a.len (concat (rows_texts (self_at a.self.now.skip a.levels) a.opts R)) c.requires.1.0 d)));
+            let d = done (ap (wrote c.cells.new.text) c.in_ok-cells.was) w.writes in
+            alike (table_written (self_at a.self.now.skip a.levels) anc a.opts name attrs kids (take a.text.now.len a.text.now.room.now) (sym (writable_here _ _ _ anc x h) ∙ c.if-not-is_table_node_writable.false))
+            (table_done (self_at a.self.now.skip a.levels) a.opts R a.text.now.room.now a.text.now.len c.args.text.now.fits d
+            (c.push_table.ensures.writes (self_at a.self.now.skip a.levels) a.opts R (rows_at_kept c.cells.ensures.kept a.self.now.sheet.now c.next_filled_row-first.result c.node_end-to.result R (filled_here_3 _ _ _ anc x h)) (w.lengths_are c.cells.new.text.len (ap (wrote c.cells.new.text) c.in_ok-cells.was))
+            (behind_bytes a.text.now.room.now a.text.now.len (concat (rows_texts (self_at a.self.now.skip a.levels) a.opts R)) c.args.text.now.fits d)));
       };
     }
 
-pub write_table-returns-in_err-end : goal.write_table-returns-in_err-end
-write_table-returns-in_err-end t c =
+pub write_table-returns-in_err-cells : goal.write_table-returns-in_err-cells
+write_table-returns-in_err-cells t c =
     let rows_here : (name : Bytes) (attrs : List Attr) (kids : Forest) (anc : Ancestors) → ElementAt c.args.self.now.sheet.now c.args.nodes.now c.args.at name attrs kids → Around c.args.self.now.sheet.now c.args.nodes.now (parent_at c.args.nodes.now c.args.at) anc → Rows c.args.self.now.sheet.now c.args.nodes.now (c.args.at + 1) c.node_end-to.result (rows_of (attrs ∷ anc) kids) = λ name attrs kids anc x h. let a = c.args in rows_of_lem a.self.now.sheet.now a.nodes.now a.at (a.at + 1) c.node_end-to.result kids (attrs ∷ anc) (element_kids x c.node_end-to.ensures) (around_it anc x h) (omega arith) in
     let filled_here : (name : Bytes) (attrs : List Attr) (kids : Forest) (anc : Ancestors) → ElementAt c.args.self.now.sheet.now c.args.nodes.now c.args.at name attrs kids → Around c.args.self.now.sheet.now c.args.nodes.now (parent_at c.args.nodes.now c.args.at) anc → RowsAt c.args.self.now.sheet.now c.args.nodes.now c.next_filled_row-first.result c.node_end-to.result (from_cells (rows_of (attrs ∷ anc) kids)) = λ name attrs kids anc x h. c.next_filled_row-first.ensures.rows (rows_of (attrs ∷ anc) kids) (rows_here _ _ _ anc x h) in
     let writable_here : (name : Bytes) (attrs : List Attr) (kids : Forest) (anc : Ancestors) → ElementAt c.args.self.now.sheet.now c.args.nodes.now c.args.at name attrs kids → Around c.args.self.now.sheet.now c.args.nodes.now (parent_at c.args.nodes.now c.args.at) anc → c.is_table_node_writable.result ≡ is_table_node_writable kids (from_cells (rows_of (attrs ∷ anc) kids)) = λ name attrs kids anc x h. c.is_table_node_writable.ensures c.args.at kids (from_cells (rows_of (attrs ∷ anc) kids)) (element_kids x c.node_end-to.ensures) (filled_here _ _ _ anc x h) in
     let rows_here_2 : (name : Bytes) (attrs : List Attr) (kids : Forest) (anc : Ancestors) → ElementAt c.args.self.now.sheet.now c.args.nodes.now c.args.at name attrs kids → Around c.args.self.now.sheet.now c.args.nodes.now (parent_at c.args.nodes.now c.args.at) anc → Rows c.args.self.now.sheet.now c.args.nodes.now (c.args.at + 1) c.node_end-to.result (rows_of (attrs ∷ anc) kids) = λ name attrs kids anc x h. let a = c.args in rows_of_lem a.self.now.sheet.now a.nodes.now a.at (a.at + 1) c.node_end-to.result kids (attrs ∷ anc) (element_kids x c.node_end-to.ensures) (around_it anc x h) (omega arith) in
     let filled_here_2 : (name : Bytes) (attrs : List Attr) (kids : Forest) (anc : Ancestors) → ElementAt c.args.self.now.sheet.now c.args.nodes.now c.args.at name attrs kids → Around c.args.self.now.sheet.now c.args.nodes.now (parent_at c.args.nodes.now c.args.at) anc → RowsAt c.args.self.now.sheet.now c.args.nodes.now c.next_filled_row-first.result c.node_end-to.result (from_cells (rows_of (attrs ∷ anc) kids)) = λ name attrs kids anc x h. c.next_filled_row-first.ensures.rows (rows_of (attrs ∷ anc) kids) (rows_here_2 _ _ _ anc x h) in
-    let wrote_here : (name : Bytes) (attrs : List Attr) (kids : Forest) (anc : Ancestors) → ElementAt c.args.self.now.sheet.now c.args.nodes.now c.args.at name attrs kids → Around c.args.self.now.sheet.now c.args.nodes.now (parent_at c.args.nodes.now c.args.at) anc → RowsWrites (length c.args.text.now) c.cells.new.text (table_lengths c.args.self.now.sheet.now c.cells.new.nodes c.next_filled_row-first.result c.node_end-to.result) c.cells.result (rows_texts (self_at c.args.self.now.skip c.args.levels) c.args.opts (from_cells (rows_of (attrs ∷ anc) kids))) (take c.args.len c.args.text.now) = λ name attrs kids anc x h. let a = c.args in c.cells.ensures.rows_writes (from_cells (rows_of (attrs ∷ anc) kids)) (rows_at a.self.now.sheet.now a.nodes.now c.next_filled_row-first.result c.node_end-to.result (from_cells (rows_of (attrs ∷ anc) kids)) (filled_here_2 _ _ _ anc x h)) in
+    let wrote_here : (name : Bytes) (attrs : List Attr) (kids : Forest) (anc : Ancestors) → ElementAt c.args.self.now.sheet.now c.args.nodes.now c.args.at name attrs kids → Around c.args.self.now.sheet.now c.args.nodes.now (parent_at c.args.nodes.now c.args.at) anc → RowsWrites (length c.args.text.now.room.now) c.cells.new.text.room.now (table_lengths c.args.self.now.sheet.now c.cells.new.nodes c.next_filled_row-first.result c.node_end-to.result) c.cells.result (rows_texts (self_at c.args.self.now.skip c.args.levels) c.args.opts (from_cells (rows_of (attrs ∷ anc) kids))) (take c.args.text.now.len c.args.text.now.room.now) = λ name attrs kids anc x h. let a = c.args in c.cells.ensures.rows_writes (from_cells (rows_of (attrs ∷ anc) kids)) (rows_at a.self.now.sheet.now a.nodes.now c.next_filled_row-first.result c.node_end-to.result (from_cells (rows_of (attrs ∷ anc) kids)) (filled_here_2 _ _ _ anc x h)) in
     let a = c.args in record {
+      room = c.cells.ensures.room;
       kept = kept_in (omega (arith, c.next_filled_row-first.ensures.later)) (omega (arith, c.node_end-to.ensures)) c.cells.ensures.kept;
       writes_element = stops_element c.from_residual.ensures.0 (record {
         for = λ name attrs kids anc x h.
             let R = from_cells (rows_of (attrs ∷ anc) kids) in
-            alike (table_written (self_at a.self.now.skip a.levels) anc a.opts name attrs kids (take a.len a.text.now) (sym (writable_here _ _ _ anc x h) ∙ c.if-not-is_table_node_writable.false))
-            (record { says = table_full (self_at a.self.now.skip a.levels) a.opts R a.text.now a.len (full c.in_err-end.was (wrote_here _ _ _ anc x h).writes) });
+            alike (table_written (self_at a.self.now.skip a.levels) anc a.opts name attrs kids (take a.text.now.len a.text.now.room.now) (sym (writable_here _ _ _ anc x h) ∙ c.if-not-is_table_node_writable.false))
+            (record { says = table_full (self_at a.self.now.skip a.levels) a.opts R a.text.now.room.now a.text.now.len (full (ap (wrote c.cells.new.text) c.in_err-cells.was) (wrote_here _ _ _ anc x h).writes) });
       });
     }
