@@ -5,7 +5,7 @@ ghost use Rattle.text.specs.Writes.{Writes};
 ghost use Rattle.spec.specs.Out.{beside};
 ghost use Rattle.elements.specs.LinkStep.{append_by, bracket, link_front, link_shown, link_step, plain_step, text_link_step};
 
-use lists_links::link::push_link_end;
+use lists_links::by_len::push_link_end;
 use normalized::by_len::{escape_trailing_bang, push_normalized_own};
 use spec::ctx::FormatOpts;
 use text::buffer::{Wrote, all_in, lift};
