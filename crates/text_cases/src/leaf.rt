@@ -27,7 +27,7 @@ fn text_utils(name: &[u8], text: &mut [u8], len: usize, case: Case, a: &[u8], b:
         return truth(normalized::text_utils::is_ordered_list_marker(a));
     }
     if is_same(name, b"escape_trailing_bang") {
-        return normalized::text_utils::escape_trailing_bang(text, len);
+        return normalized::by_len::escape_trailing_bang(text, len);
     }
     if is_same(name, b"trim_trailing_space") {
         return Ok(normalized::text_utils::trim_trailing_space(a));
@@ -39,7 +39,7 @@ fn text_utils_end(name: &[u8], text: &mut [u8], len: usize, a: &[u8], b: &[u8]) 
     requires { len ≤ length text.old }
 {
     if is_same(name, b"add_linebreaks") {
-        return normalized::text_utils::add_linebreaks(text, len, a, b);
+        return normalized::by_len::add_linebreaks(text, len, a, b);
     }
     if is_same(name, b"push_md_url") {
         return destination(text, len, a);
@@ -48,10 +48,10 @@ fn text_utils_end(name: &[u8], text: &mut [u8], len: usize, a: &[u8], b: &[u8]) 
         return lists_links::title::push_title(text, len, a);
     }
     if is_same(name, b"push_block_space") {
-        return normalized::text_utils::push_block_space(text, len);
+        return normalized::by_len::push_block_space(text, len);
     }
     if is_same(name, b"trim_space") {
-        return Ok(normalized::text_utils::trim_space(text, len));
+        return Ok(normalized::by_len::trim_space(text, len));
     }
     unknown()
 }
