@@ -14,7 +14,8 @@ ghost use Rattle.elements.specs.ItemStep.{ended_list, child_opts, line_if, flow_
 
 use crate::list_nodes::{is_list, number_of};
 use lists_links::list::Item;
-use marks::heading::{escape_closing_hashes, is_heading, push_md_prefix};
+use marks::by_len::{escape_closing_hashes, push_md_prefix};
+use marks::heading::is_heading;
 use normalized::by_len::{add_linebreaks, push_linebreak};
 use spec::ctx::{FormatOpts, ListContext, ListKind};
 use text::buffer::Wrote;

@@ -19,9 +19,8 @@ ghost use Rattle.nodes.specs.Stands.{ElementAt, SomeElement};
 ghost use Rattle.elements.specs.CloseBy.{close_by, escape_heading};
 
 use crate::list_nodes::{can_interrupt_paragraph, is_list, is_md_block};
-use marks::emphasis::push_emphasis;
-use marks::heading::{escape_closing_hashes, is_heading, push_md_prefix};
-use marks::table::add_cell_block_break;
+use marks::by_len::{add_cell_block_break, escape_closing_hashes, push_emphasis, push_md_prefix};
+use marks::heading::is_heading;
 use nodes::by_len::blank_for_br;
 use nodes::nodes::node_name;
 use normalized::by_len::{add_linebreaks, push_block_space};

@@ -42,7 +42,8 @@ use elements::steps::{closed, emphasis_opts, has_writer, opened, push_emphasis_b
 use list_items::{write_list_item, write_list_item_blocks};
 use lists_links::by_len::{end_item, push_block_lead, push_indented, push_inline_lead, write_img};
 use lists_links::list::{Item, item_from};
-use marks::table::{escape_table_cell_inplace, trim_trailing_cell_break};
+use marks::by_len::escape_table_cell_inplace;
+use marks::table::trim_trailing_cell_break;
 use nodes::by_len::{write_text, write_text_node};
 use nodes::nodes::{has_element, node_is_skipped, node_name};
 use normalized::by_len::{push_linebreak, trim_space};

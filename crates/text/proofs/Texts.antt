@@ -129,6 +129,7 @@ module _ {a b : Text} {q : Answer} (x y : List ℕ) where
 
   pub push_stopped : {r : Answer} {f : Full} → q ≡ Err f → WritesTo a b q (push x) → IsErr r → WritesTo a b r (push (x ++ y))
   push_stopped e v h = as_step (push_both x y (bytes a)) (stop (push y) e v h)
+
 -- ---- the memory z is split: p is a text in the front of it, which comes back as ys when p has become q, and f of y, which stands behind the front, was written
 module _ {p q : Text} {r : Answer} {base : ℕ} {z y ys : List ℕ} (f : List ℕ → Step) (h : p.len ≤ base) (k : base ≤ length z) (e : p.room.now ≡ take base z) (d : y ≡ drop base z)
     (w : WritesTo p q r (f y)) (i : ys ≡ q.room.now) where
@@ -143,3 +144,12 @@ module _ {p q : Text} {r : Answer} {base : ℕ} {z y ys : List ℕ} (f : List �
 
   pub split_over : {x : Full} {s : Wrote} → r ≡ Err x → IsErr s → WritesIn base z (ys ++ y) s (f (drop base z) (take p.len z))
   split_over o g = stops_in g (subst (λ (x : Answer). WritesIn base z (ys ++ y) (wrote q x) (f (drop base z) (take p.len z))) o split_writes)
+
+-- it has no room, where an answer is an `Err`
+pub as_stop : {a b : Text} {r : Answer} {f : Step} → b.room.ghost_name ≡ a.room.ghost_name → length b.room.now ≡ length a.room.now → IsErr r → Refused (length a.room.now) (f (bytes a))
+    → WritesTo a b r f
+as_stop {a} {b} {r} {f} n l h w = go r h
+  where
+    go : (r : Answer) → IsErr r → WritesTo a b r f
+    go (Ok u) h = absurd (false≢true h)
+    go (Err e) h = record { room_is = n; long = l; writes = record { says = w } }
