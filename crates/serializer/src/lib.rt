@@ -29,15 +29,13 @@ ghost use Rattle.tables.specs.TableSteps.{rows_texts, RowWrites, RowsWrites};
 ghost use Rattle.serializer.specs.Options as def;
 ghost use Rattle.serializer.specs.Writers.{self_at, Ready, Fits, FitsIn, WritesForest, WritesElement, progress_of, GoesForest, GoesElement};
 
-use elements::code::write_code;
+use elements::by_len::{push_link, push_text_link, write_code, write_pre};
 use elements::item_steps::{
     child_opts, due_line, end_flow, end_list, push_heading_prefix, renumbered,
 };
-use elements::link::{push_link, push_text_link};
 use elements::list_nodes::{
     has_blocks, is_list, kind_of, node_is_block_wrapper, node_is_list_item_block,
 };
-use elements::pre::write_pre;
 use elements::steps::{closed, emphasis_opts, has_writer, opened, push_emphasis_by};
 use list_items::by_len::{write_list_item, write_list_item_blocks};
 use lists_links::by_len::{end_item, push_block_lead, push_indented, push_inline_lead, write_img};
