@@ -1,7 +1,7 @@
 -- Link destinations, byte by byte. Assumes nothing.
 use Prim.Native.Nat.{ℕ, zero, suc, ◌+◌, ◌-◌, ◌≤◌, ◌<◌}
 use mathlib.Core.Path.{◌≡◌, refl, sym, ap, subst, ◌∙◌}
-use mathlib.Core.Bool.{Bool, true, false, cond, not, ◌&&◌, ◌||◌, false≢true, and-eq-true_iff}
+use mathlib.Core.Bool.{Bool, true, false, cond, not, ◌&&◌, ◌||◌, false≢true, and-eq-true_iff, and-false}
 use mathlib.Core.List.{List, [], ◌∷◌, ◌++◌, append-nil, append_assoc}
 use native.Mathlib.Omega.{arith}
 use native.Mathlib.Numerals.{add-one}
@@ -207,32 +207,50 @@ unfolding each_byte
 each_append f [] y = refl
 each_append f (b ∷ x) y = ap (λ (l : List ℕ). f b ++ l) (each_append f x y) ∙ sym (append_assoc (f b) (each_byte f x) (each_byte f y))
 
-piece_is : (wrap second z : Bool) (b : ℕ) → each_byte (url_byte wrap) (cond second [] (cond (eqb b 38) (ascii "&amp;") (cond (eqb b 34) (ascii "&quot;") (cond z (ascii "&nbsp;") (b ∷ []))))) ≡ piece_of wrap second z b
+piece_is : (wrap : Bool) (b : ℕ) → each_byte (url_byte wrap) (cond (eqb b 38) (ascii "&amp;") (cond (eqb b 34) (ascii "&quot;") (b ∷ []))) ≡ piece_of wrap b
 unfolding each_byte wrapped_byte backslash_twice isin
-piece_is wrap true z b = refl
-piece_is wrap false z b = go wrap (eqb b 38) (eqb b 34) z
+piece_is wrap b = go wrap (eqb b 38) (eqb b 34)
   where
-    go : (wrap x y z : Bool) → each_byte (url_byte wrap) (cond x (ascii "&amp;") (cond y (ascii "&quot;") (cond z (ascii "&nbsp;") (b ∷ [])))) ≡ cond x (ascii "&amp;") (cond y (ascii "&quot;") (cond z (ascii "&nbsp;") (url_byte wrap b)))
-    go true true y z = refl
-    go false true y z = refl
-    go true false true z = refl
-    go false false true z = refl
-    go true false false true = refl
-    go false false false true = refl
-    go wrap false false false = append-nil (url_byte wrap b)
+    go : (wrap x y : Bool) → each_byte (url_byte wrap) (cond x (ascii "&amp;") (cond y (ascii "&quot;") (b ∷ []))) ≡ cond x (ascii "&amp;") (cond y (ascii "&quot;") (url_byte wrap b))
+    go true true y = refl
+    go false true y = refl
+    go true false true = refl
+    go false false true = refl
+    go wrap false false = append-nil (url_byte wrap b)
 
-pub piece_turn : (wrap second nb : Bool) (s t : List ℕ) (i : ℕ) → i < length s → nb ≡ is_nbsp (get_or s i 0) (drop (i + 1) s)
-    → push (each_byte (url_byte wrap) (html_from second (drop i s))) t ≡ and_then (push (piece_of wrap second nb (get_or s i 0)) t) (push (each_byte (url_byte wrap) (html_from (not second && nb) (drop (i + 1) s))))
-unfolding html_from entity
-piece_turn wrap second nb s t i h e =
-    let c : drop i s ≡ get_or s i 0 ∷ drop (i + 1) s = drop-cons s i 0 h ∙ ap (λ (j : ℕ). get_or s i 0 ∷ drop j s) (sym (add-one i)) in
-    ap (λ (x : List ℕ). push (each_byte (url_byte wrap) (html_from second x)) t) c
-    ∙ ap (λ (z : Bool). push (each_byte (url_byte wrap) (cond second [] (cond (eqb (get_or s i 0) 38) (ascii "&amp;") (cond (eqb (get_or s i 0) 34) (ascii "&quot;") (cond z (ascii "&nbsp;") (get_or s i 0 ∷ [])))) ++ html_from (not second && z) (drop (i + 1) s))) t) (sym e)
-    ∙ ap (λ (x : List ℕ). push x t)
-    (each_append (url_byte wrap) (cond second [] (cond (eqb (get_or s i 0) 38) (ascii "&amp;") (cond (eqb (get_or s i 0) 34) (ascii "&quot;") (cond nb (ascii "&nbsp;") (get_or s i 0 ∷ []))))) (html_from (not second && nb) (drop (i + 1) s))
-    ∙ ap (λ (x : List ℕ). x ++ each_byte (url_byte wrap) (html_from (not second && nb) (drop (i + 1) s))) (piece_is wrap second nb (get_or s i 0)))
-    ∙ push_both (piece_of wrap second nb (get_or s i 0)) (each_byte (url_byte wrap) (html_from (not second && nb) (drop (i + 1) s))) t
+-- the text that stands for s
+abbrev pub shown : Bool → List ℕ → List ℕ
+shown wrap s = each_byte (url_byte wrap) (html_from false s)
 
-pub pieces_end : (wrap second : Bool) (s t : List ℕ) (i : ℕ) → length s ≤ i → push (each_byte (url_byte wrap) (html_from second (drop i s))) t ≡ push [] t
+pub shown_byte : (wrap : Bool) (s t : List ℕ) → 1 ≤ length s → starts_with (0xC2 ∷ 0xA0 ∷ []) s ≡ false
+    → push (shown wrap s) t ≡ and_then (push (piece_of wrap (get_or s 0 0)) t) (push (shown wrap (drop 1 s)))
+unfolding html_from entity is_nbsp starts_with same
+shown_byte wrap [] t h e = absurd (omega arith)
+shown_byte wrap (b ∷ s) t h e =
+    rw e
+    (ap (λ (x : List ℕ). push x t) (each_append (url_byte wrap) (cond (eqb b 38) (ascii "&amp;") (cond (eqb b 34) (ascii "&quot;") (b ∷ []))) (html_from false s) ∙ ap (λ (x : List ℕ). x ++ shown wrap s) (piece_is wrap b))
+    ∙ push_both (piece_of wrap b) (shown wrap s) t)
+
+pub shown_space : (wrap : Bool) (s t : List ℕ) → starts_with (0xC2 ∷ 0xA0 ∷ []) s ≡ true → push (shown wrap s) t ≡ and_then (push (ascii "&nbsp;") t) (push (shown wrap (drop 2 s)))
+unfolding html_from entity is_nbsp starts_with same each_byte wrapped_byte backslash_twice isin
+shown_space wrap [] t e = absurd (false≢true e)
+shown_space wrap (b ∷ []) t e = absurd (false≢true (sym (and-false (eqb b 0xC2)) ∙ e))
+shown_space wrap (b ∷ c ∷ s) t e =
+    let x = (and-eq-true_iff (eqb b 0xC2) (eqb c 0xA0 && true)).0 e in
+    let y = (and-eq-true_iff (eqb c 0xA0) true).0 x.1 in
+    go wrap b c (eqb-true b 0xC2 x.0) (eqb-true c 0xA0 y.0)
+  where
+    go : (wrap : Bool) (b c : ℕ) → b ≡ 0xC2 → c ≡ 0xA0 → push (shown wrap (b ∷ c ∷ s)) t ≡ and_then (push (ascii "&nbsp;") t) (push (shown wrap s))
+    go true b c p q = rw (p, q) (push_both (ascii "&nbsp;") (shown true s) t)
+    go false b c p q = rw (p, q) (push_both (ascii "&nbsp;") (shown false s) t)
+
+pub space_long : (s : List ℕ) → starts_with (0xC2 ∷ 0xA0 ∷ []) s ≡ true → 2 ≤ length s
+unfolding starts_with same
+space_long [] e = absurd (false≢true e)
+space_long (b ∷ []) e = absurd (false≢true (sym (and-false (eqb b 0xC2)) ∙ e))
+space_long (b ∷ c ∷ s) e = omega arith
+
+pub shown_end : (wrap : Bool) (s t : List ℕ) → length s < 1 → push (shown wrap s) t ≡ push [] t
 unfolding html_from each_byte
-pieces_end wrap second s t i h = ap (λ (x : List ℕ). push (each_byte (url_byte wrap) (html_from second x)) t) (drop_of_length-le s h)
+shown_end wrap [] t h = refl
+shown_end wrap (b ∷ s) t h = absurd (omega arith)

@@ -1,6 +1,6 @@
 -- The digits of a list number, and their value. Assumes nothing.
 use Prim.Native.Nat.{ℕ, zero, suc, ◌+◌, ◌-◌, ◌*◌, ◌≤◌, ◌<◌}
-use mathlib.Core.Path.{◌≡◌, refl, sym, ap, subst, subst₂, ◌∙◌}
+use mathlib.Core.Path.{◌≡◌, refl, sym, ap, subst, ◌∙◌}
 use mathlib.Core.Bool.{Bool, true, false, cond, ◌||◌, false≢true}
 use mathlib.Core.List.{List, [], ◌∷◌, ◌++◌}
 use mathlib.Core.Option.{none, some}
@@ -9,15 +9,13 @@ use native.Mathlib.Numerals.{add-one}
 use borrow.Author.Tests.{leb-true, leb-false}
 use lib.Dec.{eqb, leb}
 use lib.ListN.{length, take, drop, get_or, length-append, length-drop}
-use lib.Seq.{take_at, drop-cons, length-take-le}
+use lib.Seq.{take_at, drop-cons}
 use Rattle.spec.specs.Bytes.{null, same, starts_with, digit, take_while, value_from, trim_start_matches}
 use Rattle.spec.specs.Md.Elements.List.{clamped}
 use Rattle.lists_links.specs.Parsed.{parsed_of, signed, unsigned}
 use Rattle.text.specs.Trimmed.{Skipped}
 use Rattle.std.specs.Prelude.{Some, None}
-use Rattle.text.proofs.Writing.{yes}
 use Rattle.input.proofs.Rules.{null_length}
-use Rattle.text.proofs.Reading.{null_none, null_some, rest_part}
 
 -- what is skipped, and what is left
 while_split : (p : ℕ → Bool) (s : List ℕ) → take_while p s ++ trim_start_matches p s ≡ s
@@ -63,19 +61,10 @@ ten_most i (suc j) h = go (leb i j) refl (ten_most i j)
 
 -- ---- what a value says
 
-has_sign : (v : List ℕ) → starts_with (45 ∷ []) v || starts_with (43 ∷ []) v ≡ true → Skipped v 1 (unsigned v)
+pub sign_long : (v : List ℕ) → starts_with (45 ∷ []) v || starts_with (43 ∷ []) v ≡ true → 1 ≤ length v
 unfolding starts_with same
-has_sign [] e = absurd (false≢true e)
-has_sign (x ∷ v) e = record { within = omega arith; is = sym (yes v (x ∷ v) e) }
-
-pub sign_some : (v : List ℕ) {a b : Bool} → a ≡ starts_with (45 ∷ []) v → b ≡ starts_with (43 ∷ []) v → a || b ≡ true → Skipped v 1 (unsigned v)
-sign_some v {a} {b} p q e = has_sign v (subst₂ (λ (x y : Bool). x || y ≡ true) p q e)
-
-pub digits_are : (v : List ℕ) (sign n : ℕ) → Skipped v sign (unsigned v) → Skipped (take (length v - sign) (drop sign v)) n (trim_start_matches digit (take (length v - sign) (drop sign v)))
-    → take n (take (length v - sign) (drop sign v)) ≡ take_while digit (unsigned v)
-digits_are v sign n p q =
-    let e : take (length v - sign) (drop sign v) ≡ unsigned v = rest_part sign v ∙ p.is in
-    ap (take n) e ∙ skipped_while digit (subst (λ (s : List ℕ). Skipped s n (trim_start_matches digit s)) e q)
+sign_long [] e = absurd (false≢true e)
+sign_long (x ∷ v) e = omega arith
 
 module _ (v : List ℕ) {d : List ℕ} (e : d ≡ take_while digit (unsigned v)) {b : Bool} (l : b ≡ eqb (length d) 0) where
   is_null : null (take_while digit (unsigned v)) ≡ b

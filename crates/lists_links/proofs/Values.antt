@@ -13,8 +13,9 @@ use Rattle.spec.specs.Out.{Step, keep}
 use Rattle.spec.specs.Md.Elements.Image.{filled_value, first_source, if_some}
 use Rattle.std.specs.Prelude.{Option as Answer, Some, None}
 use Rattle.std.specs.Borrow.{Bor}
+use Rattle.std.specs.Option.{MatchOption}
 use Rattle.tree.specs.Attributes.{PartOf, Valued}
-use Rattle.tree.proofs.Values.{part_of_part}
+use Rattle.tree.proofs.Values.{part_of_part, valued_as}
 use Rattle.text.specs.Trimmed.{Trimmed, Skipped}
 use Rattle.text.proofs.Reading.{rest_part, null_none, null_some, trimmed_length}
 use Rattle.normalized.proofs.Wording.{black, first_word_lem}
@@ -60,6 +61,12 @@ valued_within {sh} {x} {r} {v} p w = go r w
     go (Some y) w =
         let (a, b, o, i, e) = w.inside in
         record { inside = subst (λ (z : Bytes). PartOf sh z) (sym e) (part_of_part sh x a b p o i); value_is = w.value_is }
+
+-- the first source of the value r, if there is one
+pub source_within : {sh : Bytes} (r : Answer (Bor Bytes)) {s : Answer (Bor Bytes)} {v : Option Bytes} {P : Bor Bytes → Type 0} → Valued sh r v → MatchOption r (s ≡ None) P → ((x : Bor Bytes) → P x → Valued x.now s (first_source (some x.now))) → Valued sh s (first_source v)
+unfolding first_source
+source_within {sh} None {s} {v} w m k = subst (λ (t : Answer (Bor Bytes)). Valued sh t (first_source v)) (sym m) (record { inside = tt; value_is = ap first_source w.value_is })
+source_within {sh} (Some x) {s} {v} w m k = valued_as (valued_within w.inside (k x m)) (sym (ap first_source w.value_is))
 
 -- ---- the first word of a value
 

@@ -1,5 +1,5 @@
 -- What stands for one byte of a link destination, and the balance of its parentheses. Assumes nothing.
-use Rattle.std.specs.Prelude.{ℕ, Bool, cond, not, ◌||◌, [], eqb, ℤ, pos, ◌+ℤ◌, ◌-ℤ◌}
+use Rattle.std.specs.Prelude.{ℕ, Bool, cond, not, ◌||◌, eqb, ℤ, pos, ◌+ℤ◌, ◌-ℤ◌}
 use Rattle.spec.specs.Bytes.{Bytes, ascii}
 use Rattle.spec.specs.Md.TextUtils.{wants_wrap, wrapped_byte, backslash_twice}
 
@@ -10,11 +10,9 @@ next_balance balance b = cond (eqb b 40) (balance +ℤ pos 1) (cond (eqb b 41) (
 abbrev pub url_byte : Bool → ℕ → Bytes
 url_byte wrap = cond wrap wrapped_byte backslash_twice
 
--- `second` says that b ends U+00A0, and `nbsp` that it begins it
-abbrev pub piece_of : Bool → Bool → Bool → ℕ → Bytes
-piece_of wrap second nbsp b =
-    cond second []
-    (cond (eqb b 38) (ascii "&amp;") (cond (eqb b 34) (ascii "&quot;") (cond nbsp (ascii "&nbsp;") (url_byte wrap b))))
+-- what stands for a byte that does not begin U+00A0
+abbrev pub piece_of : Bool → ℕ → Bytes
+piece_of wrap b = cond (eqb b 38) (ascii "&amp;") (cond (eqb b 34) (ascii "&quot;") (url_byte wrap b))
 
 -- b stands as it is where a destination is appended, between `<` and `>` or without them
 abbrev pub kept : ℕ → Bool

@@ -47,10 +47,7 @@ fn first_source(sheet: &[u8], place: usize) -> Option<&[u8]>
     requires { place + 3 ≤ length sheet.now }
     ensures { Valued sheet.now result (def.first_source (attr (ascii "srcset") (attrs_behind sheet.now place))) }
 {
-    match attribute(sheet, place, b"srcset") {
-        Some(srcset) => first_word(srcset),
-        None => None,
-    }
+    attribute(sheet, place, b"srcset").and_then(|srcset| first_word(srcset))
 }
 
 // The source of an image without a `src`.

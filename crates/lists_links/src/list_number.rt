@@ -11,19 +11,21 @@ use text::class::{Digit, Only, White};
 
 const MAX_LIST_NUMBER: u32 = 999999999;
 
+// How many digits that number has.
+const MOST_DIGITS: usize = 9;
+
 // The number that an attribute's value says, if it says one.
 pub fn parse_list_number(value: &[u8]) -> Option<u32>
     ensures { result ≡ parsed_of (def.parse_list_number value.now) }
 {
-    let start = trim_start_matches::<White>(value);
-    parse_signed(&value[start..])
+    parse_signed(&value[trim_start_matches::<White>(value)..])
 }
 
 // A number without white bytes before it.
 fn parse_signed(value: &[u8]) -> Option<u32>
     ensures { result ≡ parsed_of (signed value.now) }
 {
-    let unsigned = &value[sign_len(value)..];
+    let unsigned = without_sign(value);
     let digits = &unsigned[..trim_start_matches::<Digit>(unsigned)];
     if digits.is_empty() {
         return None;
@@ -34,25 +36,25 @@ fn parse_signed(value: &[u8]) -> Option<u32>
     Some(clamped(digits))
 }
 
-// How many bytes a sign takes at the front.
-fn sign_len(value: &[u8]) -> usize
-    ensures { Skipped value.now result (unsigned value.now) }
+// A value without the sign that begins it.
+fn without_sign(value: &[u8]) -> &[u8]
+    ensures { result.now ≡ unsigned value.now }
 {
     if starts_with_byte(value, b'-') | starts_with_byte(value, b'+') {
-        1
-    } else {
-        0
+        return &value[1..];
     }
+    value
 }
 
+// The number of a run of digits.
 fn clamped(digits: &[u8]) -> u32
     ensures { result ≡ def.clamped (trim_start_matches (λ b. eqb b 48) digits.now) }
 {
-    let zeros = trim_start_matches::<Only<b'0'>>(digits);
-    if 9 < digits.len() - zeros {
+    let significant = &digits[trim_start_matches::<Only<b'0'>>(digits)..];
+    if MOST_DIGITS < significant.len() {
         return MAX_LIST_NUMBER;
     }
-    value_of(&digits[zeros..])
+    value_of(significant)
 }
 
 // The value of a digit; of a byte below the digits, 0.

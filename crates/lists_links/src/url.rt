@@ -9,14 +9,21 @@ ghost use Rattle.spec.specs.Md.TextUtils as def;
 ghost use Rattle.lists_links.specs.Url.{next_balance, url_byte, piece_of, kept, itself};
 ghost use Rattle.text.specs.Texts.{WritesTo};
 
-use text::buffer::{Full, starts_with_byte};
+use text::buffer::{Full, starts_with};
 use text::text::Text;
+
+const NBSP_LEAD: u8 = 0xC2;
+
+// U+00A0 in UTF-8.
+const NO_BREAK_SPACE: [u8; 2] = [NBSP_LEAD, 0xA0];
+
+const DELETE: u8 = 127;
 
 #[tactic(auto, unfolding(spec::specs::Md::TextUtils::wants_wrap, spec::specs::Bytes::isin))]
 fn wants_wrap(b: u8) -> bool
     ensures { result ≡ def.wants_wrap b }
 {
-    matches!(b, 0..=31 | b' ' | b'<' | 127)
+    matches!(b, 0..=31 | b' ' | b'<' | DELETE)
 }
 
 // The balance of parentheses behind b: below zero where b closes one that is not open.
@@ -50,11 +57,14 @@ fn needs_wrap(dest: &[u8]) -> bool
     balance != 0
 }
 
+// Appends what stands for b, which does not begin a no-break space.
 #[tactic(auto, unfolding(spec::specs::Md::TextUtils::wrapped_byte, spec::specs::Md::TextUtils::backslash_twice, spec::specs::Bytes::isin))]
-fn push_url_byte(text: &mut Text, b: u8, wrap: bool) -> Result<(), Full>
-    ensures { WritesTo text.old text.new result (push (url_byte wrap b)) }
+fn push_piece(text: &mut Text, b: u8, wrap: bool) -> Result<(), Full>
+    ensures { WritesTo text.old text.new result (push (piece_of wrap b)) }
 {
     match b {
+        b'&' => text.push_all(b"&amp;"),
+        b'"' => text.push_all(b"&quot;"),
         b'\\' => text.push_all(b"\\\\"),
         b'<' if wrap => text.push_all(b"\\<"),
         b'>' if wrap => text.push_all(b"\\>"),
@@ -64,26 +74,14 @@ fn push_url_byte(text: &mut Text, b: u8, wrap: bool) -> Result<(), Full>
     }
 }
 
-// Appends what stands for b: `second` says that it ends U+00A0, `nbsp` that it begins it.
-fn push_piece(text: &mut Text, b: u8, wrap: bool, second: bool, nbsp: bool) -> Result<(), Full>
-    ensures { WritesTo text.old text.new result (push (piece_of wrap second nbsp b)) }
-{
-    if second {
-        return Ok(());
-    }
-    match b {
-        b'&' => text.push_all(b"&amp;"),
-        b'"' => text.push_all(b"&quot;"),
-        _ if nbsp => text.push_all(b"&nbsp;"),
-        _ => push_url_byte(text, b, wrap),
-    }
-}
-
 // Whether b stands as it is in a destination that is appended, between `<` and `>` or without them.
 fn is_kept(b: u8) -> bool
     ensures { result ≡ kept b }
 {
-    !matches!(b, b'"' | b'&' | b'<' | b'>' | b'\\' | b'\n' | b'\r' | 194)
+    !matches!(
+        b,
+        b'"' | b'&' | b'<' | b'>' | b'\\' | b'\n' | b'\r' | NBSP_LEAD
+    )
 }
 
 // Whether all bytes do.
@@ -99,11 +97,15 @@ fn push_dest(text: &mut Text, dest: &[u8], wrap: bool) -> Result<(), Full>
     if is_kept_dest(dest) {
         return text.push_all(dest);
     }
-    let mut second = false;
-    for i in 0..dest.len() {
-        let nbsp = (dest[i] == 194) & starts_with_byte(&dest[i + 1..], 160);
-        push_piece(text, dest[i], wrap, second, nbsp)?;
-        second = !second & nbsp;
+    let mut rest = dest;
+    while let [b, behind @ ..] = rest {
+        if starts_with(rest, &NO_BREAK_SPACE) {
+            text.push_all(b"&nbsp;")?;
+            rest = &rest[2..];
+        } else {
+            push_piece(text, *b, wrap)?;
+            rest = behind;
+        }
     }
     Ok(())
 }
@@ -120,7 +122,7 @@ fn push_wrapped(text: &mut Text, dest: &[u8]) -> Result<(), Full>
 fn is_itself(b: u8) -> bool
     ensures { result ≡ itself b }
 {
-    !(wants_wrap(b) | matches!(b, b'(' | b')' | b'&' | b'"' | b'\\' | 194))
+    !(wants_wrap(b) | matches!(b, b'(' | b')' | b'&' | b'"' | b'\\' | NBSP_LEAD))
 }
 
 // Whether all bytes do: without an early exit, so that many bytes can be tested at once.

@@ -9,4 +9,4 @@ use Rattle.lists_links.proofs.list_number.parse_list_number.Goals as goal
 pub returns : goal.returns
 unfolding parse_list_number
 returns c =
-    c.parse_signed.ensures ∙ ap (λ (s : List ℕ). parsed_of (signed s)) (rest_part c.trim_start_matches-start.result c.args.value.now ∙ c.trim_start_matches-start.ensures.is)
+    c.parse_signed.ensures ∙ ap (λ (s : List ℕ). parsed_of (signed s)) (rest_part c.trim_start_matches.result c.args.value.now ∙ c.trim_start_matches.ensures.is)

@@ -1,17 +1,10 @@
-use Prim.Native.Nat.{ℕ, ◌+◌}
-use mathlib.Core.Path.{sym, ap, ◌∙◌}
-use mathlib.Core.Bool.{Bool, not, ◌&&◌}
-use mathlib.Core.List.{List, [], ◌∷◌}
-use lib.ListN.{drop, get_or}
-use lib.Dec.{eqb}
-use Rattle.spec.specs.Bytes.{starts_with}
+use Rattle.std.proofs.Common.{rules, ℕ, List, ◌-◌, length, drop, sym, ap, ◌∙◌, arith, length-take}
 use Rattle.spec.specs.Out.{push}
-use Rattle.spec.specs.Md.TextUtils.{each_byte, html_from, html_escape, is_nbsp}
-use Rattle.lists_links.specs.Url.{url_byte}
+use Rattle.spec.specs.Md.TextUtils.{html_escape}
 use Rattle.text.specs.Texts.{bytes}
 use Rattle.text.proofs.Reading.{rest_part}
 use Rattle.text.proofs.Texts.{as_step, pushes_nothing, owes_all, owes_step, owes_stop, owes_last}
-use Rattle.lists_links.proofs.Linking.{piece_turn, pieces_end, kept_pieces}
+use Rattle.lists_links.proofs.Linking.{shown, shown_byte, shown_space, shown_end, space_long, kept_pieces}
 use Rattle.lists_links.proofs.url.push_dest.Goals as goal
 
 pub returns-then-is_kept_dest : goal.returns-then-is_kept_dest
@@ -20,31 +13,48 @@ returns-then-is_kept_dest c =
     let e = sym c.is_kept_dest.ensures ∙ c.if-is_kept_dest.true in
     as_step (ap (λ (x : List ℕ). push x (bytes a.text.now)) (kept_pieces a.wrap a.dest.now e)) c.push_all.ensures
 
-pub loop-i-init : goal.loop-i-init
+pub loop-rest-init : goal.loop-rest-init
+loop-rest-init c = owes_all c.args.text.now (push (shown c.args.wrap c.args.dest.now))
+
+pub slice_bounds-rest-count : goal.slice_bounds-rest-count
+slice_bounds-rest-count c = space_long c.loop-rest.rest.now (sym c.starts_with.ensures ∙ c.if-starts_with.true)
+
+pub slice_bounds-rest-start : goal.slice_bounds-rest-start
+slice_bounds-rest-start c =
+    let h = space_long c.loop-rest.rest.now (sym c.starts_with.ensures ∙ c.if-starts_with.true) in
+    search (rules, h)
+
+pub loop-rest-smaller : goal.loop-rest-smaller
+loop-rest-smaller c = let r = c.loop-rest.rest.now in omega (arith, length-take (length r - 1) (drop 1 r), c.in-len1-up.len_at_least)
+
+pub loop-rest-preserved-then-starts_with : goal.loop-rest-preserved-then-starts_with
+loop-rest-preserved-then-starts_with c =
+    let l = c.loop-rest in let r = l.rest.now in let w = c.args.wrap in
+    rw (rest_part 2 r) (owes_step l.invariant (push (shown w (drop 2 r))) (shown_space w r (bytes l.text) (sym c.starts_with.ensures ∙ c.if-starts_with.true))
+    c.in_ok-push_all.was c.push_all-then-starts_with.ensures)
+
+pub returns-in_err-push_all : goal.returns-in_err-push_all
 unfolding html_escape
-loop-i-init c = owes_all c.args.text.now (push (each_byte (url_byte c.args.wrap) (html_escape c.args.dest.now)))
+returns-in_err-push_all c =
+    let l = c.loop-rest in let r = l.rest.now in let w = c.args.wrap in
+    owes_stop l.invariant (push (shown w (drop 2 r))) (shown_space w r (bytes l.text) (sym c.starts_with.ensures ∙ c.if-starts_with.true))
+    c.in_err-push_all.was c.push_all-then-starts_with.ensures c.from_residual.ensures.0
+
+pub loop-rest-preserved : goal.loop-rest-preserved
+loop-rest-preserved c =
+    let l = c.loop-rest in let r = l.rest.now in let w = c.args.wrap in
+    rw (rest_part 1 r) (owes_step l.invariant (push (shown w (drop 1 r))) (shown_byte w r (bytes l.text) c.in-len1-up.len_at_least (sym c.starts_with.ensures ∙ c.if-starts_with.false))
+    c.in_ok-push_piece.was c.push_piece.ensures)
 
 pub returns-in_err-push_piece : goal.returns-in_err-push_piece
-unfolding is_nbsp
+unfolding html_escape
 returns-in_err-push_piece c =
-    let a = c.args in let l = c.loop-i in
-    let d = a.dest.now in
-    let nb = eqb (get_or d l.i 0) 194 && c.starts_with_byte.result in
-    let e = ap (λ (t : Bool). eqb (get_or d l.i 0) 194 && t) (c.starts_with_byte.ensures ∙ ap (starts_with (160 ∷ [])) (rest_part (l.i + 1) d)) in
-    owes_stop l.invariant (push (each_byte (url_byte a.wrap) (html_from (not l.second && nb) (drop (l.i + 1) d))))
-    (piece_turn a.wrap l.second nb d (bytes l.text) l.i c.loop-i-test.true e) c.in_err-push_piece.was c.push_piece.ensures c.from_residual.ensures.0
-
-pub loop-i-preserved : goal.loop-i-preserved
-unfolding is_nbsp
-loop-i-preserved c =
-    let a = c.args in let l = c.loop-i in
-    let d = a.dest.now in
-    let nb = eqb (get_or d l.i 0) 194 && c.starts_with_byte.result in
-    let e = ap (λ (t : Bool). eqb (get_or d l.i 0) 194 && t) (c.starts_with_byte.ensures ∙ ap (starts_with (160 ∷ [])) (rest_part (l.i + 1) d)) in
-    owes_step l.invariant (push (each_byte (url_byte a.wrap) (html_from (not l.second && nb) (drop (l.i + 1) d))))
-    (piece_turn a.wrap l.second nb d (bytes l.text) l.i c.loop-i-test.true e) c.in_ok-push_piece.was c.push_piece.ensures
+    let l = c.loop-rest in let r = l.rest.now in let w = c.args.wrap in
+    owes_stop l.invariant (push (shown w (drop 1 r))) (shown_byte w r (bytes l.text) c.in-len1-up.len_at_least (sym c.starts_with.ensures ∙ c.if-starts_with.false))
+    c.in_err-push_piece.was c.push_piece.ensures c.from_residual-in_err-push_piece.ensures.0
 
 pub returns : goal.returns
+unfolding html_escape
 returns c =
-    let a = c.args in let l = c.loop-i in
-    owes_last l.invariant (pieces_end a.wrap l.second a.dest.now (bytes l.text) l.i c.loop-i-test.false) (pushes_nothing l.text)
+    let l = c.loop-rest in
+    owes_last l.invariant (shown_end c.args.wrap l.rest.now (bytes l.text) c.in_default.len_below) (pushes_nothing l.text)
