@@ -16,7 +16,7 @@ ghost use Rattle.elements.specs.Edges.{ended_by};
 ghost use Rattle.nodes.specs.Stands.{Siblings, ElementAt, SomeElement, Placed};
 
 use crate::pre::write_pre;
-use marks::code::push_code_text;
+use marks::by_len::push_code_text;
 use nodes::by_len::write_skip_md;
 use spec::ctx::FormatOpts;
 use text::buffer::{Wrote, contains_byte, ends_with_byte, reread, trim_end_matches, trim_start_matches};

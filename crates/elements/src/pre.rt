@@ -12,7 +12,7 @@ ghost use Rattle.elements.specs.JoinedWords.{word_byte, Joins};
 ghost use Rattle.nodes.specs.Stands.{Siblings, ElementAt, Placed};
 
 use crate::code_language::find_code_language;
-use marks::code::{push_code_text, push_fenced_block};
+use marks::by_len::{push_code_text, push_fenced_block};
 use nodes::by_len::push_text_of;
 use normalized::by_len::push_block_space;
 use spec::ctx::FormatOpts;

@@ -1,25 +1,25 @@
 -- Ends of texts: backslashes, markers of emphasis, line breaks in cells, runs of backticks. Assumes nothing.
 use Prim.Native.Nat.{ℕ, zero, suc, ◌+◌, ◌-◌, ◌%◌, ◌≤◌, ◌<◌, max}
-use mathlib.Core.Path.{◌≡◌, refl, sym, ap, ◌∙◌, subst}
+use mathlib.Core.Path.{◌≡◌, refl, sym, ap, ◌∙◌}
 use mathlib.Core.Bool.{Bool, true, false, cond, not, ◌&&◌, ◌||◌, false≢true, true≢false}
 use mathlib.Core.List.{List, [], ◌∷◌, ◌++◌, append_assoc, append-nil}
 use native.Mathlib.Omega.{arith}
 use native.Mathlib.Numerals.{add-one}
-use lib.ListN.{length, take, drop, get_or, length-drop, length-append, drop_of_length-le}
-use lib.Seq.{length-take-le, take-take, take-add, take-length, drop-cons}
+use lib.ListN.{length, take, drop, get_or, length-append, drop_of_length-le}
+use lib.Seq.{length-take-le, drop-cons}
 use lib.Dec.{eqb}
-use borrow.Author.Tests.{eq-eqb, ne_eqb, eqb-true, eqb-false}
+use borrow.Author.Tests.{eq-eqb, ne_eqb, eqb-false}
 use Rattle.spec.specs.Bytes.{ascii, isin, same, null, ends_with, one, white, trim_end_matches, trim_ascii_end}
 use Rattle.spec.specs.Out.{keep, push, cut, and_then}
 use Rattle.spec.specs.Md.TextUtils.{trim_blanks}
 use Rattle.spec.specs.Md.Elements.Emphasis.{backslashes, is_exact_marker_end, ends_with_emphasis, drop_end, try_trim_prev_emphasis_marker}
 use Rattle.spec.specs.Md.Elements.Table.{ends_with_cell_break, without_breaks}
 use Rattle.spec.specs.Md.Elements.Code.{longest_run, filter}
-use Rattle.text.proofs.Writing.{push_both, alike}
+use Rattle.text.proofs.Writing.{push_both}
 use Rattle.text.specs.Trimmed.{Trimmed}
 use Rattle.marks.specs.Runs.{longest_with, RunsBehind}
 use Rattle.marks.specs.declared.code.Runs.{Runs}
-use Rattle.text.specs.Writes.{Written, Writes, Wrote}
+use Rattle.text.specs.Writes.{Written}
 use Rattle.text.proofs.Spaces.{cut_done}
 use Rattle.text.proofs.Reading.{ends_long, trimmed_length}
 use Rattle.input.proofs.Rules.{null_length}
@@ -27,6 +27,34 @@ use Rattle.input.proofs.Rules.{null_length}
 pub backslashes_is : (s : List ℕ) (n : ℕ) → Trimmed s n (trim_end_matches (one (λ b. eqb b 92)) s) → length s - n ≡ backslashes s
 unfolding backslashes
 backslashes_is s n t = ap (λ (k : ℕ). length s - k) (sym (trimmed_length t))
+
+-- ---- a byte alone
+
+pub one_is : (s : List ℕ) (b : ℕ) → 1 ≤ length s → length s < 2 → get_or s 0 0 ≡ b → same s (b ∷ []) ≡ true
+unfolding same
+one_is [] b h k e = absurd (omega arith)
+one_is (c ∷ []) b h k e = rw (eq-eqb c b e)
+one_is (c ∷ d ∷ s) b h k e = absurd (omega arith)
+
+pub one_other : (s : List ℕ) (b : ℕ) → (get_or s 0 0 ≡ b → ⊥) → same s (b ∷ []) ≡ false
+unfolding same
+one_other [] b h = refl
+one_other (c ∷ s) b h = rw (ne_eqb c b h)
+
+pub one_none : (s : List ℕ) (b : ℕ) → length s < 1 → same s (b ∷ []) ≡ false
+unfolding same
+one_none [] b h = refl
+one_none (c ∷ s) b h = absurd (omega arith)
+
+pub one_more : (s : List ℕ) (b : ℕ) → 2 ≤ length s → same s (b ∷ []) ≡ false
+unfolding same
+one_more [] b h = refl
+one_more (c ∷ []) b h = absurd (omega arith)
+one_more (c ∷ d ∷ s) b h = go (eqb c b)
+  where
+    go : (t : Bool) → t && false ≡ false
+    go true = refl
+    go false = refl
 
 -- ---- emphasis
 
@@ -43,24 +71,18 @@ pub emphasis_none : (marker acc : List ℕ) → eqb (length marker) 0 || eqb (le
 unfolding ends_with_emphasis
 emphasis_none marker acc e = rw (null_length marker, null_length acc, e)
 
-module _ (marker acc : List ℕ) (n : ℕ) (b : Bool) (e : eqb (length marker) 0 || eqb (length acc) 0 ≡ false) (t : Trimmed acc n (trim_end_matches (one white) acc)) (q : b ≡ same (drop n acc) (32 ∷ [])) where
-  none_behind : null (drop n acc) ≡ eqb n (length acc)
-  none_behind = null_length (drop n acc) ∙ go (eqb n (length acc)) refl
-    where
-      go : (z : Bool) → eqb n (length acc) ≡ z → eqb (length (drop n acc)) 0 ≡ z
-      go true z = eq-eqb (length (drop n acc)) 0 (omega (arith, length-drop n acc, eqb-true n (length acc) z))
-      go false z = ne_eqb (length (drop n acc)) 0 (λ w. eqb-false n (length acc) z (omega (arith, length-drop n acc, t.within)))
-
-  tested : ends_with_emphasis marker acc ≡ (eqb n (length acc) || b) && is_exact_marker_end (take n acc) marker
+module _ (marker acc : List ℕ) (n : ℕ) (a b : Bool) (e : eqb (length marker) 0 || eqb (length acc) 0 ≡ false) (t : Trimmed acc n (trim_end_matches (one white) acc)) (p : a ≡ null (drop n acc))
+    (q : b ≡ same (drop n acc) (32 ∷ [])) where
+  tested : ends_with_emphasis marker acc ≡ (a || b) && is_exact_marker_end (take n acc) marker
   unfolding ends_with_emphasis trim_ascii_end
   tested =
       let l : length (trim_end_matches (one white) acc) ≡ n = trimmed_length t in
-      rw (l, null_length marker, null_length acc, e, none_behind, sym q, sym t.is)
+      rw (l, null_length marker, null_length acc, e, sym p, sym q, sym t.is)
 
-  pub emphasis_not : eqb n (length acc) || b ≡ false → ends_with_emphasis marker acc ≡ false
+  pub emphasis_not : a || b ≡ false → ends_with_emphasis marker acc ≡ false
   emphasis_not f = tested ∙ rw f
 
-  pub emphasis_is : (r : Bool) → eqb n (length acc) || b ≡ true → r ≡ is_exact_marker_end (take n acc) marker → r ≡ ends_with_emphasis marker acc
+  pub emphasis_is : (r : Bool) → a || b ≡ true → r ≡ is_exact_marker_end (take n acc) marker → r ≡ ends_with_emphasis marker acc
   emphasis_is r f g = g ∙ sym (tested ∙ rw f)
 
 -- ---- line breaks in cells
@@ -81,21 +103,16 @@ cell_long s e = go (ends_with (ascii "<br>") s) refl e
     go true q f = ends_long s (ascii "<br>") q
     go false q f = absurd (false≢true f)
 
-pub breaks_end : (s : List ℕ) (n left : ℕ) → ends_with_cell_break (take n s) ≡ false → without_breaks left (take n s) ≡ take n s
+pub breaks_end : (s : List ℕ) (left : ℕ) → ends_with_cell_break s ≡ false → without_breaks left s ≡ s
 unfolding without_breaks
-breaks_end s n zero e = refl
-breaks_end s n (suc k) e = rw e
+breaks_end s zero e = refl
+breaks_end s (suc k) e = rw e
 
-pub breaks_on : (s : List ℕ) (n m left : ℕ) → 0 < left → n ≤ length s → ends_with_cell_break (take n s) ≡ true → Trimmed (take (n - 4) s) m (trim_blanks (take (n - 4) s))
-    → without_breaks left (take n s) ≡ without_breaks (left - 1) (take m s)
+pub breaks_on : (s : List ℕ) (m left : ℕ) → 0 < left → ends_with_cell_break s ≡ true → Trimmed (take (length s - 4) s) m (trim_blanks (take (length s - 4) s))
+    → without_breaks left s ≡ without_breaks (left - 1) (take m (take (length s - 4) s))
 unfolding without_breaks drop_end
-breaks_on s n m zero h k e t = absurd (omega arith)
-breaks_on s n m (suc left) h k e t =
-    let l : length (take n s) ≡ n = length-take-le n s k in
-    let q : suc left - 1 ≡ left = omega arith in
-    let f : take (n - 4) (take n s) ≡ take (n - 4) s = take-take (n - 4) n s (omega arith) in
-    let g : take m (take (n - 4) s) ≡ take m s = take-take m (n - 4) s (omega (arith, t.within, length-take-le (n - 4) s (omega arith))) in
-    rw (e, l, f, sym t.is, g, q)
+breaks_on s m zero h e t = absurd (omega arith)
+breaks_on s m (suc left) h e t = let q : suc left - 1 ≡ left = omega arith in rw (e, sym t.is, q)
 
 -- ---- runs of backticks
 
@@ -105,11 +122,6 @@ runs_join {a} {b} {c} {s} {t} p q =
       goes = λ rest. ap (longest_with a) (append_assoc s t rest) ∙ p.goes (t ++ rest) ∙ q.goes rest;
       small = omega (arith, p.small, q.small, length-append s t);
     }
-
--- the bytes up to `to` more
-pub runs_to : {a b c : Runs} (s : List ℕ) (i to : ℕ) → i ≤ to → RunsBehind a (take i s) b → RunsBehind b (take (to - i) (drop i s)) c → RunsBehind a (take to s) c
-runs_to {a} {b} {c} s i to h p q =
-    let e : to ≡ i + (to - i) = omega arith in subst (λ (l : List ℕ). RunsBehind a l c) (sym (ap (λ (j : ℕ). take j s) e ∙ take-add i (to - i) s)) (runs_join p q)
 
 -- a backtick
 pub runs_tick : (r : Runs) (b : ℕ) → b ≡ 96 → RunsBehind r (b ∷ []) (record { best = r.best; run = r.run + 1 })
@@ -151,48 +163,46 @@ pub runs_away : (best run ended : ℕ) (s : List ℕ) → ended ≡ max best run
 runs_away best run ended [] q h e = absurd (omega arith)
 runs_away best run ended (b ∷ s) q h e = runs_other best run ended b s q (no_tick b s e).0 (no_tick b s e).1
 
--- all bytes are read
-pub runs_all : {r : Runs} (s : List ℕ) → RunsBehind (record { best = 0; run = 0 }) (take (length s) s) r → longest_run 0 s ≡ max r.best r.run
+-- the rest is read
+pub runs_all : {a r : Runs} (s rest : List ℕ) → longest_with (record { best = 0; run = 0 }) (s ++ []) ≡ longest_with a (rest ++ []) → RunsBehind a rest r → longest_run 0 s ≡ max r.best r.run
 unfolding longest_run
-runs_all {r} s p =
-    let q : max 0 (longest_run 0 s) ≡ max r.best r.run = ap (λ (l : List ℕ). max 0 (longest_run 0 l)) (sym (append-nil (take (length s) s) ∙ take-length s)) ∙ p.goes [] in
+runs_all {a} {r} s rest e p =
+    let q : max 0 (longest_run 0 s) ≡ max r.best r.run =
+    ap (λ (l : List ℕ). max 0 (longest_run 0 l)) (sym (append-nil s)) ∙ e ∙ p.goes [] in
     omega (arith, q)
 
 -- ---- the marker taken away
 
-module _ (marker d : List ℕ) (len : ℕ) (h : len ≤ length d) where
-  abbrev acc : List ℕ
-  acc = take len d
+pub prev_none : (marker t : List ℕ) → ends_with_emphasis marker t ≡ false → try_trim_prev_emphasis_marker marker t ≡ keep t
+unfolding try_trim_prev_emphasis_marker
+prev_none marker t e = rw e
 
-  pub prev_none : ends_with_emphasis marker acc ≡ false → try_trim_prev_emphasis_marker marker acc ≡ keep acc
-  unfolding try_trim_prev_emphasis_marker
-  prev_none e = rw e
+pub prev_space : (marker t : List ℕ) → ends_with_emphasis marker t ≡ true → ends_with (32 ∷ []) t ≡ true
+    → try_trim_prev_emphasis_marker marker t ≡ and_then (cut (drop_end (length marker + 1)) t) (push (32 ∷ []))
+unfolding try_trim_prev_emphasis_marker cut
+prev_space marker t e f = rw (e, f)
 
-  pub prev_space : ends_with_emphasis marker acc ≡ true → ends_with (32 ∷ []) acc ≡ true
-      → try_trim_prev_emphasis_marker marker acc ≡ and_then (cut (λ t. drop_end (length marker + 1) acc) acc) (push (32 ∷ []))
-  unfolding try_trim_prev_emphasis_marker
-  prev_space e f = rw (e, f)
+pub prev_plain : (marker t : List ℕ) → ends_with_emphasis marker t ≡ true → ends_with (32 ∷ []) t ≡ false
+    → try_trim_prev_emphasis_marker marker t ≡ and_then (cut (drop_end (length marker + 0)) t) (push [])
+unfolding try_trim_prev_emphasis_marker cut
+prev_plain marker t e f = rw (e, f)
 
-  pub prev_plain : ends_with_emphasis marker acc ≡ true → ends_with (32 ∷ []) acc ≡ false
-      → try_trim_prev_emphasis_marker marker acc ≡ and_then (cut (λ t. drop_end (length marker + 0) acc) acc) (push [])
-  unfolding try_trim_prev_emphasis_marker
-  prev_plain e f = rw (e, f)
-
-  -- without k bytes at its end
-  pub short_done : (k n : ℕ) → n ≡ len - k → Written (length d) d n (cut (λ t. drop_end k acc) acc)
-  unfolding drop_end
-  short_done k n e =
-      let l : length acc ≡ len = length-take-le len d h in
-      cut_done (λ t. take (length acc - k) acc) d len n h (record { within = omega arith; is = ap (λ (j : ℕ). take j acc) (e ∙ ap (λ (j : ℕ). j - k) (sym l)) })
+-- without k bytes at its end
+pub short_done : (d : List ℕ) (len : ℕ) → len ≤ length d → (k n : ℕ) → n ≡ len - k → Written (length d) d n (cut (drop_end k) (take len d))
+unfolding drop_end
+short_done d len h k n e =
+    let l : length (take len d) ≡ len = length-take-le len d h in
+    cut_done (drop_end k) d len n h (record { within = omega arith; is = ap (λ (j : ℕ). take j (take len d)) (e ∙ ap (λ (j : ℕ). j - k) (sym l)) })
 
 -- ---- bytes that stay
 
-pub filter_turn : (p : ℕ → Bool) (s t : List ℕ) (i : ℕ) → i < length s → push (filter p (drop i s)) t ≡ and_then (push (cond (p (get_or s i 0)) (get_or s i 0 ∷ []) []) t) (push (filter p (drop (i + 1) s)))
+pub filter_turn : (p : ℕ → Bool) (s t : List ℕ) (i : ℕ) (b : Bool) → i < length s → b ≡ p (get_or s i 0)
+    → push (filter p (drop i s)) t ≡ and_then (push (cond b (get_or s i 0 ∷ []) []) t) (push (filter p (drop (i + 1) s)))
 unfolding filter
-filter_turn p s t i h =
+filter_turn p s t i b h e =
     ap (λ (x : List ℕ). push (filter p x) t) (drop-cons s i 0 h ∙ ap (λ (j : ℕ). get_or s i 0 ∷ drop j s) (sym (add-one i)))
-    ∙ ap (λ (x : List ℕ). push x t) (go (p (get_or s i 0)))
-    ∙ push_both (cond (p (get_or s i 0)) (get_or s i 0 ∷ []) []) (filter p (drop (i + 1) s)) t
+    ∙ ap (λ (x : List ℕ). push x t) (ap (λ (z : Bool). cond z (get_or s i 0 ∷ filter p (drop (i + 1) s)) (filter p (drop (i + 1) s))) (sym e) ∙ go b)
+    ∙ push_both (cond b (get_or s i 0 ∷ []) []) (filter p (drop (i + 1) s)) t
   where
     go : (b : Bool) → cond b (get_or s i 0 ∷ filter p (drop (i + 1) s)) (filter p (drop (i + 1) s)) ≡ cond b (get_or s i 0 ∷ []) [] ++ filter p (drop (i + 1) s)
     go true = refl
@@ -201,7 +211,3 @@ filter_turn p s t i h =
 pub filter_none : (p : ℕ → Bool) (s t : List ℕ) (i : ℕ) → length s ≤ i → push (filter p (drop i s)) t ≡ push [] t
 unfolding filter
 filter_none p s t i h = ap (λ (x : List ℕ). push (filter p x) t) (drop_of_length-le s h)
-
--- a byte is appended where a test says so
-pub kept_writes : {room : ℕ} {after : List ℕ} {r : Wrote} (t : List ℕ) (p q : Bool) (b : ℕ) → q ≡ p → Writes room after r (push (cond q (b ∷ []) []) t) → Writes room after r (push (cond p (b ∷ []) []) t)
-kept_writes {room} {after} {r} t p q b e w = alike (ap (λ (x : Bool). push (cond x (b ∷ []) []) t) (sym e)) w

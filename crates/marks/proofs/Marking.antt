@@ -1,24 +1,21 @@
 -- An emphasis text with its closing marker, and what stands before it. Assumes nothing.
-use Prim.Native.Nat.{ℕ, zero, suc, ◌+◌, ◌-◌, ◌≤◌, ◌<◌, max}
+use Prim.Native.Nat.{ℕ, ◌+◌, ◌-◌, ◌≤◌, ◌<◌, max}
 use mathlib.Core.Path.{◌≡◌, refl, sym, ap, subst, subst₂, ◌∙◌}
 use mathlib.Core.Bool.{Bool, true, false, cond, not, ◌&&◌, false≢true}
 use mathlib.Core.List.{List, [], ◌∷◌, ◌++◌, append-nil}
 use native.Mathlib.Omega.{arith}
+use mir.Val.{bool_byte}
 use borrow.Author.Tests.{eqb-true}
-use borrow.Rule.Slice.PartMut.{same_len_mid}
-use lib.ListN.{length, take, drop, length-append, length-take, length-drop, drop_of_length-le}
-use lib.Seq.{length-take-le, take-take, take_all, take_at, drop_at, drop-drop}
+use lib.ListN.{length, take, drop, length-append, length-take, length-drop}
+use lib.Seq.{length-take-le, take-take, take_all, drop-drop}
 use Rattle.spec.specs.Bytes.{Bytes, ascii, null, among, same, starts_with, ends_with, is_white_space, white_space_of, unless, trim_end, trim_end_matches}
 use Rattle.spec.specs.Out.{Out, Step, and_then, cut, keep, push, replace, beside}
 use Rattle.spec.specs.Md.TextUtils.{escape_trailing_bang}
 use Rattle.spec.specs.Md.Elements.Emphasis.{ends_with_emphasis, try_trim_prev_emphasis_marker, drop_end, closed, push_marked, push_emphasis}
-use Rattle.text.specs.Lifted.{Lifted}
 use Rattle.marks.specs.Marked.{lead_blank, bang_if, marked_front, marked_with}
 use Rattle.text.specs.Trimmed.{Trimmed}
-use Rattle.text.specs.Writes.{Written, Refused, Writes}
-use Rattle.text.specs.Writes.{Wrote}
+use Rattle.text.specs.Writes.{Refused}
 use Rattle.text.proofs.Reading.{rest_part, drop_take, starts_byte, ends_byte, null_none, null_some, starts_short, trimmed_length, ends_long}
-use Rattle.text.proofs.Temporary.{lent, back}
 use Rattle.text.proofs.Writing.{then_assoc}
 
 -- ---- the definition in two parts
@@ -78,58 +75,6 @@ pub closed_full : (d : List ℕ) (len : ℕ) (marker done : Bytes) (lead : Bool)
 unfolding beside and_then push
 closed_full d len marker done lead h k l =
     record { over = omega (arith, front_long marker lead (starts_with (ascii "[") done) (take len d), length-take-le len d h) }
-
--- ---- the n bytes at `from` are lifted, and `end` is put behind them
-
-module _ {d z : List ℕ} {len from n base : ℕ} (end : Bytes) (i : n + length end ≤ length d) (b : base ≡ length d - (n + length end)) (h : len ≤ base) (g : from ≤ base) (l : Lifted d z from n base) where
-  room : lent z base ≡ drop base z
-  room = rest_part base z
-
-  room_long : length (lent z base) ≡ n + length end
-  room_long = ap length room ∙ length-drop base z ∙ omega (arith, l.long)
-
-  lifted_is : take n (lent z base) ≡ take n (drop from d)
-  lifted_is = ap (take n) room ∙ l.moved
-
-  pub end_reach : n ≤ length (lent z base)
-  end_reach = omega (arith, room_long)
-
-  pub end_fits : Refused (length (lent z base)) (push end (take n (lent z base))) → ⊥
-  unfolding push
-  end_fits w = omega (arith, w.over, room_long, length-take-le n (lent z base) end_reach)
-
-  module _ {ys : List ℕ} {m : ℕ} (w : Written (length (lent z base)) ys m (push end (take n (lent z base)))) where
-    pub end_long : length (back z base ys) ≡ length d
-    end_long = same_len_mid base (length z - base) z ys w.long ∙ l.long
-
-    before_long : length (take base z) ≡ base
-    before_long = length-take-le base z (omega (arith, l.long))
-
-    end_text : take len (back z base ys) ≡ take len d
-    end_text =
-        sym (take-take len base (back z base ys) h) ∙ ap (take len) (take_at (take base z) (ys ++ drop (length z - base) (drop base z)) base before_long ∙ l.kept)
-        ∙ take-take len base d h
-
-    end_is : drop base (back z base ys) ≡ take n (drop from d) ++ end
-    unfolding push
-    end_is =
-        drop_at (take base z) (ys ++ drop (length z - base) (drop base z)) base before_long
-        ∙ ap (λ (r : List ℕ). ys ++ r) (drop_of_length-le (drop base z) {i = length z - base} (omega (arith, length-drop base z))) ∙ append-nil ys
-        ∙ sym (take_all m ys (omega (arith, w.count, w.long, room_long, length-append (take n (lent z base)) end, length-take-le n (lent z base) end_reach))) ∙ w.text_is
-        ∙ ap (λ (t : List ℕ). t ++ end) lifted_is
-
-    pub end_writes : (f : List ℕ → Step) {final : List ℕ} {r : Wrote} → Writes (length (back z base ys)) final r (f (drop base (back z base ys)) (take len (back z base ys)))
-        → Writes (length d) final r (f (take n (drop from d) ++ end) (take len d))
-    end_writes f {final} {r} v =
-        subst (λ (j : ℕ). Writes j final r (f (take n (drop from d) ++ end) (take len d))) end_long
-        (subst₂ (λ (c t : List ℕ). Writes (length (back z base ys)) final r (f c t)) end_is end_text v)
-
-pub end_size : (marker : Bytes) (n : ℕ) (trail : Bool) {k : ℕ} → k ≡ cond trail 1 0 → n + length marker + k ≡ n + length (marker ++ cond trail (ascii " ") [])
-end_size marker n trail e = ap (λ (j : ℕ). n + length marker + j) e ∙ go trail
-  where
-    go : (t : Bool) → n + length marker + cond t 1 0 ≡ n + length (marker ++ cond t (ascii " ") [])
-    go true = omega (arith, length-append marker (ascii " "))
-    go false = omega (arith, length-append marker [])
 
 -- ---- blanks at the ends of the emphasis text
 
@@ -199,85 +144,65 @@ closed_is marker content begun trail e q =
         let z : length begun ≤ length begun - 0 = omega arith in
         sym (ap (λ (x : Bytes). x ++ (marker ++ [])) (take_all (length begun - 0) begun z) ∙ ap (λ (x : Bytes). begun ++ x) (append-nil marker))
 
-trail_fits : (begun : Bytes) (trail : Bool) → trail ≡ ends_with (ascii " ") begun → cond trail 1 0 ≤ length begun
-trail_fits begun true e = ends_long begun (ascii " ") (sym e)
-trail_fits begun false e = omega arith
+-- the number that a test is
+pub bit : (b : Bool) → bool_byte b ≡ cond b 1 0
+bit true = refl
+bit false = refl
 
--- ---- the emphasis text is the n bytes behind the text
-
-module _ (d : List ℕ) (len n : ℕ) (lead : Bool) {l : ℕ} (f : l ≡ cond lead 1 0) (e : lead ≡ starts_with (ascii " ") (take (len + n - len) (drop len d))) where
-  content_is : take (len + n - len) (drop len d) ≡ take n (drop len d)
-  content_is = let z : len + n - len ≡ n = omega arith in ap (λ (k : ℕ). take k (drop len d)) z
-
-  lead_is : lead ≡ starts_with (ascii " ") (take n (drop len d))
-  lead_is = e ∙ ap (starts_with (ascii " ")) content_is
-
-  pub lead_small : l ≤ 1
-  lead_small = omega (arith, one_small lead)
-
-  pub lead_fits : l ≤ n
-  lead_fits = omega (arith, go lead n lead_is)
+module _ (content : Bytes) (lead : Bool) (e : lead ≡ starts_with (ascii " ") content) where
+  pub lead_fits : bool_byte lead ≤ length content
+  lead_fits = go lead content e
     where
-      go : (t : Bool) (k : ℕ) → t ≡ starts_with (ascii " ") (take k (drop len d)) → cond t 1 0 ≤ k
-      go true zero q = absurd (false≢true (sym (q ∙ starts_short [] (ascii " ") (omega arith))))
-      go true (suc k) q = omega arith
-      go false k q = omega arith
+      go : (t : Bool) (s : Bytes) → t ≡ starts_with (ascii " ") s → bool_byte t ≤ length s
+      go true [] q = absurd (false≢true (sym (q ∙ starts_short [] (ascii " ") (omega arith))))
+      go true (b ∷ s) q = omega arith
+      go false s q = omega arith
 
   abbrev begun : Bytes
-  begun = take (len + n - (len + l)) (drop (len + l) d)
+  begun = take (length content - bool_byte lead) (drop (bool_byte lead) content)
 
-  begun_is : begun ≡ begun_of (starts_with (ascii " ") (take n (drop len d))) (take n (drop len d))
-  begun_is =
-      subst (λ (k : ℕ). take (len + n - (len + k)) (drop (len + k) d) ≡ begun_of (starts_with (ascii " ") (take n (drop len d))) (take n (drop len d))) (sym f)
-      (go lead ∙ ap (λ (t : Bool). begun_of t (take n (drop len d))) lead_is)
+  begun_is : begun ≡ begun_of (starts_with (ascii " ") content) content
+  begun_is = rest_part (bool_byte lead) content ∙ go lead ∙ ap (λ (t : Bool). begun_of t content) e
     where
-      go : (t : Bool) → take (len + n - (len + cond t 1 0)) (drop (len + cond t 1 0) d) ≡ begun_of t (take n (drop len d))
-      go true =
-          let z : len + n - (len + 1) ≡ n - 1 = omega arith in
-          ap (λ (k : ℕ). take k (drop (len + 1) d)) z ∙ ap (take (n - 1)) (sym (drop-drop 1 len d)) ∙ sym (drop_take 1 n (drop len d))
-      go false =
-          let z : len + n - (len + 0) ≡ n = omega arith in
-          let y : len + 0 ≡ len = omega arith in
-          ap (λ (k : ℕ). take k (drop (len + 0) d)) z ∙ ap (λ (k : ℕ). take n (drop k d)) y
+      go : (t : Bool) → drop (bool_byte t) content ≡ begun_of t content
+      go true = refl
+      go false = refl
 
-  module _ (h : len + n ≤ length d) (trail : Bool) {t : ℕ} (g : t ≡ cond trail 1 0) (q : trail ≡ ends_with (ascii " ") begun) where
-    begun_long : length begun ≡ len + n - (len + l)
-    begun_long = length-take-le (len + n - (len + l)) (drop (len + l) d) (omega (arith, length-drop (len + l) d))
+  pub begun_long : length begun ≡ length content - bool_byte lead
+  begun_long = ap length (rest_part (bool_byte lead) content) ∙ length-drop (bool_byte lead) content
 
-    pub trail_within : t ≤ len + n - (len + l)
-    trail_within = omega (arith, trail_fits begun trail q, begun_long)
+  -- its first k bytes, where it stands in the room
+  pub body_at : (d : List ℕ) (len n k : ℕ) → content ≡ take n (drop len d) → n ≡ length content → k ≤ length begun → take k begun ≡ take k (drop (len + bool_byte lead) d)
+  body_at d len n k q h g =
+      let l : ℕ = bool_byte lead in
+      ap (take k) (rest_part l content ∙ ap (drop l) q ∙ drop_take l n (drop len d) ∙ ap (take (n - l)) (drop-drop l len d)) ∙ take-take k (n - l) (drop (len + l) d) (omega (arith, begun_long))
 
-    pub body_some : null (trim_end (take n (drop len d))) ≡ false → 0 < len + n - (len + l) - t
-    body_some z = omega (arith, some_left (take n (drop len d)) begun trail begun_is q z, begun_long)
+  module _ (trail : Bool) (q : trail ≡ ends_with (ascii " ") begun) where
+    pub trail_fits : bool_byte trail ≤ length begun
+    trail_fits = go trail q
+      where
+        go : (t : Bool) → t ≡ ends_with (ascii " ") begun → bool_byte t ≤ length begun
+        go true p = ends_long begun (ascii " ") (sym p)
+        go false p = omega arith
 
-    pub marked_parts : (marker acc : Bytes)
-        → push_marked marker (take n (drop len d)) acc ≡ marked_with marker lead (take (len + n - (len + l) - t) (drop (len + l) d) ++ (marker ++ cond trail (ascii " ") [])) acc
+    pub body_some : null (trim_end content) ≡ false → 0 < length begun - bool_byte trail
+    body_some z = omega (arith, some_left content begun trail begun_is q z, bit trail)
+
+    pub marked_parts : (marker acc : Bytes) → push_marked marker content acc ≡ marked_with marker lead (take (length begun - bool_byte trail) begun ++ (marker ++ cond trail (ascii " ") [])) acc
     marked_parts marker acc =
-        let b : length begun - cond trail 1 0 ≡ len + n - (len + l) - t = omega (arith, begun_long) in
-        let body : take (length begun - cond trail 1 0) begun ≡ take (len + n - (len + l) - t) (drop (len + l) d) =
-        ap (λ (k : ℕ). take k begun) b ∙ take-take (len + n - (len + l) - t) (len + n - (len + l)) (drop (len + l) d) (omega arith) in
-        marked_is marker (take n (drop len d)) acc lead (take (len + n - (len + l) - t) (drop (len + l) d) ++ (marker ++ cond trail (ascii " ") [])) lead_is
-        (sym (closed_is marker (take n (drop len d)) begun trail begun_is q ∙ ap (λ (x : Bytes). x ++ (marker ++ cond trail (ascii " ") [])) body))
+        marked_is marker content acc lead (take (length begun - bool_byte trail) begun ++ (marker ++ cond trail (ascii " ") [])) e
+        (sym (closed_is marker content begun trail begun_is q ∙ ap (λ (k : ℕ). take (length begun - k) begun ++ (marker ++ cond trail (ascii " ") [])) (sym (bit trail))))
 
 -- ---- which of the two
 
-module _ (marker : Bytes) (d : List ℕ) (len n k : ℕ) (h : len + n ≤ length d) (t : Trimmed (take (len + n - len) (drop len d)) k (trim_end (take (len + n - len) (drop len d)))) where
-  abbrev content : Bytes
-  content = take n (drop len d)
-
-  kept_long : length (trim_end content) ≡ k
-  kept_long =
-      let z : len + n - len ≡ n = omega arith in
-      trimmed_length (subst (λ (j : ℕ). Trimmed (take j (drop len d)) k (trim_end (take j (drop len d)))) z t)
-
-  pub all_blank : k ≡ 0 → push_emphasis marker content (take len d) ≡ beside n (push content (take len d))
+module _ (marker content acc : Bytes) (k : ℕ) (t : Trimmed content k (trim_end content)) where
+  pub all_blank : k ≡ 0 → push_emphasis marker content acc ≡ beside (length content) (push content acc)
   unfolding push_emphasis
-  all_blank e =
-      rw (null_none (trim_end content) (kept_long ∙ e)) (ap (λ (j : ℕ). beside j (push content (take len d))) (length-take-le n (drop len d) (omega (arith, length-drop len d))))
+  all_blank e = rw (null_none (trim_end content) (trimmed_length t ∙ e))
 
   pub some_black : (k ≡ 0 → ⊥) → null (trim_end content) ≡ false
-  some_black e = null_some (trim_end content) (λ q. e (sym kept_long ∙ q))
+  some_black e = null_some (trim_end content) (λ q. e (sym (trimmed_length t) ∙ q))
 
-  pub all_marked : (k ≡ 0 → ⊥) → push_emphasis marker content (take len d) ≡ push_marked marker content (take len d)
+  pub all_marked : (k ≡ 0 → ⊥) → push_emphasis marker content acc ≡ push_marked marker content acc
   unfolding push_emphasis
   all_marked e = rw (some_black e)

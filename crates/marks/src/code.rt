@@ -4,12 +4,16 @@ ghost use Rattle.spec.specs.Bytes.{ascii, ends_with};
 ghost use Rattle.spec.specs.Out.{push};
 ghost use Rattle.marks.specs.Kept.{kept_byte};
 ghost use Rattle.marks.specs.Runs.{RunsBehind};
+ghost use Rattle.text.specs.Texts.{WritesTo};
 ghost use Rattle.text.specs.Writes.{Writes};
 ghost use Rattle.spec.specs.Md.Elements.Code as def;
 
-use text::buffer::{Wrote, all_in, contains_byte, ends_with, ends_with_byte, lift, starts_with_byte, trim_start_matches};
-use text::by_len::{push_byte, push_byte_if, push_lifted, push_repeated};
+use text::buffer::{
+    Full, Wrote, all_in, contains_byte, ends_with, ends_with_byte, lift, starts_with_byte,
+    trim_start_matches,
+};
 use text::class::{Black, Blank, White};
+use text::text::Text;
 
 // The longest run of backticks that has ended, and the run before what follows.
 #[derive(Clone, Copy)]
@@ -62,18 +66,17 @@ fn runs_behind_part(before: Runs, s: &[u8]) -> Runs
     }
 }
 
-// The longest run of backticks.
+// The longest run of backticks. Blocks of 16 bytes are tested at once.
 pub fn max_backtick_run(s: &[u8]) -> usize
     ensures { result ≡ def.max_backtick_run s.now }
 {
     let mut runs = Runs { best: 0, run: 0 };
-    let mut i = 0;
-    while 16 <= s.len() - i {
-        let end = i + 16;
-        runs = runs_behind_part(runs, &s[i..end]);
-        i = end;
+    let mut rest = s;
+    while let Some((block, behind)) = rest.split_first_chunk::<16>() {
+        runs = runs_behind_part(runs, block);
+        rest = behind;
     }
-    runs = runs_behind(runs, &s[i..]);
+    runs = runs_behind(runs, rest);
     runs.best.max(runs.run)
 }
 
@@ -94,79 +97,74 @@ fn is_kept(b: u8) -> bool
     matches!(b, b'0'..=b'9' | b'A'..=b'Z' | b'a'..=b'z' | b'-' | b'_' | b'+' | b'.' | b'#')
 }
 
-// Appends b if it is kept.
-#[tactic(auto, using(crate::proofs::Leaves::kept_writes))]
-fn push_kept(text: &mut [u8], len: usize, b: u8) -> Wrote
-    requires { len ≤ length text.old }
-    ensures { Writes (length text.old) text.new result (push (cond (kept_byte b) (b ∷ []) []) (take len text.old)) }
+fn push_filtered(text: &mut Text, s: &[u8]) -> Result<(), Full>
+    ensures { WritesTo text.old text.new result (push (def.filter kept_byte s.now)) }
 {
-    push_byte_if(text, len, b, is_kept(b))
-}
-
-fn push_filtered(text: &mut [u8], len: usize, s: &[u8]) -> Wrote
-    requires { len ≤ length text.old }
-    ensures { Writes (length text.old) text.new result (push (def.filter kept_byte s.now) (take len text.old)) }
-{
-    let mut n = len;
     for b in s {
-        n = push_kept(text, n, *b)?;
+        text.push_byte_if(*b, is_kept(*b))?;
     }
-    Ok(n)
+    Ok(())
 }
 
 // Appends what sanitize_attr_value makes of a value.
-pub fn push_sanitized(text: &mut [u8], len: usize, raw: &[u8]) -> Wrote
-    requires { len ≤ length text.old }
-    ensures { Writes (length text.old) text.new result (push (def.sanitize_attr_value raw.now) (take len text.old)) }
+pub fn push_sanitized(text: &mut Text, raw: &[u8]) -> Result<(), Full>
+    ensures { WritesTo text.old text.new result (push (def.sanitize_attr_value raw.now)) }
 {
-    let from = trim_start_matches::<White>(raw);
-    let n = trim_start_matches::<Black>(&raw[from..]);
-    let to = from + n;
-    push_filtered(text, len, &raw[from..to])
+    let word = &raw[trim_start_matches::<White>(raw)..];
+    push_filtered(text, &word[..trim_start_matches::<Black>(word)])
 }
 
 // Appends the fence that opens a code span, apart from one just closed, and the blank behind it.
-fn push_opening(text: &mut [u8], len: usize, fence: usize, space: bool) -> Wrote
-    requires { len ≤ length text.old }
-    ensures { Writes (length text.old) text.new result (push (cond (ends_with (ascii "`") (take len text.old)) (ascii " ") [] ++ (def.backticks fence ++ cond space (ascii " ") [])) (take len text.old)) }
+fn push_opening(text: &mut Text, fence: usize, space: bool) -> Result<(), Full>
+    ensures { WritesTo text.old text.new result (λ t. push (cond (ends_with (ascii "`") t) (ascii " ") [] ++ (def.backticks fence ++ cond space (ascii " ") [])) t) }
 {
-    let apart = ends_with_byte(&text[..len], b'`');
-    let n = push_byte_if(text, len, b' ', apart)?;
-    let m = push_repeated(text, n, b'`', fence)?;
-    push_byte_if(text, m, b' ', space)
+    let apart = ends_with_byte(text.bytes(), b'`');
+    text.push_byte_if(b' ', apart)?;
+    text.push_repeated(b'`', fence)?;
+    text.push_byte_if(b' ', space)
 }
 
-fn push_closing(text: &mut [u8], len: usize, fence: usize, space: bool) -> Wrote
-    requires { len ≤ length text.old }
-    ensures { Writes (length text.old) text.new result (push (cond space (ascii " ") [] ++ def.backticks fence) (take len text.old)) }
+// The same in a slice that is lent, so that the code behind it stays.
+fn push_opening_in(room: &mut [u8], len: usize, fence: usize, space: bool) -> Wrote
+    requires { len ≤ length room.old }
+    ensures { Writes (length room.old) room.new result (push (cond (ends_with (ascii "`") (take len room.old)) (ascii " ") [] ++ (def.backticks fence ++ cond space (ascii " ") [])) (take len room.old)) }
 {
-    let n = push_byte_if(text, len, b' ', space)?;
-    push_repeated(text, n, b'`', fence)
+    let mut text = Text { room, len };
+    push_opening(&mut text, fence, space)?;
+    Ok(text.len)
+}
+
+fn push_closing(text: &mut Text, fence: usize, space: bool) -> Result<(), Full>
+    ensures { WritesTo text.old text.new result (push (cond space (ascii " ") [] ++ def.backticks fence)) }
+{
+    text.push_byte_if(b' ', space)?;
+    text.push_repeated(b'`', fence)
 }
 
 // The code span of what stands from base on, of which in_being bytes count until it is appended.
-fn push_code_span(text: &mut [u8], base: usize, len: usize, in_being: usize) -> Wrote
-    requires { (len ≤ base) × (base + in_being ≤ length text.old) }
-    ensures { Writes (length text.old) text.new result (def.code_span in_being (drop base text.old) (take len text.old)) }
+fn push_code_span(text: &mut Text, base: usize, in_being: usize) -> Result<(), Full>
+    requires { (text.old.len ≤ base) × (base + in_being ≤ length text.old.room.now) }
+    ensures { WritesTo text.old text.new result (def.code_span in_being (drop base text.old.room.now)) }
 {
-    let fence = max_backtick_run(&text[base..]) + 1;
-    let space = needs_space(&text[base..]);
-    let n = push_opening(&mut text[..base], len, fence, space)?;
-    let m = push_lifted(text, base, n, in_being)?;
-    push_closing(text, m, fence, space)
+    let content = text.behind(base);
+    let fence = max_backtick_run(content) + 1;
+    let space = needs_space(content);
+    text.len = push_opening_in(&mut text.room[..base], text.len, fence, space)?;
+    text.push_lifted(base, in_being)?;
+    push_closing(text, fence, space)
 }
 
 // The code is the n bytes at `from`, behind the text; in_being of them count until they are appended.
-pub fn push_code_text(text: &mut [u8], len: usize, from: usize, n: usize, in_being: usize) -> Wrote
-    requires { (len ≤ from) × (from + n ≤ length text.old) × (in_being ≤ n) }
-    ensures { Writes (length text.old) text.new result (def.push_code_text in_being (take n (drop from text.old)) (take len text.old)) }
+pub fn push_code_text(text: &mut Text, from: usize, n: usize, in_being: usize) -> Result<(), Full>
+    requires { (text.old.len ≤ from) × (from + n ≤ length text.old.room.now) × (in_being ≤ n) }
+    ensures { WritesTo text.old text.new result (def.push_code_text in_being (take n (drop from text.old.room.now))) }
 {
     if n == 0 {
-        return Ok(len);
+        return Ok(());
     }
-    let base = text.len() - n;
-    lift(text, from, n, base);
-    push_code_span(text, base, len, in_being)
+    let base = text.room.len() - n;
+    lift(text.room, from, n, base);
+    push_code_span(text, base, in_being)
 }
 
 // Longer than any run of backticks in the content, and three at least.
@@ -178,45 +176,54 @@ fn fence_len(content: &[u8]) -> usize
 }
 
 // Appends what stands before the content of a fenced block, on lines of its own.
-fn push_block_opening(text: &mut [u8], len: usize, fence: usize, lang: &[u8]) -> Wrote
-    requires { len ≤ length text.old }
-    ensures { Writes (length text.old) text.new result (push (cond (ends_with (ascii "\n\n") (take len text.old)) [] (ascii "\n") ++ (def.backticks fence ++ (def.sanitize_attr_value lang.now ++ ascii "\n"))) (take len text.old)) }
+fn push_block_opening(text: &mut Text, fence: usize, lang: &[u8]) -> Result<(), Full>
+    ensures { WritesTo text.old text.new result (λ t. push (cond (ends_with (ascii "\n\n") t) [] (ascii "\n") ++ (def.backticks fence ++ (def.sanitize_attr_value lang.now ++ ascii "\n"))) t) }
 {
-    let begun = ends_with(&text[..len], b"\n\n");
-    let n = push_byte_if(text, len, b'\n', !begun)?;
-    let m = push_repeated(text, n, b'`', fence)?;
-    let k = push_sanitized(text, m, lang)?;
-    push_byte(text, k, b'\n')
+    let begun = ends_with(text.bytes(), b"\n\n");
+    text.push_byte_if(b'\n', !begun)?;
+    text.push_repeated(b'`', fence)?;
+    push_sanitized(text, lang)?;
+    text.push_byte(b'\n')
 }
 
-fn push_block_closing(text: &mut [u8], len: usize, fence: usize, ended: bool) -> Wrote
-    requires { len ≤ length text.old }
-    ensures { Writes (length text.old) text.new result (push (cond ended [] (ascii "\n") ++ (def.backticks fence ++ ascii "\n")) (take len text.old)) }
+// The same in a slice that is lent, so that the content behind it stays.
+fn push_block_opening_in(room: &mut [u8], len: usize, fence: usize, lang: &[u8]) -> Wrote
+    requires { len ≤ length room.old }
+    ensures { Writes (length room.old) room.new result (push (cond (ends_with (ascii "\n\n") (take len room.old)) [] (ascii "\n") ++ (def.backticks fence ++ (def.sanitize_attr_value lang.now ++ ascii "\n"))) (take len room.old)) }
 {
-    let n = push_byte_if(text, len, b'\n', !ended)?;
-    let m = push_repeated(text, n, b'`', fence)?;
-    push_byte(text, m, b'\n')
+    let mut text = Text { room, len };
+    push_block_opening(&mut text, fence, lang)?;
+    Ok(text.len)
+}
+
+fn push_block_closing(text: &mut Text, fence: usize, ended: bool) -> Result<(), Full>
+    ensures { WritesTo text.old text.new result (push (cond ended [] (ascii "\n") ++ (def.backticks fence ++ ascii "\n"))) }
+{
+    text.push_byte_if(b'\n', !ended)?;
+    text.push_repeated(b'`', fence)?;
+    text.push_byte(b'\n')
 }
 
 // The fenced block of what stands from base on.
-fn push_block(text: &mut [u8], base: usize, len: usize, lang: &[u8]) -> Wrote
-    requires { (len ≤ base) × (base ≤ length text.old) }
-    ensures { Writes (length text.old) text.new result (push (cond (ends_with (ascii "\n\n") (take len text.old)) [] (ascii "\n") ++ def.fenced_block (def.sanitize_attr_value lang.now) (drop base text.old)) (take len text.old)) }
+fn push_block(text: &mut Text, base: usize, lang: &[u8]) -> Result<(), Full>
+    requires { (text.old.len ≤ base) × (base ≤ length text.old.room.now) }
+    ensures { WritesTo text.old text.new result (λ t. push (cond (ends_with (ascii "\n\n") t) [] (ascii "\n") ++ def.fenced_block (def.sanitize_attr_value lang.now) (drop base text.old.room.now)) t) }
 {
-    let fence = fence_len(&text[base..]);
-    let ended = (base == text.len()) | ends_with_byte(&text[base..], b'\n');
-    let n = push_block_opening(&mut text[..base], len, fence, lang)?;
-    let m = push_lifted(text, base, n, 0)?;
-    push_block_closing(text, m, fence, ended)
+    let content = text.behind(base);
+    let fence = fence_len(content);
+    let ended = content.is_empty() | ends_with_byte(content, b'\n');
+    text.len = push_block_opening_in(&mut text.room[..base], text.len, fence, lang)?;
+    text.push_lifted(base, 0)?;
+    push_block_closing(text, fence, ended)
 }
 
 // The fenced block of write_pre: the content is the n bytes at `from`, behind the text, and none of them counts apart from
 // the block; `lang` is an attribute's value, or empty.
-pub fn push_fenced_block(text: &mut [u8], len: usize, from: usize, n: usize, lang: &[u8]) -> Wrote
-    requires { (len ≤ from) × (from + n ≤ length text.old) }
-    ensures { Writes (length text.old) text.new result (push (cond (ends_with (ascii "\n\n") (take len text.old)) [] (ascii "\n") ++ def.fenced_block (def.sanitize_attr_value lang.now) (take n (drop from text.old))) (take len text.old)) }
+pub fn push_fenced_block(text: &mut Text, from: usize, n: usize, lang: &[u8]) -> Result<(), Full>
+    requires { (text.old.len ≤ from) × (from + n ≤ length text.old.room.now) }
+    ensures { WritesTo text.old text.new result (λ t. push (cond (ends_with (ascii "\n\n") t) [] (ascii "\n") ++ def.fenced_block (def.sanitize_attr_value lang.now) (take n (drop from text.old.room.now))) t) }
 {
-    let base = text.len() - n;
-    lift(text, from, n, base);
-    push_block(text, base, len, lang)
+    let base = text.room.len() - n;
+    lift(text.room, from, n, base);
+    push_block(text, base, lang)
 }

@@ -1,16 +1,18 @@
 // The leaves of elements/emphasis.rs.
-ghost use Rattle.std.specs.Prelude.{cond, false, [], ◌++◌, ◌≡◌, ◌+◌, ◌-◌, ◌≤◌, ◌<◌, length, take, drop};
-ghost use Rattle.spec.specs.Bytes.{ascii, null, trim_end};
+ghost use Rattle.std.specs.Prelude.{cond, false, [], ◌∷◌, ◌++◌, ◌≡◌, ◌+◌, ◌-◌, ◌≤◌, ◌<◌, length, take, drop};
+ghost use Rattle.spec.specs.Bytes.{ascii, null, same, trim_end};
 ghost use Rattle.spec.specs.Out.{push};
 ghost use Rattle.spec.specs.Md.Elements.Emphasis as def;
 ghost use Rattle.marks.specs.Marked.{lead_blank, bang_if, marked_front, marked_with};
+ghost use Rattle.text.specs.Texts.{WritesTo};
 ghost use Rattle.text.specs.Writes.{Writes};
 
-use input::fields::is_same;
-use normalized::by_len::escape_trailing_bang;
-use text::buffer::{Full, Wrote, ends_with, ends_with_byte, lift, starts_with_byte, trim_end_matches};
-use text::by_len::{push_all, push_byte, push_byte_if, push_lifted};
+use normalized::text_utils::escape_trailing_bang;
+use text::buffer::{
+    Full, Wrote, ends_with, ends_with_byte, lift, starts_with_byte, trim_end_matches,
+};
 use text::class::{Only, White};
+use text::text::Text;
 use text::white_space::trim_end;
 
 // How many backslashes s ends with.
@@ -20,15 +22,23 @@ pub fn backslashes(s: &[u8]) -> usize
     s.len() - trim_end_matches::<Only<b'\\'>>(s)
 }
 
+// Whether s is the byte b alone.
+#[tactic(auto, using(crate::proofs::Leaves::one_is, crate::proofs::Leaves::one_other, crate::proofs::Leaves::one_none, crate::proofs::Leaves::one_more))]
+fn is_byte(s: &[u8], b: u8) -> bool
+    ensures { result ≡ same s.now (b ∷ []) }
+{
+    matches!(s, [only] if *only == b)
+}
+
 pub fn is_exact_marker_end(tail: &[u8], marker: &[u8]) -> bool
     ensures { result ≡ def.is_exact_marker_end tail.now marker.now }
 {
     if !ends_with(tail, marker) {
         return false;
     }
-    let n = tail.len() - marker.len();
-    let longer = is_same(marker, b"*") & ends_with_byte(&tail[..n], b'*');
-    let count = backslashes(&tail[..n]);
+    let before = &tail[..tail.len() - marker.len()];
+    let longer = is_byte(marker, b'*') & ends_with_byte(before, b'*');
+    let count = backslashes(before);
     !longer & (count % 2 == 0)
 }
 
@@ -36,147 +46,154 @@ pub fn is_exact_marker_end(tail: &[u8], marker: &[u8]) -> bool
 pub fn ends_with_emphasis(marker: &[u8], acc: &[u8]) -> bool
     ensures { result ≡ def.ends_with_emphasis marker.now acc.now }
 {
-    if (marker.len() == 0) | (acc.len() == 0) {
+    if marker.is_empty() | acc.is_empty() {
         return false;
     }
     let n = trim_end_matches::<White>(acc);
-    if !((n == acc.len()) | is_same(&acc[n..], b" ")) {
+    let behind = &acc[n..];
+    if !(behind.is_empty() | is_byte(behind, b' ')) {
         return false;
     }
     is_exact_marker_end(&acc[..n], marker)
 }
 
 // Takes the marker of an emphasis just closed away; a blank behind it stays.
-pub fn try_trim_prev_emphasis_marker(text: &mut [u8], len: usize, marker: &[u8]) -> Wrote
-    requires { len ≤ length text.old }
-    ensures { Writes (length text.old) text.new result (def.try_trim_prev_emphasis_marker marker.now (take len text.old)) }
+pub fn try_trim_prev_emphasis_marker(text: &mut Text, marker: &[u8]) -> Result<(), Full>
+    ensures { WritesTo text.old text.new result (def.try_trim_prev_emphasis_marker marker.now) }
 {
-    if !ends_with_emphasis(marker, &text[..len]) {
-        return Ok(len);
+    if !ends_with_emphasis(marker, text.bytes()) {
+        return Ok(());
     }
-    if ends_with_byte(&text[..len], b' ') {
-        let n = len.saturating_sub(marker.len() + 1);
-        push_byte(text, n, b' ')
+    if ends_with_byte(text.bytes(), b' ') {
+        text.len = text.len.saturating_sub(marker.len() + 1);
+        text.push_byte(b' ')
     } else {
-        Ok(len.saturating_sub(marker.len()))
+        text.len = text.len.saturating_sub(marker.len());
+        Ok(())
     }
 }
 
 // Appends the blank that an emphasis text began with, unless the text ends with one.
-fn push_lead(text: &mut [u8], len: usize, lead: bool) -> Wrote
-    requires { len ≤ length text.old }
-    ensures { Writes (length text.old) text.new result (lead_blank lead (take len text.old)) }
+fn push_lead(text: &mut Text, lead: bool) -> Result<(), Full>
+    ensures { WritesTo text.old text.new result (lead_blank lead) }
 {
-    let ended = ends_with_byte(&text[..len], b' ');
-    push_byte_if(text, len, b' ', lead & !ended)
+    let ended = ends_with_byte(text.bytes(), b' ');
+    text.push_byte_if(b' ', lead & !ended)
 }
 
 // Appends the opening marker, unless the emphasis goes on with the one before it.
-fn push_marker(text: &mut [u8], len: usize, marker: &[u8], merged: bool) -> Wrote
-    requires { len ≤ length text.old }
-    ensures { Writes (length text.old) text.new result (push (cond merged [] marker.now) (take len text.old)) }
+fn push_marker(text: &mut Text, marker: &[u8], merged: bool) -> Result<(), Full>
+    ensures { WritesTo text.old text.new result (push (cond merged [] marker.now)) }
 {
-    if merged {
-        return Ok(len);
+    if !merged {
+        text.push_all(marker)?;
     }
-    push_all(text, len, marker)
+    Ok(())
 }
 
-fn escape_bang_if(text: &mut [u8], len: usize, bang: bool) -> Wrote
-    requires { len ≤ length text.old }
-    ensures { Writes (length text.old) text.new result (bang_if bang (take len text.old)) }
+fn escape_bang_if(text: &mut Text, bang: bool) -> Result<(), Full>
+    ensures { WritesTo text.old text.new result (bang_if bang) }
 {
-    if !bang {
-        return Ok(len);
+    if bang {
+        escape_trailing_bang(text)?;
     }
-    escape_trailing_bang(text, len)
+    Ok(())
 }
 
 // What push_emphasis does to the text before the emphasis text is appended.
-fn push_front(text: &mut [u8], len: usize, marker: &[u8], lead: bool, bang: bool) -> Wrote
-    requires { len ≤ length text.old }
-    ensures { Writes (length text.old) text.new result (marked_front marker.now lead bang (take len text.old)) }
+fn push_front(text: &mut Text, marker: &[u8], lead: bool, bang: bool) -> Result<(), Full>
+    ensures { WritesTo text.old text.new result (marked_front marker.now lead bang) }
 {
-    let merged = ends_with_emphasis(marker, &text[..len]);
-    let n = try_trim_prev_emphasis_marker(text, len, marker)?;
-    let m = push_lead(text, n, lead)?;
-    let k = push_marker(text, m, marker, merged)?;
-    escape_bang_if(text, k, bang)
+    let merged = ends_with_emphasis(marker, text.bytes());
+    try_trim_prev_emphasis_marker(text, marker)?;
+    push_lead(text, lead)?;
+    push_marker(text, marker, merged)?;
+    escape_bang_if(text, bang)
+}
+
+// The same in a slice that is lent, so that the emphasis text behind it stays.
+fn push_front_in(room: &mut [u8], len: usize, marker: &[u8], lead: bool, bang: bool) -> Wrote
+    requires { len ≤ length room.old }
+    ensures { Writes (length room.old) room.new result (marked_front marker.now lead bang (take len room.old)) }
+{
+    let mut text = Text { room, len };
+    push_front(&mut text, marker, lead, bang)?;
+    Ok(text.len)
 }
 
 // The emphasis text with its closing marker is what stands from base on.
-fn push_done(text: &mut [u8], base: usize, len: usize, marker: &[u8], lead: bool) -> Wrote
-    requires { (len ≤ base) × (base ≤ length text.old) }
-    ensures { Writes (length text.old) text.new result (marked_with marker.now lead (drop base text.old) (take len text.old)) }
+fn push_done(text: &mut Text, base: usize, marker: &[u8], lead: bool) -> Result<(), Full>
+    requires { (text.old.len ≤ base) × (base ≤ length text.old.room.now) }
+    ensures { WritesTo text.old text.new result (marked_with marker.now lead (drop base text.old.room.now)) }
 {
-    let bang = starts_with_byte(&text[base..], b'[');
-    let n = push_front(&mut text[..base], len, marker, lead, bang)?;
-    let size = text.len() - base;
-    push_lifted(text, base, n, size)
+    let content = text.behind(base);
+    let bang = starts_with_byte(content, b'[');
+    let size = content.len();
+    text.len = push_front_in(&mut text.room[..base], text.len, marker, lead, bang)?;
+    text.push_lifted(base, size)
 }
 
 // Appends the closing marker, and a blank that the emphasis text ended with.
-fn push_end(text: &mut [u8], len: usize, marker: &[u8], trail: bool) -> Wrote
-    requires { len ≤ length text.old }
-    ensures { Writes (length text.old) text.new result (push (marker.now ++ cond trail (ascii " ") []) (take len text.old)) }
+fn push_end(text: &mut Text, marker: &[u8], trail: bool) -> Result<(), Full>
+    ensures { WritesTo text.old text.new result (push (marker.now ++ cond trail (ascii " ") [])) }
 {
-    let n = push_all(text, len, marker)?;
-    push_byte_if(text, n, b' ', trail)
+    text.push_all(marker)?;
+    text.push_byte_if(b' ', trail)
 }
 
-fn one_if(b: bool) -> usize
-    ensures { result ≡ cond b 1 0 }
+// The same in a slice that is lent, where the emphasis text begins.
+fn push_end_in(room: &mut [u8], len: usize, marker: &[u8], trail: bool) -> Wrote
+    requires { len ≤ length room.old }
+    ensures { Writes (length room.old) room.new result (push (marker.now ++ cond trail (ascii " ") []) (take len room.old)) }
 {
-    if b { 1 } else { 0 }
+    let mut text = Text { room, len };
+    push_end(&mut text, marker, trail)?;
+    Ok(text.len)
 }
 
 // The emphasis text without the blanks at its ends is the n bytes at `from`, where at most one blank stands behind the text.
-// With its closing marker it is longer than the marker that is taken away, so that the first test refuses nothing that fits.
+// With its closing marker it is longer than the marker that is taken away: if it has no room there, it has none at the end.
 fn push_closed(
-    text: &mut [u8],
-    len: usize,
+    text: &mut Text,
     from: usize,
     n: usize,
     marker: &[u8],
     lead: bool,
     trail: bool,
-) -> Wrote
-    requires { ((len ≤ from) × (from ≤ len + 1)) × ((from + n ≤ length text.old) × (0 < n)) }
-    ensures { Writes (length text.old) text.new result (marked_with marker.now lead (take n (drop from text.old) ++ (marker.now ++ cond trail (ascii " ") [])) (take len text.old)) }
+) -> Result<(), Full>
+    requires { ((text.old.len ≤ from) × (from ≤ text.old.len + 1)) × ((from + n ≤ length text.old.room.now) × (0 < n)) }
+    ensures { WritesTo text.old text.new result (marked_with marker.now lead (take n (drop from text.old.room.now) ++ (marker.now ++ cond trail (ascii " ") []))) }
 {
-    let size = n + marker.len() + one_if(trail);
-    if text.len() - len <= size {
-        return Err(Full);
-    }
-    let base = text.len() - size;
-    lift(text, from, n, base);
-    push_end(&mut text[base..], n, marker, trail)?;
-    push_done(text, base, len, marker, lead)
+    let size = push_end_in(&mut text.room[from..], n, marker, trail)?;
+    let base = text.room.len() - size;
+    lift(text.room, from, size, base);
+    push_done(text, base, marker, lead)
 }
 
 // The emphasis text is the n bytes behind the text, which are not all White_Space.
-fn push_marked(text: &mut [u8], len: usize, n: usize, marker: &[u8]) -> Wrote
-    requires { (len + n ≤ length text.old) × (null (trim_end (take n (drop len text.old))) ≡ false) }
-    ensures { Writes (length text.old) text.new result (def.push_marked marker.now (take n (drop len text.old)) (take len text.old)) }
+fn push_marked(text: &mut Text, n: usize, marker: &[u8]) -> Result<(), Full>
+    requires { (text.old.len + n ≤ length text.old.room.now) × (null (trim_end (take n (drop text.old.len text.old.room.now))) ≡ false) }
+    ensures { WritesTo text.old text.new result (def.push_marked marker.now (take n (drop text.old.len text.old.room.now))) }
 {
-    let end = len + n;
-    let lead = starts_with_byte(&text[len..end], b' ');
-    let from = len + one_if(lead);
-    let trail = ends_with_byte(&text[from..end], b' ');
-    let size = end - from - one_if(trail);
-    push_closed(text, len, from, size, marker, lead, trail)
+    let begin = text.len;
+    let content = &text.behind(begin)[..n];
+    let lead = starts_with_byte(content, b' ');
+    let begun = &content[lead as usize..];
+    let trail = ends_with_byte(begun, b' ');
+    let size = begun.len() - trail as usize;
+    push_closed(text, begin + lead as usize, size, marker, lead, trail)
 }
 
 // The emphasis text is the n bytes behind the text; it counts until it is appended.
-pub fn push_emphasis(text: &mut [u8], len: usize, n: usize, marker: &[u8]) -> Wrote
-    requires { len + n ≤ length text.old }
-    ensures { Writes (length text.old) text.new result (def.push_emphasis marker.now (take n (drop len text.old)) (take len text.old)) }
+pub fn push_emphasis(text: &mut Text, n: usize, marker: &[u8]) -> Result<(), Full>
+    requires { text.old.len + n ≤ length text.old.room.now }
+    ensures { WritesTo text.old text.new result (def.push_emphasis marker.now (take n (drop text.old.len text.old.room.now))) }
 {
-    let end = len + n;
-    if trim_end(&text[len..end]) == 0 {
-        let base = text.len() - n;
-        lift(text, len, n, base);
-        return push_lifted(text, base, len, n);
+    let begin = text.len;
+    if trim_end(&text.behind(begin)[..n]) == 0 {
+        let base = text.room.len() - n;
+        lift(text.room, begin, n, base);
+        return text.push_lifted(base, n);
     }
-    push_marked(text, len, n, marker)
+    push_marked(text, n, marker)
 }

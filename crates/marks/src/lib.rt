@@ -2,6 +2,7 @@
 
 #![tactic(auto)]
 
+pub mod by_len;
 pub mod code;
 pub mod emphasis;
 pub mod heading;

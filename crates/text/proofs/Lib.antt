@@ -12,3 +12,4 @@ pub mod Temporary
 pub mod Finding
 pub mod Lifting
 pub mod Texts
+pub mod Parts

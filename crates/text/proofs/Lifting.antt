@@ -1,6 +1,6 @@
 -- A temporary that was lifted to the end of the room: what is appended before it, then it, and what follows. Assumes nothing.
 use Prim.Native.Nat.{ℕ, ◌+◌, ◌-◌, ◌≤◌, ◌<◌}
-use mathlib.Core.Path.{◌≡◌, refl, sym, ap, subst, subst₂, ◌∙◌}
+use mathlib.Core.Path.{◌≡◌, sym, ap, subst, subst₂, ◌∙◌}
 use mathlib.Core.List.{List, ◌++◌}
 use native.Mathlib.Omega.{arith}
 use borrow.Rule.Slice.PartMut.{same_len_mid}
@@ -11,10 +11,9 @@ use Rattle.text.specs.Lifted.{Lifted}
 use Rattle.text.specs.Source.{WritesIn}
 use Rattle.text.specs.Writes.{Written, Refused, Says, Writes, Wrote}
 use Rattle.std.specs.Prelude.{Ok, Err}
-use Rattle.text.specs.declared.buffer.Full.{Full}
 use Rattle.text.proofs.Reading.{rest_part}
 use Rattle.text.proofs.Temporary.{lent, back}
-use Rattle.text.proofs.Writing.{alike, done, full, reaches, push_both, Owes, owes_all, owes_on, owes_over}
+use Rattle.text.proofs.Writing.{done, reaches}
 
 -- ---- the n bytes at `from` are lifted
 
@@ -98,39 +97,14 @@ module _ (d : List ℕ) (len base k : ℕ) (h : len ≤ base) (g : base + k ≤ 
         go (Err _) u = record { over = omega (arith, u.over) }
 
 -- all of it counts
-pub joined_full : (d : List ℕ) (len base : ℕ) → base ≤ length d → (f : Step) {mid z : List ℕ} {r : Wrote} {x y : Full} → WritesIn base d mid r (f (take len d)) → r ≡ Err x
-    → Writes (length d) z (Err y) (joined d len base (length (drop base d)) f)
+pub joined_full : (d : List ℕ) (len base : ℕ) → base ≤ length d → (f : Step) → Refused base (f (take len d)) → Refused (length d) (joined d len base (length (drop base d)) f)
 unfolding and_then beside push
-joined_full d len base g f w e =
-    let v : Refused base (f (take len d)) = full e w.writes in
-    record { says = record { over = omega (arith, v.over, length-drop base d) } }
+joined_full d len base g f v = record { over = omega (arith, v.over, length-drop base d) }
 
 pub in_being : {j k room : ℕ} {after : List ℕ} {r : Wrote} (o : Out) → j ≡ k → Writes room after r (beside j o) → Writes room after r (beside k o)
 in_being {j} {k} {room} {after} {r} o e w = subst (λ (i : ℕ). Writes room after r (beside i o)) e w
 
--- ---- x before it, and y behind it
-
-module _ (d : List ℕ) (len base k : ℕ) (h : len ≤ base) (g : base + k ≤ length d) (x y : List ℕ) where
-  abbrev around : Out
-  around = and_then (beside k (push (x ++ drop base d) (take len d))) (push y)
-
-  module _ {mid : List ℕ} {r : Wrote} (w : WritesIn base d mid r (push x (take len d))) where
-    pub around_full : {z : List ℕ} {f g : Full} → r ≡ Err f → Writes (length d) z (Err g) around
-    unfolding and_then beside push
-    around_full e =
-        let v : Refused base (push x (take len d)) = full e w.writes in
-        record { says = record { over = omega (arith, v.over, length-append x (drop base d), length-drop base d) } }
-
-    whole : Owes (length d) d len (λ t. and_then (beside k (push (x ++ drop base d) t)) (push y)) around
-    whole = owes_all d len (λ t. and_then (beside k (push (x ++ drop base d) t)) (push y)) (omega arith) refl
-
-    -- it is appended behind x
-    module _ {m : ℕ} (e : r ≡ Ok m) {after : List ℕ} {s : Wrote} (v : Writes (length mid) after s (beside k (push (drop base mid) (take m mid)))) where
-      said : Writes (length d) after s (beside k (push (x ++ drop base d) (take len d)))
-      said = alike (ap (beside k) (push_both x (drop base d) (take len d))) (joined_writes d len base k h g (push x) w e v)
-
-      pub around_on : {j : ℕ} → s ≡ Ok j → Owes (length d) after j (push y) around
-      around_on q = owes_on whole (λ t. beside k (push (x ++ drop base d) t)) (push y) refl (done q said)
-
-      pub around_stop : {z : List ℕ} {f g : Full} → s ≡ Err f → Writes (length d) z (Err g) around
-      around_stop q = owes_over whole (λ t. beside k (push (x ++ drop base d) t)) (push y) refl (full q said)
+-- x stands before it, and has no room before it
+pub before_full : (d : List ℕ) (len base k : ℕ) → base ≤ length d → (x : List ℕ) → Refused base (push x (take len d)) → Refused (length d) (joined d len base k (push x))
+unfolding and_then beside push
+before_full d len base k g x v = record { over = omega (arith, v.over, length-append (take len d) x, length-drop base d) }

@@ -11,7 +11,7 @@ use Rattle.std.specs.Result.{IsErr}
 use Rattle.spec.specs.Out.{Step, and_then, keep, push}
 use Rattle.text.specs.declared.buffer.Full.{Full}
 use Rattle.text.specs.declared.text.Text.{Text}
-use Rattle.text.specs.Writes.{Written, Refused, Says, Writes, Wrote}
+use Rattle.text.specs.Writes.{Written, Refused, Says, Writes}
 use Rattle.text.specs.Texts.{bytes, wrote, WritesTo}
 use Rattle.text.proofs.Pushing.{put_done, push_full}
 use Rattle.text.proofs.Writing.{alike, then, refused, keeps, keeps_nothing, push_both}
@@ -97,10 +97,19 @@ module _ {a b : Text} {rest whole : Step} (p : Owes a b rest whole) where
   pub owes_none : rest (bytes b) ≡ keep (bytes b) → WritesTo a b (Ok tt) whole
   owes_none e = owes_last e (kept b)
 
--- ---- one push after another
-module _ {a b : Text} {q : Answer} (x y : List ℕ) where
-  pub push_next : {c : Text} {r : Answer} {u : Unit {0}} → q ≡ Ok u → WritesTo a b q (push x) → WritesTo b c r (push y) → WritesTo a c r (push (x ++ y))
-  push_next e v w = as_step (push_both x y (bytes a)) (next e v w)
+-- it has no room, where an answer is an `Err`
+pub as_stop : {a b : Text} {r : Answer} {f : Step} → b.room.ghost_name ≡ a.room.ghost_name → length b.room.now ≡ length a.room.now → IsErr r → Refused (length a.room.now) (f (bytes a))
+    → WritesTo a b r f
+as_stop {a} {b} {r} {f} n l h w = go r h
+  where
+    go : (r : Answer) → IsErr r → WritesTo a b r f
+    go (Ok u) h = absurd (false≢true h)
+    go (Err e) h = record { room_is = n; long = l; writes = record { says = w } }
 
-  pub push_stopped : {r : Answer} {f : Full} → q ≡ Err f → WritesTo a b q (push x) → IsErr r → WritesTo a b r (push (x ++ y))
-  push_stopped e v h = as_step (push_both x y (bytes a)) (stop (push y) e v h)
+-- ---- x is appended, and y behind it
+
+pub push_next : {a b c : Text} {q r : Answer} {u : Unit {0}} (x y : List ℕ) → q ≡ Ok u → WritesTo a b q (push x) → WritesTo b c r (push y) → WritesTo a c r (push (x ++ y))
+push_next {a} x y e v w = as_step (push_both x y (bytes a)) (next e v w)
+
+pub push_stop : {a b : Text} {q r : Answer} {e : Full} (x y : List ℕ) → q ≡ Err e → WritesTo a b q (push x) → IsErr r → WritesTo a b r (push (x ++ y))
+push_stop {a} x y p w h = as_step (push_both x y (bytes a)) (stop (push y) p w h)

@@ -21,6 +21,14 @@ impl<'a> Text<'a> {
         &self.room[..self.len]
     }
 
+    // What stands in the room from `from` on.
+    pub fn behind(&self, from: usize) -> &[u8]
+        requires { from ≤ length self.now.room.now }
+        ensures { result.now ≡ drop from self.now.room.now }
+    {
+        &self.room[from..]
+    }
+
     // Appends a byte.
     pub fn push_byte(&mut self, b: u8) -> Result<(), Full>
         ensures { WritesTo self.old self.new result (push (b ∷ [])) }

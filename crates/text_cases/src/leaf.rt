@@ -63,10 +63,10 @@ fn heading(name: &[u8], text: &mut [u8], len: usize, case: Case) -> Wrote
         return truth(marks::heading::is_heading(case.x));
     }
     if is_same(name, b"md_prefix") {
-        return marks::heading::push_md_prefix(text, len, case.x);
+        return marks::by_len::push_md_prefix(text, len, case.x);
     }
     if is_same(name, b"escape_closing_hashes") {
-        return marks::heading::escape_closing_hashes(text, len);
+        return marks::by_len::escape_closing_hashes(text, len);
     }
     unknown()
 }
@@ -78,7 +78,7 @@ fn code_block(name: &[u8], text: &mut [u8], len: usize, case: Case, a: &[u8], b:
         return Ok(marks::code::max_backtick_run(a));
     }
     if is_same(name, b"sanitize_attr_value") {
-        return marks::code::push_sanitized(text, len, a);
+        return marks::by_len::push_sanitized(text, len, a);
     }
     if is_same(name, b"push_code_text") {
         return code(text, len, case, a);
@@ -96,7 +96,7 @@ fn emphasis(name: &[u8], text: &mut [u8], len: usize, a: &[u8], b: &[u8]) -> Wro
         return truth(marks::emphasis::is_exact_marker_end(a, b));
     }
     if is_same(name, b"try_trim_prev_emphasis_marker") {
-        return marks::emphasis::try_trim_prev_emphasis_marker(text, len, a);
+        return marks::by_len::try_trim_prev_emphasis_marker(text, len, a);
     }
     if is_same(name, b"push_emphasis") {
         return emphasized(text, len, a, b);
@@ -111,13 +111,13 @@ fn table(name: &[u8], text: &mut [u8], len: usize, a: &[u8]) -> Wrote
         return truth(marks::table::ends_with_cell_break(a));
     }
     if is_same(name, b"add_cell_block_break") {
-        return marks::table::add_cell_block_break(text, len, a);
+        return marks::by_len::add_cell_block_break(text, len, a);
     }
     if is_same(name, b"trim_trailing_cell_break") {
         return Ok(marks::table::trim_trailing_cell_break(a));
     }
     if is_same(name, b"escape_table_cell_inplace") {
-        return marks::table::escape_table_cell_inplace(text, len);
+        return marks::by_len::escape_table_cell_inplace(text, len);
     }
     unknown()
 }

@@ -103,9 +103,9 @@ pub fn code(text: &mut [u8], len: usize, case: Case, a: &[u8]) -> Wrote
     let counts = has(case, 32);
     push_all(text, len, a)?;
     if counts {
-        return marks::code::push_code_text(text, len, len, n, n);
+        return marks::by_len::push_code_text(text, len, len, n, n);
     }
-    marks::code::push_code_text(text, len, len, n, 0)
+    marks::by_len::push_code_text(text, len, len, n, 0)
 }
 
 // a stands behind the text, b is the language.
@@ -117,7 +117,7 @@ pub fn fenced(text: &mut [u8], len: usize, a: &[u8], b: &[u8]) -> Wrote
         return Err(Full);
     }
     push_all(text, len, a)?;
-    marks::code::push_fenced_block(text, len, len, n, b)
+    marks::by_len::push_fenced_block(text, len, len, n, b)
 }
 
 // a stands behind the text, b is the marker.
@@ -129,7 +129,7 @@ pub fn emphasized(text: &mut [u8], len: usize, a: &[u8], b: &[u8]) -> Wrote
         return Err(Full);
     }
     push_all(text, len, a)?;
-    marks::emphasis::push_emphasis(text, len, n, b)
+    marks::by_len::push_emphasis(text, len, n, b)
 }
 
 // A destination is no longer than a sheet.

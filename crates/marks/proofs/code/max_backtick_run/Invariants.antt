@@ -1,10 +1,13 @@
-use Prim.Native.Nat.{◌≤◌, ◌-◌}
-use lib.ListN.{length, take}
-use Rattle.marks.specs.Runs.{RunsBehind}
+use Rattle.std.proofs.Common.{◌≡◌, ◌++◌, ◌+◌, ◌≤◌, List, ℕ, length}
+use Rattle.marks.specs.Runs.{longest_with}
 use Rattle.marks.proofs.code.max_backtick_run.Given as goal
 
-abbrev pub invariant-loop-i : goal.invariant-loop-i
-invariant-loop-i l = (l.i ≤ length l.s) × (RunsBehind l.initial.runs (take l.i l.s) l.runs)
+-- in s the longest run is found as it is found from `runs` in the rest
+abbrev pub invariant-loop-block : goal.invariant-loop-block
+invariant-loop-block l = record {
+  goes : (more : List ℕ) → longest_with (record { best = 0; run = 0 }) (l.s ++ more) ≡ longest_with l.runs (l.rest ++ more);
+  small : l.runs.run + length l.rest ≤ length l.s;
+}
 
-abbrev pub decreases-loop-i : goal.decreases-loop-i
-decreases-loop-i l = length l.s - l.i
+abbrev pub decreases-loop-block : goal.decreases-loop-block
+decreases-loop-block l = length l.rest

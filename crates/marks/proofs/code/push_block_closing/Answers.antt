@@ -1,42 +1,28 @@
-use mathlib.Core.Path.{ap}
-use mathlib.Core.Bool.{cond, not}
-use mathlib.Core.List.{[], ◌++◌}
-use lib.ListN.{take}
+use Rattle.std.proofs.Common.{cond, not, [], ◌++◌, refl}
 use Rattle.spec.specs.Bytes.{ascii}
-use Rattle.spec.specs.Out.{push}
 use Rattle.spec.specs.Md.Elements.Code.{backticks}
-use Rattle.marks.proofs.Spans.{not_wanted}
-use Rattle.text.proofs.Writing.{owes_all, owes_last, push_on, push_stop, stops}
+use Rattle.text.specs.Texts.{bytes}
+use Rattle.text.proofs.Texts.{as_step, push_next, push_stop}
+use Rattle.marks.proofs.Spans.{line_unless}
 use Rattle.marks.proofs.code.push_block_closing.Goals as goal
 
 pub returns : goal.returns
 unfolding backticks
 returns c =
-    let a = c.args in
-    let x = cond (not a.ended) (ascii "\n") [] in
-    let y = backticks a.fence in
-    let nl = ascii "\n" in
-    let o₁ = owes_all a.text.now a.len (push (x ++ (y ++ nl))) c.requires (ap (λ l. push (l ++ (y ++ nl)) (take a.len a.text.now)) (not_wanted a.ended nl)) in
-    let o₂ = push_on x (y ++ nl) o₁ c.in_ok-n.was c.push_byte_if.ensures in
-    let o₃ = push_on y nl o₂ c.in_ok-m.was c.push_repeated.ensures in
-    owes_last o₃ c.push_byte.ensures
+    let a = c.args in let nl = ascii "\n" in let fence = backticks a.fence in
+    as_step (line_unless a.ended a.ended (fence ++ nl) (bytes a.text.now) refl)
+    (push_next (cond (not a.ended) nl []) (fence ++ nl) c.in_ok-push_byte_if.was c.push_byte_if.ensures (push_next fence nl c.in_ok-push_repeated.was c.push_repeated.ensures c.push_byte.ensures))
 
-pub returns-in_err-m : goal.returns-in_err-m
+pub returns-in_err-push_repeated : goal.returns-in_err-push_repeated
 unfolding backticks
-returns-in_err-m c =
-    stops c.from_residual-in_err-m.ensures.0 (let a = c.args in
-    let x = cond (not a.ended) (ascii "\n") [] in
-    let y = backticks a.fence in
-    let nl = ascii "\n" in
-    let o₁ = owes_all a.text.now a.len (push (x ++ (y ++ nl))) c.requires (ap (λ l. push (l ++ (y ++ nl)) (take a.len a.text.now)) (not_wanted a.ended nl)) in
-    let o₂ = push_on x (y ++ nl) o₁ c.in_ok-n.was c.push_byte_if.ensures in
-    push_stop y nl o₂ c.in_err-m.was c.push_repeated.ensures)
+returns-in_err-push_repeated c =
+    let a = c.args in let nl = ascii "\n" in let fence = backticks a.fence in
+    as_step (line_unless a.ended a.ended (fence ++ nl) (bytes a.text.now) refl)
+    (push_next (cond (not a.ended) nl []) (fence ++ nl) c.in_ok-push_byte_if.was c.push_byte_if.ensures
+    (push_stop fence nl c.in_err-push_repeated.was c.push_repeated.ensures c.from_residual-in_err-push_repeated.ensures.0))
 
-pub returns-in_err-n : goal.returns-in_err-n
-returns-in_err-n c =
-    stops c.from_residual.ensures.0 (let a = c.args in
-    let x = cond (not a.ended) (ascii "\n") [] in
-    let y = backticks a.fence in
-    let nl = ascii "\n" in
-    let o₁ = owes_all a.text.now a.len (push (x ++ (y ++ nl))) c.requires (ap (λ l. push (l ++ (y ++ nl)) (take a.len a.text.now)) (not_wanted a.ended nl)) in
-    push_stop x (y ++ nl) o₁ c.in_err-n.was c.push_byte_if.ensures)
+pub returns-in_err-push_byte_if : goal.returns-in_err-push_byte_if
+returns-in_err-push_byte_if c =
+    let a = c.args in let nl = ascii "\n" in let fence = backticks a.fence in
+    as_step (line_unless a.ended a.ended (fence ++ nl) (bytes a.text.now) refl)
+    (push_stop (cond (not a.ended) nl []) (fence ++ nl) c.in_err-push_byte_if.was c.push_byte_if.ensures c.from_residual.ensures.0)

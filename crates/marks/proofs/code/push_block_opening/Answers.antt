@@ -1,63 +1,34 @@
-use mathlib.Core.Path.{sym, ap, ◌∙◌}
-use mathlib.Core.Bool.{Bool, cond, not}
-use mathlib.Core.List.{[], ◌++◌}
-use lib.ListN.{take}
-use Rattle.spec.specs.Bytes.{ascii}
-use Rattle.spec.specs.Out.{push}
+use Rattle.std.proofs.Common.{cond, not, [], ◌++◌, ap, ◌∙◌}
+use Rattle.spec.specs.Bytes.{ascii, ends_with}
 use Rattle.spec.specs.Md.Elements.Code.{backticks, sanitize_attr_value}
-use Rattle.marks.proofs.Spans.{not_wanted}
-use Rattle.text.proofs.Writing.{owes_all, owes_last, push_on, push_stop, stops}
+use Rattle.text.specs.Texts.{bytes}
+use Rattle.text.proofs.Texts.{as_step, push_next, push_stop}
+use Rattle.marks.proofs.Spans.{line_unless}
 use Rattle.marks.proofs.code.push_block_opening.Goals as goal
 
 pub returns : goal.returns
 unfolding backticks
 returns c =
-    let a = c.args in
-    let begun = c.ends_with-begun.result in
-    let x = cond (not begun) (ascii "\n") [] in
-    let y = backticks a.fence in
-    let z = sanitize_attr_value a.lang.now in
-    let nl = ascii "\n" in
-    let o₁ = owes_all a.text.now a.len (push (x ++ (y ++ (z ++ nl)))) c.requires (ap (λ (t : Bool). push (cond t [] (ascii "\n") ++ (y ++ (z ++ nl))) (take a.len a.text.now)) (sym c.ends_with-begun.ensures) ∙ ap (λ l. push (l ++ (y ++ (z ++ nl))) (take a.len a.text.now)) (not_wanted begun nl)) in
-    let o₂ = push_on x (y ++ (z ++ nl)) o₁ c.in_ok-n.was c.push_byte_if.ensures in
-    let o₃ = push_on y (z ++ nl) o₂ c.in_ok-m.was c.push_repeated.ensures in
-    let o₄ = push_on z nl o₃ c.in_ok-k.was c.push_sanitized.ensures in
-    owes_last o₄ c.push_byte.ensures
+    let nl = ascii "\n" in let x = cond (not c.ends_with-begun.result) nl [] in let y = backticks c.args.fence in let z = sanitize_attr_value c.args.lang.now in
+    as_step (line_unless _ c.ends_with-begun.result (y ++ (z ++ nl)) (bytes c.args.text.now) (c.ends_with-begun.ensures ∙ ap (ends_with (ascii "\n\n")) c.bytes.ensures))
+    (push_next x (y ++ (z ++ nl)) c.in_ok-push_byte_if.was c.push_byte_if.ensures (push_next y (z ++ nl) c.in_ok-push_repeated.was c.push_repeated.ensures (push_next z nl c.in_ok-push_sanitized.was c.push_sanitized.ensures c.push_byte.ensures)))
 
-pub returns-in_err-k : goal.returns-in_err-k
+pub returns-in_err-push_sanitized : goal.returns-in_err-push_sanitized
 unfolding backticks
-returns-in_err-k c =
-    stops c.from_residual-in_err-k.ensures.0 (let a = c.args in
-    let begun = c.ends_with-begun.result in
-    let x = cond (not begun) (ascii "\n") [] in
-    let y = backticks a.fence in
-    let z = sanitize_attr_value a.lang.now in
-    let nl = ascii "\n" in
-    let o₁ = owes_all a.text.now a.len (push (x ++ (y ++ (z ++ nl)))) c.requires (ap (λ (t : Bool). push (cond t [] (ascii "\n") ++ (y ++ (z ++ nl))) (take a.len a.text.now)) (sym c.ends_with-begun.ensures) ∙ ap (λ l. push (l ++ (y ++ (z ++ nl))) (take a.len a.text.now)) (not_wanted begun nl)) in
-    let o₂ = push_on x (y ++ (z ++ nl)) o₁ c.in_ok-n.was c.push_byte_if.ensures in
-    let o₃ = push_on y (z ++ nl) o₂ c.in_ok-m.was c.push_repeated.ensures in
-    push_stop z nl o₃ c.in_err-k.was c.push_sanitized.ensures)
+returns-in_err-push_sanitized c =
+    let nl = ascii "\n" in let x = cond (not c.ends_with-begun.result) nl [] in let y = backticks c.args.fence in let z = sanitize_attr_value c.args.lang.now in
+    as_step (line_unless _ c.ends_with-begun.result (y ++ (z ++ nl)) (bytes c.args.text.now) (c.ends_with-begun.ensures ∙ ap (ends_with (ascii "\n\n")) c.bytes.ensures))
+    (push_next x (y ++ (z ++ nl)) c.in_ok-push_byte_if.was c.push_byte_if.ensures (push_next y (z ++ nl) c.in_ok-push_repeated.was c.push_repeated.ensures (push_stop z nl c.in_err-push_sanitized.was c.push_sanitized.ensures c.from_residual-in_err-push_sanitized.ensures.0)))
 
-pub returns-in_err-m : goal.returns-in_err-m
+pub returns-in_err-push_repeated : goal.returns-in_err-push_repeated
 unfolding backticks
-returns-in_err-m c =
-    stops c.from_residual-in_err-m.ensures.0 (let a = c.args in
-    let begun = c.ends_with-begun.result in
-    let x = cond (not begun) (ascii "\n") [] in
-    let y = backticks a.fence in
-    let z = sanitize_attr_value a.lang.now in
-    let nl = ascii "\n" in
-    let o₁ = owes_all a.text.now a.len (push (x ++ (y ++ (z ++ nl)))) c.requires (ap (λ (t : Bool). push (cond t [] (ascii "\n") ++ (y ++ (z ++ nl))) (take a.len a.text.now)) (sym c.ends_with-begun.ensures) ∙ ap (λ l. push (l ++ (y ++ (z ++ nl))) (take a.len a.text.now)) (not_wanted begun nl)) in
-    let o₂ = push_on x (y ++ (z ++ nl)) o₁ c.in_ok-n.was c.push_byte_if.ensures in
-    push_stop y (z ++ nl) o₂ c.in_err-m.was c.push_repeated.ensures)
+returns-in_err-push_repeated c =
+    let nl = ascii "\n" in let x = cond (not c.ends_with-begun.result) nl [] in let y = backticks c.args.fence in let z = sanitize_attr_value c.args.lang.now in
+    as_step (line_unless _ c.ends_with-begun.result (y ++ (z ++ nl)) (bytes c.args.text.now) (c.ends_with-begun.ensures ∙ ap (ends_with (ascii "\n\n")) c.bytes.ensures))
+    (push_next x (y ++ (z ++ nl)) c.in_ok-push_byte_if.was c.push_byte_if.ensures (push_stop y (z ++ nl) c.in_err-push_repeated.was c.push_repeated.ensures c.from_residual-in_err-push_repeated.ensures.0))
 
-pub returns-in_err-n : goal.returns-in_err-n
-returns-in_err-n c =
-    stops c.from_residual.ensures.0 (let a = c.args in
-    let begun = c.ends_with-begun.result in
-    let x = cond (not begun) (ascii "\n") [] in
-    let y = backticks a.fence in
-    let z = sanitize_attr_value a.lang.now in
-    let nl = ascii "\n" in
-    let o₁ = owes_all a.text.now a.len (push (x ++ (y ++ (z ++ nl)))) c.requires (ap (λ (t : Bool). push (cond t [] (ascii "\n") ++ (y ++ (z ++ nl))) (take a.len a.text.now)) (sym c.ends_with-begun.ensures) ∙ ap (λ l. push (l ++ (y ++ (z ++ nl))) (take a.len a.text.now)) (not_wanted begun nl)) in
-    push_stop x (y ++ (z ++ nl)) o₁ c.in_err-n.was c.push_byte_if.ensures)
+pub returns-in_err-push_byte_if : goal.returns-in_err-push_byte_if
+returns-in_err-push_byte_if c =
+    let nl = ascii "\n" in let x = cond (not c.ends_with-begun.result) nl [] in let y = backticks c.args.fence in let z = sanitize_attr_value c.args.lang.now in
+    as_step (line_unless _ c.ends_with-begun.result (y ++ (z ++ nl)) (bytes c.args.text.now) (c.ends_with-begun.ensures ∙ ap (ends_with (ascii "\n\n")) c.bytes.ensures))
+    (push_stop x (y ++ (z ++ nl)) c.in_err-push_byte_if.was c.push_byte_if.ensures c.from_residual.ensures.0)

@@ -1,26 +1,13 @@
-use mathlib.Core.Path.{refl}
-use mathlib.Core.Bool.{cond}
-use mathlib.Core.List.{[], ◌++◌}
+use Rattle.std.proofs.Common.{cond, []}
 use Rattle.spec.specs.Bytes.{ascii}
-use Rattle.spec.specs.Out.{push}
 use Rattle.spec.specs.Md.Elements.Code.{backticks}
-use Rattle.text.proofs.Writing.{owes_all, owes_last, push_on, push_stop, stops}
+use Rattle.text.proofs.Texts.{push_next, push_stop}
 use Rattle.marks.proofs.code.push_closing.Goals as goal
 
 pub returns : goal.returns
 unfolding backticks
-returns c =
-    let a = c.args in
-    let x = cond a.space (ascii " ") [] in
-    let y = backticks a.fence in
-    let o₁ = owes_all a.text.now a.len (push (x ++ y)) c.requires refl in
-    let o₂ = push_on x y o₁ c.in_ok-n.was c.push_byte_if.ensures in
-    owes_last o₂ c.push_repeated.ensures
+returns c = push_next (cond c.args.space (ascii " ") []) (backticks c.args.fence) c.in_ok-push_byte_if.was c.push_byte_if.ensures c.push_repeated.ensures
 
-pub returns-in_err-n : goal.returns-in_err-n
-returns-in_err-n c =
-    stops c.from_residual.ensures.0 (let a = c.args in
-    let x = cond a.space (ascii " ") [] in
-    let y = backticks a.fence in
-    let o₁ = owes_all a.text.now a.len (push (x ++ y)) c.requires refl in
-    push_stop x y o₁ c.in_err-n.was c.push_byte_if.ensures)
+pub returns-in_err-push_byte_if : goal.returns-in_err-push_byte_if
+returns-in_err-push_byte_if c =
+    push_stop (cond c.args.space (ascii " ") []) (backticks c.args.fence) c.in_err-push_byte_if.was c.push_byte_if.ensures c.from_residual.ensures.0

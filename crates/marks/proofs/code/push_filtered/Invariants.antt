@@ -1,9 +1,9 @@
-use lib.ListN.{length, drop, take}
+use Rattle.std.proofs.Common.{drop}
 use Rattle.spec.specs.Out.{push}
 use Rattle.spec.specs.Md.Elements.Code.{filter}
 use Rattle.marks.specs.Kept.{kept_byte}
-use Rattle.text.proofs.Writing.{Owes}
+use Rattle.text.proofs.Texts.{Owes}
 use Rattle.marks.proofs.code.push_filtered.Given as goal
 
 abbrev pub invariant-loop-b : goal.invariant-loop-b
-invariant-loop-b l = Owes (length l.initial.text) l.text l.n (push (filter kept_byte (drop l.b-index l.s))) (push (filter kept_byte l.s) (take l.len l.initial.text))
+invariant-loop-b l = Owes l.fn.text l.text (push (filter kept_byte (drop l.b-index l.s))) (push (filter kept_byte l.s))

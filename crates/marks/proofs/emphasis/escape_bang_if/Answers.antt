@@ -1,11 +1,8 @@
-use mathlib.Core.Path.{ap}
-use mathlib.Core.Bool.{Bool}
-use lib.ListN.{take}
+use Rattle.std.proofs.Common.{Bool, ap}
 use Rattle.marks.specs.Marked.{bang_if}
-use Rattle.text.proofs.Writing.{alike, keeps}
+use Rattle.text.specs.Texts.{bytes}
+use Rattle.text.proofs.Texts.{as_step, kept}
 use Rattle.marks.proofs.emphasis.escape_bang_if.Goals as goal
 
-pub returns-then-not-bang : goal.returns-then-not-bang
-returns-then-not-bang c =
-    let a = c.args in
-    alike (ap (λ (t : Bool). bang_if t (take a.len a.text.now)) (c.if-not-bang.true)) (record { says = keeps a.text.now a.len c.requires })
+pub returns-else-bang : goal.returns-else-bang
+returns-else-bang c = let t = c.args.text.now in as_step (ap (λ (b : Bool). bang_if b (bytes t)) c.if-bang.false) (kept t)

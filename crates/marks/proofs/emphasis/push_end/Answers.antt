@@ -1,24 +1,12 @@
-use mathlib.Core.Path.{refl}
-use mathlib.Core.Bool.{cond}
-use mathlib.Core.List.{[], ◌++◌}
+use Rattle.std.proofs.Common.{cond, []}
 use Rattle.spec.specs.Bytes.{ascii}
-use Rattle.spec.specs.Out.{push}
-use Rattle.text.proofs.Writing.{owes_all, owes_last, push_on, push_stop, stops}
+use Rattle.text.proofs.Texts.{push_next, push_stop}
 use Rattle.marks.proofs.emphasis.push_end.Goals as goal
 
 pub returns : goal.returns
 returns c =
-    let a = c.args in
-    let x = a.marker.now in
-    let y = cond a.trail (ascii " ") [] in
-    let o₁ = owes_all a.text.now a.len (push (x ++ y)) c.requires refl in
-    let o₂ = push_on x y o₁ c.in_ok-n.was c.push_all.ensures in
-    owes_last o₂ c.push_byte_if.ensures
+    let x = c.args.marker.now in let y = cond c.args.trail (ascii " ") [] in push_next x y c.in_ok-push_all.was c.push_all.ensures c.push_byte_if.ensures
 
-pub returns-in_err-n : goal.returns-in_err-n
-returns-in_err-n c =
-    stops c.from_residual.ensures.0 (let a = c.args in
-    let x = a.marker.now in
-    let y = cond a.trail (ascii " ") [] in
-    let o₁ = owes_all a.text.now a.len (push (x ++ y)) c.requires refl in
-    push_stop x y o₁ c.in_err-n.was c.push_all.ensures)
+pub returns-in_err-push_all : goal.returns-in_err-push_all
+returns-in_err-push_all c =
+    let x = c.args.marker.now in let y = cond c.args.trail (ascii " ") [] in push_stop x y c.in_err-push_all.was c.push_all.ensures c.from_residual.ensures.0

@@ -1,59 +1,54 @@
-use mathlib.Core.Path.{refl, sym, ap}
-use mathlib.Core.Bool.{Bool, cond}
-use mathlib.Core.List.{[]}
-use lib.ListN.{take}
+use Rattle.std.proofs.Common.{Bool, cond, [], ap, sym, ◌∙◌}
 use Rattle.spec.specs.Out.{Step, push, and_then}
-use Rattle.spec.specs.Md.Elements.Emphasis.{try_trim_prev_emphasis_marker}
+use Rattle.spec.specs.Md.Elements.Emphasis.{ends_with_emphasis, try_trim_prev_emphasis_marker}
 use Rattle.marks.specs.Marked.{lead_blank, bang_if}
-use Rattle.text.proofs.Writing.{owes_all, owes_step, owes_stop, owes_last, stops}
+use Rattle.text.specs.Texts.{bytes}
+use Rattle.text.proofs.Texts.{as_step, next, stop}
 use Rattle.marks.proofs.emphasis.push_front.Goals as goal
 
 pub returns : goal.returns
 returns c =
-    let a = c.args in
-    let x = cond c.ends_with_emphasis-merged.result [] a.marker.now in
-    let f = try_trim_prev_emphasis_marker a.marker.now in
+    let a = c.args in let m = a.marker.now in
+    let x = push (cond c.ends_with_emphasis-merged.result [] m) in
     let g₃ : Step = bang_if a.bang in
-    let g₂ : Step = λ t. and_then (push x t) g₃ in
+    let g₂ : Step = λ t. and_then (x t) g₃ in
     let g₁ : Step = λ t. and_then (lead_blank a.lead t) g₂ in
-    let o₁ = owes_all a.text.now a.len (λ t. and_then (f t) g₁) c.requires (ap (λ (m : Bool). and_then (f (take a.len a.text.now)) (λ t₁. and_then (lead_blank a.lead t₁) (λ t₂. and_then (push (cond m [] a.marker.now) t₂) g₃))) (sym c.ends_with_emphasis-merged.ensures)) in
-    let o₂ = owes_step o₁ f g₁ refl c.in_ok-n.was c.try_trim_prev_emphasis_marker.ensures in
-    let o₃ = owes_step o₂ (lead_blank a.lead) g₂ refl c.in_ok-m.was c.push_lead.ensures in
-    let o₄ = owes_step o₃ (push x) g₃ refl c.in_ok-k.was c.push_marker.ensures in
-    owes_last o₄ c.escape_bang_if.ensures
+    let e = ap (λ (b : Bool). and_then (try_trim_prev_emphasis_marker m (bytes a.text.now)) (λ t₁. and_then (lead_blank a.lead t₁) (λ t₂. and_then (push (cond b [] m) t₂) g₃)))
+    (ap (ends_with_emphasis m) (sym c.bytes.ensures) ∙ sym c.ends_with_emphasis-merged.ensures) in
+    as_step e (next c.in_ok-try_trim_prev_emphasis_marker.was c.try_trim_prev_emphasis_marker.ensures
+    (next c.in_ok-push_lead.was c.push_lead.ensures (next c.in_ok-push_marker.was c.push_marker.ensures c.escape_bang_if.ensures)))
 
-pub returns-in_err-k : goal.returns-in_err-k
-returns-in_err-k c =
-    stops c.from_residual-in_err-k.ensures.0 (let a = c.args in
-    let x = cond c.ends_with_emphasis-merged.result [] a.marker.now in
-    let f = try_trim_prev_emphasis_marker a.marker.now in
+pub returns-in_err-push_marker : goal.returns-in_err-push_marker
+returns-in_err-push_marker c =
+    let a = c.args in let m = a.marker.now in
+    let x = push (cond c.ends_with_emphasis-merged.result [] m) in
     let g₃ : Step = bang_if a.bang in
-    let g₂ : Step = λ t. and_then (push x t) g₃ in
+    let g₂ : Step = λ t. and_then (x t) g₃ in
     let g₁ : Step = λ t. and_then (lead_blank a.lead t) g₂ in
-    let o₁ = owes_all a.text.now a.len (λ t. and_then (f t) g₁) c.requires (ap (λ (m : Bool). and_then (f (take a.len a.text.now)) (λ t₁. and_then (lead_blank a.lead t₁) (λ t₂. and_then (push (cond m [] a.marker.now) t₂) g₃))) (sym c.ends_with_emphasis-merged.ensures)) in
-    let o₂ = owes_step o₁ f g₁ refl c.in_ok-n.was c.try_trim_prev_emphasis_marker.ensures in
-    let o₃ = owes_step o₂ (lead_blank a.lead) g₂ refl c.in_ok-m.was c.push_lead.ensures in
-    owes_stop o₃ (push x) g₃ refl c.in_err-k.was c.push_marker.ensures)
+    let e = ap (λ (b : Bool). and_then (try_trim_prev_emphasis_marker m (bytes a.text.now)) (λ t₁. and_then (lead_blank a.lead t₁) (λ t₂. and_then (push (cond b [] m) t₂) g₃)))
+    (ap (ends_with_emphasis m) (sym c.bytes.ensures) ∙ sym c.ends_with_emphasis-merged.ensures) in
+    as_step e (next c.in_ok-try_trim_prev_emphasis_marker.was c.try_trim_prev_emphasis_marker.ensures
+    (next c.in_ok-push_lead.was c.push_lead.ensures (stop g₃ c.in_err-push_marker.was c.push_marker.ensures c.from_residual-in_err-push_marker.ensures.0)))
 
-pub returns-in_err-m : goal.returns-in_err-m
-returns-in_err-m c =
-    stops c.from_residual-in_err-m.ensures.0 (let a = c.args in
-    let x = cond c.ends_with_emphasis-merged.result [] a.marker.now in
-    let f = try_trim_prev_emphasis_marker a.marker.now in
+pub returns-in_err-push_lead : goal.returns-in_err-push_lead
+returns-in_err-push_lead c =
+    let a = c.args in let m = a.marker.now in
+    let x = push (cond c.ends_with_emphasis-merged.result [] m) in
     let g₃ : Step = bang_if a.bang in
-    let g₂ : Step = λ t. and_then (push x t) g₃ in
+    let g₂ : Step = λ t. and_then (x t) g₃ in
     let g₁ : Step = λ t. and_then (lead_blank a.lead t) g₂ in
-    let o₁ = owes_all a.text.now a.len (λ t. and_then (f t) g₁) c.requires (ap (λ (m : Bool). and_then (f (take a.len a.text.now)) (λ t₁. and_then (lead_blank a.lead t₁) (λ t₂. and_then (push (cond m [] a.marker.now) t₂) g₃))) (sym c.ends_with_emphasis-merged.ensures)) in
-    let o₂ = owes_step o₁ f g₁ refl c.in_ok-n.was c.try_trim_prev_emphasis_marker.ensures in
-    owes_stop o₂ (lead_blank a.lead) g₂ refl c.in_err-m.was c.push_lead.ensures)
+    let e = ap (λ (b : Bool). and_then (try_trim_prev_emphasis_marker m (bytes a.text.now)) (λ t₁. and_then (lead_blank a.lead t₁) (λ t₂. and_then (push (cond b [] m) t₂) g₃)))
+    (ap (ends_with_emphasis m) (sym c.bytes.ensures) ∙ sym c.ends_with_emphasis-merged.ensures) in
+    as_step e (next c.in_ok-try_trim_prev_emphasis_marker.was c.try_trim_prev_emphasis_marker.ensures
+    (stop g₂ c.in_err-push_lead.was c.push_lead.ensures c.from_residual-in_err-push_lead.ensures.0))
 
-pub returns-in_err-n : goal.returns-in_err-n
-returns-in_err-n c =
-    stops c.from_residual.ensures.0 (let a = c.args in
-    let x = cond c.ends_with_emphasis-merged.result [] a.marker.now in
-    let f = try_trim_prev_emphasis_marker a.marker.now in
+pub returns-in_err-try_trim_prev_emphasis_marker : goal.returns-in_err-try_trim_prev_emphasis_marker
+returns-in_err-try_trim_prev_emphasis_marker c =
+    let a = c.args in let m = a.marker.now in
+    let x = push (cond c.ends_with_emphasis-merged.result [] m) in
     let g₃ : Step = bang_if a.bang in
-    let g₂ : Step = λ t. and_then (push x t) g₃ in
+    let g₂ : Step = λ t. and_then (x t) g₃ in
     let g₁ : Step = λ t. and_then (lead_blank a.lead t) g₂ in
-    let o₁ = owes_all a.text.now a.len (λ t. and_then (f t) g₁) c.requires (ap (λ (m : Bool). and_then (f (take a.len a.text.now)) (λ t₁. and_then (lead_blank a.lead t₁) (λ t₂. and_then (push (cond m [] a.marker.now) t₂) g₃))) (sym c.ends_with_emphasis-merged.ensures)) in
-    owes_stop o₁ f g₁ refl c.in_err-n.was c.try_trim_prev_emphasis_marker.ensures)
+    let e = ap (λ (b : Bool). and_then (try_trim_prev_emphasis_marker m (bytes a.text.now)) (λ t₁. and_then (lead_blank a.lead t₁) (λ t₂. and_then (push (cond b [] m) t₂) g₃)))
+    (ap (ends_with_emphasis m) (sym c.bytes.ensures) ∙ sym c.ends_with_emphasis-merged.ensures) in
+    as_step e (stop g₁ c.in_err-try_trim_prev_emphasis_marker.was c.try_trim_prev_emphasis_marker.ensures c.from_residual.ensures.0)

@@ -1,31 +1,29 @@
-use mathlib.Core.Path.{sym, ◌∙◌, refl}
-use mathlib.Core.List.{[], ◌∷◌}
-use Prim.Native.Nat.{◌+◌}
-use lib.ListN.{take, length}
-use Rattle.spec.specs.Out.{push, cut}
-use Rattle.spec.specs.Md.Elements.Emphasis.{try_trim_prev_emphasis_marker, drop_end}
-use Rattle.text.proofs.Writing.{alike, keeps, owes_all, owes_on, owes_last, owes_nothing}
+use Rattle.std.proofs.Common.{◌+◌, [], ◌∷◌, refl, ap, sym, ◌∙◌, length, arith}
+use Rattle.spec.specs.Bytes.{ends_with}
+use Rattle.spec.specs.Out.{cut}
+use Rattle.spec.specs.Md.Elements.Emphasis.{drop_end, ends_with_emphasis}
+use Rattle.text.specs.Texts.{bytes}
+use Rattle.text.proofs.Texts.{as_step, as_done, kept, next, pushes_nothing}
 use Rattle.marks.proofs.Leaves.{prev_none, prev_space, prev_plain, short_done}
-use native.Mathlib.Omega.{arith}
 use Rattle.marks.proofs.emphasis.try_trim_prev_emphasis_marker.Goals as goal
 
 pub returns-then-not-ends_with_emphasis : goal.returns-then-not-ends_with_emphasis
 returns-then-not-ends_with_emphasis c =
-    let a = c.args in
-    alike (prev_none a.marker.now a.text.now a.len c.requires (sym c.ends_with_emphasis.ensures ∙ c.if-not-ends_with_emphasis.true)) (record { says = keeps a.text.now a.len c.requires })
+    let m = c.args.marker.now in let t = c.args.text.now in
+    as_step (prev_none m (bytes t) (ap (ends_with_emphasis m) (sym c.bytes.ensures) ∙ sym c.ends_with_emphasis.ensures ∙ c.if-not-ends_with_emphasis.true)) (kept t)
 
 pub returns-then-ends_with_byte : goal.returns-then-ends_with_byte
 returns-then-ends_with_byte c =
-    let a = c.args in
-    owes_last
-    (owes_on (owes_all a.text.now a.len (try_trim_prev_emphasis_marker a.marker.now) c.requires refl) (cut (λ t. drop_end (length a.marker.now + 1) (take a.len a.text.now))) (push (32 ∷ []))
-    (prev_space a.marker.now a.text.now a.len c.requires (sym c.ends_with_emphasis.ensures ∙ c.if-not-ends_with_emphasis.false) (sym c.ends_with_byte.ensures ∙ c.if-ends_with_byte.true)) (short_done a.marker.now a.text.now a.len c.requires (length a.marker.now + 1) c.saturating_sub-n.result c.saturating_sub-n.ensures))
-    c.push_byte.ensures
+    let m = c.args.marker.now in let t = c.args.text.now in
+    let ended = ap (ends_with_emphasis m) (sym c.bytes.ensures) ∙ sym c.ends_with_emphasis.ensures ∙ c.if-not-ends_with_emphasis.false in
+    let blank = ap (ends_with (32 ∷ [])) (sym c.bytes-2.ensures) ∙ sym c.ends_with_byte.ensures ∙ c.if-ends_with_byte.true in
+    as_step (prev_space m (bytes t) ended blank) (next refl (as_done {f = cut (drop_end (length m + 1))} refl (short_done t.room.now t.len t.fits (length m + 1) c.saturating_sub-text.result c.saturating_sub-text.ensures)) c.push_byte.ensures)
 
 pub returns-else-ends_with_byte : goal.returns-else-ends_with_byte
 returns-else-ends_with_byte c =
-    let a = c.args in
-    owes_nothing
-    (owes_on (owes_all a.text.now a.len (try_trim_prev_emphasis_marker a.marker.now) c.requires refl) (cut (λ t. drop_end (length a.marker.now + 0) (take a.len a.text.now))) (push [])
-    (prev_plain a.marker.now a.text.now a.len c.requires (sym c.ends_with_emphasis.ensures ∙ c.if-not-ends_with_emphasis.false) (sym c.ends_with_byte.ensures ∙ c.if-ends_with_byte.false)) (short_done a.marker.now a.text.now a.len c.requires (length a.marker.now + 0) c.saturating_sub.result (omega (arith, c.saturating_sub.ensures))))
-    refl
+    let m = c.args.marker.now in let t = c.args.text.now in
+    let ended = ap (ends_with_emphasis m) (sym c.bytes.ensures) ∙ sym c.ends_with_emphasis.ensures ∙ c.if-not-ends_with_emphasis.false in
+    let blank = ap (ends_with (32 ∷ [])) (sym c.bytes-2.ensures) ∙ sym c.ends_with_byte.ensures ∙ c.if-ends_with_byte.false in
+    let n = c.saturating_sub-text-else-ends_with_byte.result in
+    as_step (prev_plain m (bytes t) ended blank)
+    (next refl (as_done {f = cut (drop_end (length m + 0))} refl (short_done t.room.now t.len t.fits (length m + 0) n (omega (arith, c.saturating_sub-text-else-ends_with_byte.ensures)))) (pushes_nothing _))

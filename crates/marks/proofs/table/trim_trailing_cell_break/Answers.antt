@@ -1,30 +1,35 @@
-use Rattle.std.proofs.Common.{◌-◌, ◌≤◌, sym, ◌∙◌, arith}
-use Rattle.std.proofs.Math.Seq.{length-take-le}
+use Rattle.std.proofs.Common.{◌≡◌, ◌-◌, ◌≤◌, refl, ap, sym, ◌∙◌, arith, length, take, take-take}
+use Rattle.std.proofs.Math.Seq.{length-take-le, take-length}
 use Rattle.marks.proofs.Leaves.{cell_long, breaks_end, breaks_on}
 use Rattle.marks.proofs.table.trim_trailing_cell_break.Goals as goal
 
-pub slice_bounds-trim_trailing_space-count : goal.slice_bounds-trim_trailing_space-count
-slice_bounds-trim_trailing_space-count c =
-    let n = c.loop-n.n in
-    omega (arith, cell_long _ (sym c.loop-n-test.ensures), length-take-le n c.args.s.now c.loop-n.invariant.within)
+pub loop-rest-init : goal.loop-rest-init
+loop-rest-init c = record { within = omega arith; front = take-length c.args.s.now; left = length c.args.s.now; enough = omega arith; is = refl }
 
-pub loop-n-smaller : goal.loop-n-smaller
-loop-n-smaller c =
-    let s = c.args.s.now in let n = c.loop-n.n in
-    omega (arith, cell_long _ (sym c.loop-n-test.ensures), length-take-le n s c.loop-n.invariant.within, c.trim_trailing_space-n.ensures.within, length-take-le (n - 4) s (omega arith))
+pub slice_bounds-front-count : goal.slice_bounds-front-count
+slice_bounds-front-count c = omega (arith, cell_long c.loop-rest.rest.now (sym c.loop-rest-test.ensures))
 
-pub loop-n-preserved : goal.loop-n-preserved
-loop-n-preserved c =
-    let s = c.args.s.now in let n = c.loop-n.n in let i = c.loop-n.invariant in
-    let long : 4 ≤ n = omega (arith, cell_long _ (sym c.loop-n-test.ensures), length-take-le n s i.within) in
-    let m = length-take-le (n - 4) s (omega arith) in record {
-      within = omega (arith, c.trim_trailing_space-n.ensures.within, m);
+pub loop-rest-smaller : goal.loop-rest-smaller
+loop-rest-smaller c =
+    let r = c.loop-rest.rest.now in let f = take (length r - 4) r in let m = c.trim_trailing_space.result in let w = c.trim_trailing_space.ensures.within in
+    omega (arith, cell_long r (sym c.loop-rest-test.ensures), w, length-take-le (length r - 4) r (omega arith), length-take-le m f w)
+
+pub loop-rest-preserved : goal.loop-rest-preserved
+loop-rest-preserved c =
+    let s = c.args.s.now in let i = c.loop-rest.invariant in
+    let r = c.loop-rest.rest.now in let f = take (length r - 4) r in let m = c.trim_trailing_space.result in let w = c.trim_trailing_space.ensures.within in
+    let l : length (take m f) ≡ m = length-take-le m f w in
+    let k : length f ≡ length r - 4 = length-take-le (length r - 4) r (omega arith) in
+    let four : 4 ≤ length r = cell_long r (sym c.loop-rest-test.ensures) in
+    let fits : m ≤ length r = omega (arith, w, k) in
+    let same : take m f ≡ take m s = take-take m (length r - 4) r (omega (arith, w, k)) ∙ ap (take m) (sym i.front) ∙ take-take m (length r) s fits in
+    record {
+      within = omega (arith, l, fits, i.within);
+      front = ap (λ j. take j s) l ∙ sym same;
       left = i.left - 1;
-      enough = omega (arith, c.trim_trailing_space-n.ensures.within, m);
-      is = i.is ∙ breaks_on s n c.trim_trailing_space-n.result i.left (omega arith) i.within (sym c.loop-n-test.ensures) c.trim_trailing_space-n.ensures;
+      enough = omega (arith, l, w, k, four, i.enough);
+      is = i.is ∙ breaks_on r m i.left (omega (arith, i.enough, four)) (sym c.loop-rest-test.ensures) c.trim_trailing_space.ensures;
     }
 
 pub returns : goal.returns
-returns c =
-    let i = c.loop-n.invariant in
-    record { within = i.within; is = sym (i.is ∙ breaks_end c.args.s.now c.loop-n.n i.left (sym c.loop-n-test.ensures)) }
+returns c = let i = c.loop-rest.invariant in record { within = i.within; is = i.front ∙ sym (i.is ∙ breaks_end c.loop-rest.rest.now i.left (sym c.loop-rest-test.ensures)) }
