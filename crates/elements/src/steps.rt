@@ -58,7 +58,10 @@ fn is_tight(tree: &Tree, i: usize, name: usize, opts: FormatOpts) -> bool
     requires { SomeElement tree.now.sheet.now tree.now.nodes.now i × (name ≡ name_at tree.now.sheet.now (place_at tree.now.nodes.now i)) }
     ensures { (name : Bytes) (attrs : List Attr) (kids : Forest) → ElementAt tree.now.sheet.now tree.now.nodes.now i name attrs kids → result ≡ def.is_tight opts (tag_of name) attrs kids }
 {
-    (opts.list_item & is_list(name)) && can_interrupt_paragraph(tree, i)
+    if !(opts.list_item & is_list(name)) {
+        return false;
+    }
+    can_interrupt_paragraph(tree, i)
 }
 
 // Line breaks until the text ends with one, or with two.
@@ -233,5 +236,8 @@ pub fn push_emphasis_by(
     if scope.contains(scope_of(name)) {
         return push_emphasis(text, n, b"");
     }
-    push_emphasis(text, n, if is_strong(name) { b"**" } else { b"*" })
+    if is_strong(name) {
+        return push_emphasis(text, n, b"**");
+    }
+    push_emphasis(text, n, b"*")
 }
