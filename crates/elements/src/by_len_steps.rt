@@ -17,13 +17,7 @@ use text::buffer::Wrote;
 use text::text::Text;
 use tree::nodes::Tree;
 
-pub fn opened(
-    tree: &Tree,
-    text: &mut [u8],
-    len: usize,
-    i: usize,
-    opts: FormatOpts,
-) -> Wrote
+pub fn opened(tree: &Tree, text: &mut [u8], len: usize, i: usize, opts: FormatOpts) -> Wrote
     requires { SomeElement tree.now.sheet.now tree.now.nodes.now i × (len ≤ length text.old) }
     ensures { (name : Bytes) (attrs : List Attr) (kids : Forest) → ElementAt tree.now.sheet.now tree.now.nodes.now i name attrs kids → Writes (length text.old) text.new result (def.opened opts (tag_of name) attrs kids (take len text.old)) }
 {

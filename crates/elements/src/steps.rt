@@ -109,12 +109,7 @@ fn push_opening(text: &mut Text, name: usize, opts: FormatOpts) -> Result<(), Fu
 }
 
 // SerializeOp::Open of an element, before its writer or its children.
-pub fn opened(
-    tree: &Tree,
-    text: &mut Text,
-    i: usize,
-    opts: FormatOpts,
-) -> Result<(), Full>
+pub fn opened(tree: &Tree, text: &mut Text, i: usize, opts: FormatOpts) -> Result<(), Full>
     requires { SomeElement tree.now.sheet.now tree.now.nodes.now i }
     ensures { (name : Bytes) (attrs : List Attr) (kids : Forest) → ElementAt tree.now.sheet.now tree.now.nodes.now i name attrs kids → WritesTo text.old text.new result (def.opened opts (tag_of name) attrs kids) }
 {

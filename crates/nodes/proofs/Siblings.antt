@@ -78,7 +78,6 @@ module _ {M : Type 0} {v : Forest → M} {sh ns : Bytes} {from to : ℕ} {s : it
   pub turn_none : s.end ≤ s.next → to ≤ s.next
   turn_none g = omega (arith, g, p.over.end_is)
 
-
 -- ---- the node at hand, and what stands in it; its end is d
 
 module _ (sh ns : Bytes) (parent i e : ℕ) (f : Forest) (h : Rep sh ns parent i e f) (l : i < e) where

@@ -29,13 +29,11 @@ ghost use Rattle.tables.specs.TableSteps.{rows_texts, RowWrites, RowsWrites};
 ghost use Rattle.serializer.specs.Options as def;
 ghost use Rattle.serializer.specs.Writers.{self_at, Ready, Fits, FitsIn, WritesForest, WritesElement, progress_of, GoesForest, GoesElement};
 
-use elements::code::write_code;
 use elements::by_len_steps::{
     closed, due_line, end_flow, end_list, opened, push_emphasis_by, push_heading_prefix,
 };
-use elements::item_steps::{
-    child_opts, renumbered,
-};
+use elements::code::write_code;
+use elements::item_steps::{child_opts, renumbered};
 use elements::link::{push_link, push_text_link};
 use elements::list_nodes::{
     has_blocks, is_list, kind_of, node_is_block_wrapper, node_is_list_item_block,
@@ -336,7 +334,14 @@ fn link(
         );
     }
     let plain = fresh.include_node().skip_escape();
-    let n = write_text(&Tree { sheet, nodes }, &mut text[len..], 0, at + 1, end, plain)?;
+    let n = write_text(
+        &Tree { sheet, nodes },
+        &mut text[len..],
+        0,
+        at + 1,
+        end,
+        plain,
+    )?;
     if n == 0 {
         body(sheet, skip, nodes, text, len, at, dest, fresh, levels)
     } else {
@@ -364,16 +369,7 @@ fn body(
 {
     let place = Tree { sheet, nodes }.node_place(at);
     let bits = packed(opts);
-    let n = kids(
-        sheet,
-        skip,
-        nodes,
-        &mut text[len..],
-        0,
-        at,
-        bits,
-        levels,
-    )?;
+    let n = kids(sheet, skip, nodes, &mut text[len..], 0, at, bits, levels)?;
     push_link(sheet, text, len, n, place, dest, false, opts)
 }
 
@@ -454,17 +450,7 @@ fn item(
     let opts = ctx.opts;
     if !li {
         let inner = opts.fresh().include_node();
-        return write(
-            sheet,
-            skip,
-            nodes,
-            text,
-            len,
-            c,
-            to,
-            packed(inner),
-            levels,
-        );
+        return write(sheet, skip, nodes, text, len, c, to, packed(inner), levels);
     }
     if has_blocks(&Tree { sheet, nodes }, c + 1, to) {
         return blocks(sheet, skip, nodes, text, len, c, ctx, levels);
@@ -580,17 +566,7 @@ fn child(
     }
     if node_is_block_wrapper(&Tree { sheet, nodes }, c) {
         let end = Tree { sheet, nodes }.node_end(c);
-        return children(
-            sheet,
-            skip,
-            nodes,
-            text,
-            c + 1,
-            end,
-            item,
-            before,
-            levels,
-        );
+        return children(sheet, skip, nodes, text, c + 1, end, item, before, levels);
     }
     let blank = is_blank_text(sheet, place);
     alone(sheet, skip, nodes, text, c, blank, item, before, levels)
@@ -624,9 +600,7 @@ fn alone(
     if node_is_list_item_block(name) {
         return block(sheet, skip, nodes, text, c, name, item, going, levels);
     }
-    let m = inline(
-        sheet, skip, nodes, text, n, c, name, blank, item, levels,
-    )?;
+    let m = inline(sheet, skip, nodes, text, n, c, name, blank, item, levels)?;
     Ok(Going { len: m, ..going })
 }
 
@@ -652,17 +626,7 @@ fn inline(
     let opts = item.ctx.opts;
     let inner = child_opts(name, opts);
     let n = push_inline_lead(text, len, item, blank)?;
-    write(
-        sheet,
-        skip,
-        nodes,
-        text,
-        n,
-        c,
-        to,
-        packed(inner),
-        levels,
-    )
+    write(sheet, skip, nodes, text, n, c, to, packed(inner), levels)
 }
 
 // A block of an item.

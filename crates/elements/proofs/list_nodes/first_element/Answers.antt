@@ -6,13 +6,15 @@ use Rattle.tree.specs.Memory.{place_at}
 use Rattle.tree.specs.Represents.{Rep}
 use Rattle.tree.proofs.Firsts.{ended}
 use Rattle.nodes.specs.FirstElement.{first_element}
-use Rattle.nodes.proofs.Siblings.{left_on, left_node, walks_all, turn_before, turn_left, turn_on, turn_none}
+use Rattle.nodes.proofs.Siblings.{Walks, left_on, left_node, walks_all, turn_before, turn_left, turn_on, turn_none}
 use Rattle.nodes.proofs.Interrupts.{element_first, element_on}
 use native.Mathlib.Omega.{arith}
 use Rattle.elements.proofs.list_nodes.first_element.Goals as goal
 
 pub loop-i-init : goal.loop-i-init
-loop-i-init c = walks_all first_element c.requires c.siblings.ensures
+loop-i-init c =
+    subst (Walks first_element c.args.tree.now.sheet.now c.args.tree.now.nodes.now c.args.from c.args.to) (sym c.into_iter-i-iterator.ensures.into_iter_gives)
+    (walks_all first_element c.requires c.siblings-i-items.ensures)
 
 pub node_place-requires : goal.node_place-requires
 node_place-requires c =
@@ -27,15 +29,18 @@ pub returns-then-tag_at-eq-OPEN : goal.returns-then-tag_at-eq-OPEN
 returns-then-tag_at-eq-OPEN c =
     let w = c.loop-i.invariant in let s = c.in-Some.ensures.steps in
     let sh = c.args.tree.now.sheet.now in let ns = c.args.tree.now.nodes.now in
-    let t : get_or sh (place_at ns _) 0 ≡ 1 = sym (c.tag_at.ensures ∙ ap (λ (p : ℕ). get_or sh p 0) c.node_place.ensures) ∙ c.if-tag_at-eq-OPEN.true in
-    (turn_before w s, t, λ parent f h. let q = (turn_left w s).goes parent f h in
-    subst (λ (g : Forest). Rep sh ns parent _ c.args.to g) (sym (q.2 ∙ element_first sh ns parent _ c.args.to q.0 q.1 (turn_before w s) t)) q.1)
+    let t : get_or sh (place_at ns c.in-Some.i) 0 ≡ 1 = sym (c.tag_at.ensures ∙ ap (λ (p : ℕ). get_or sh p 0) c.node_place.ensures) ∙ c.if-tag_at-eq-OPEN.true in (
+      turn_before w s,
+      t,
+      λ parent f h. let q = (turn_left w s).goes parent f h in
+          subst (λ (g : Forest). Rep sh ns parent c.in-Some.i c.args.to g) (sym (q.2 ∙ element_first sh ns parent c.in-Some.i c.args.to q.0 q.1 (turn_before w s) t)) q.1,
+    )
 
 pub loop-i-preserved : goal.loop-i-preserved
 loop-i-preserved c =
     let w = c.loop-i.invariant in let s = c.in-Some.ensures.steps in
     let sh = c.args.tree.now.sheet.now in let ns = c.args.tree.now.nodes.now in
-    turn_on w s (left_on (turn_left w s) (turn_before w s) (λ parent g h. element_on sh ns parent _ c.args.to g h
+    turn_on w s (left_on (turn_left w s) (turn_before w s) (λ parent g h. element_on sh ns parent c.in-Some.i c.args.to g h
     (λ q. c.if-tag_at-eq-OPEN.false (c.tag_at.ensures ∙ (ap (λ (p : ℕ). get_or sh p 0) c.node_place.ensures ∙ q)))))
 
 pub returns : goal.returns

@@ -1,12 +1,14 @@
-use mathlib.Core.Path.{refl, ap, ◌∙◌}
+use mathlib.Core.Path.{refl, ap, ◌∙◌, sym, subst}
 use mathlib.Core.Bool.{Bool, true, false, ◌&&◌}
 use Rattle.spec.specs.Md.Elements.List.{only_blocks}
 use Rattle.tree.specs.Represents.{rest_of}
-use Rattle.nodes.proofs.Siblings.{left_on, left_at, left_node, left_none, walks_all, turn_before, turn_left, turn_on, turn_none}
+use Rattle.nodes.proofs.Siblings.{Walks, left_on, left_at, left_node, left_none, walks_all, turn_before, turn_left, turn_on, turn_none}
 use Rattle.elements.proofs.list_nodes.only_blocks.Goals as goal
 
 pub loop-i-init : goal.loop-i-init
-loop-i-init c = walks_all only_blocks c.requires c.siblings.ensures
+loop-i-init c =
+    subst (Walks only_blocks c.args.tree.now.sheet.now c.args.tree.now.nodes.now c.args.from c.args.to) (sym c.into_iter-i-iterator.ensures.into_iter_gives)
+    (walks_all only_blocks c.requires c.siblings-i-items.ensures)
 
 pub is_only_block-requires : goal.is_only_block-requires
 is_only_block-requires c =
