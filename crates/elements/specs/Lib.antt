@@ -7,3 +7,4 @@ pub mod Edges
 pub mod Languages
 pub mod JoinedWords
 pub mod FirstElement
+pub mod PreStep

@@ -7,7 +7,7 @@ ghost use Rattle.spec.specs.Md.Ctx.{advance_ol_number};
 ghost use Rattle.spec.specs.Md.Elements.List.{begin_item};
 ghost use Rattle.text.specs.Writes.{Writes};
 
-use lists_links::list::begin_item;
+use lists_links::by_len::begin_item;
 use spec::ctx::ListContext;
 use text::buffer::Wrote;
 

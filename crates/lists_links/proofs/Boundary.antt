@@ -1,27 +1,63 @@
 -- Where characters begin. Assumes nothing.
-use Prim.Native.Nat.{ℕ, zero, suc, ◌-◌, ◌≤◌, ◌<◌}
-use mathlib.Core.Path.{◌≡◌, refl, ap}
-use mathlib.Core.Bool.{true, false}
-use mathlib.Core.List.{List}
+use Prim.Native.Nat.{ℕ, zero, suc, ◌+◌, ◌≤◌, ◌<◌}
+use mathlib.Core.Path.{◌≡◌, refl, sym, ap, ◌∙◌}
+use mathlib.Core.Bool.{Bool, true, false}
+use mathlib.Core.List.{List, [], ◌∷◌}
 use native.Mathlib.Omega.{arith}
-use lib.ListN.{length, get_or, get_or-eq_default}
-use Rattle.spec.specs.Md.Elements.List.{continuation, boundary}
+use borrow.Author.Tests.{leb-true, leb-false}
+use lib.ListN.{length, take, get_or, get_or-eq_default}
+use Rattle.std.proofs.lemmas.List.{get_or-take}
+use lib.Dec.{leb}
+use lib.Seq.{length-take-le, take_all}
+use Rattle.spec.specs.Md.Elements.List.{continuation, boundary, truncate}
+use Rattle.text.specs.Trimmed.{Trimmed}
 
-pub none_behind : (t : List ℕ) (k : ℕ) → length t ≤ k → continuation (get_or t k 0) ≡ false
+none_behind : (t : List ℕ) (k : ℕ) → length t ≤ k → continuation (get_or t k 0) ≡ false
 unfolding continuation
 none_behind t k h = ap continuation (get_or-eq_default t 0 h)
 
-pub boundary_here : (t : List ℕ) (k : ℕ) → 0 < k → continuation (get_or t k 0) ≡ false → boundary k t ≡ k
+-- k is the last place up to n at which a character begins
+pub boundary_at : (t : List ℕ) (n k : ℕ) → k ≤ n → continuation (get_or t k 0) ≡ false → ((j : ℕ) → k < j → j ≤ n → continuation (get_or t j 0) ≡ true) → boundary n t ≡ k
 unfolding boundary
-boundary_here t zero h e = absurd (omega arith)
-boundary_here t (suc k) h e = rw e
+boundary_at t zero k h e after = omega arith
+boundary_at t (suc n) k h e after = go (leb k n) refl (λ l. boundary_at t n k l e (λ j a b. after j a (omega arith)))
+  where
+    go : (r : Bool) → leb k n ≡ r → (k ≤ n → boundary n t ≡ k) → boundary (suc n) t ≡ k
+    go true q earlier = rw (after (suc n) (omega (arith, leb-true k n q)) (omega arith)) (earlier (leb-true k n q))
+    go false q earlier =
+        let l : k ≡ suc n = omega (arith, leb-false k n q) in
+        rw (ap (λ (j : ℕ). continuation (get_or t j 0)) (sym l) ∙ e) (sym l)
 
-pub boundary_on : (t : List ℕ) (k : ℕ) → 0 < k → continuation (get_or t k 0) ≡ true → boundary k t ≡ boundary (k - 1) t
-unfolding boundary
-boundary_on t zero h e = absurd (omega arith)
-boundary_on t (suc k) h e = let q : suc k - 1 ≡ k = omega arith in rw (e, q)
-
-pub boundary_none : (t : List ℕ) (k : ℕ) → k ≤ 0 → boundary k t ≡ k
+pub boundary_none : (t : List ℕ) (n : ℕ) → ((j : ℕ) → j ≤ n → continuation (get_or t j 0) ≡ true) → boundary n t ≡ 0
 unfolding boundary
 boundary_none t zero h = refl
-boundary_none t (suc k) h = absurd (omega arith)
+boundary_none t (suc n) h = rw (h (suc n) (omega arith)) (boundary_none t n (λ j l. h j (omega arith)))
+
+pub truncate_all : (t : List ℕ) (n : ℕ) → length t ≤ n → truncate n t ≡ t
+unfolding truncate boundary
+truncate_all [] zero h = refl
+truncate_all (x ∷ t) zero h = absurd (omega arith)
+truncate_all t (suc n) h = rw (none_behind t (suc n) h) (take_all (suc n) t h)
+
+-- the places are those of the bytes up to n
+module _ (t : List ℕ) (n : ℕ) (h : n < length t) where
+  front_at : (j : ℕ) → j ≤ n → get_or (take (n + 1) t) j 0 ≡ get_or t j 0
+  front_at j l = get_or-take (n + 1) t j 0 (omega arith)
+
+  front_length : length (take (n + 1) t) ≡ n + 1
+  front_length = length-take-le (n + 1) t (omega arith)
+
+  pub truncated_at : (k : ℕ) → k < length (take (n + 1) t) → continuation (get_or (take (n + 1) t) k 0) ≡ false
+      → ((j : ℕ) → k + 1 ≤ j → j < length (take (n + 1) t) → continuation (get_or (take (n + 1) t) j 0) ≡ true) → Trimmed t k (truncate n t)
+  unfolding truncate
+  truncated_at k i e after =
+      let l : k ≤ n = omega (arith, front_length) in
+      let b : boundary n t ≡ k =
+      boundary_at t n k l (ap continuation (sym (front_at k l)) ∙ e) (λ j a b. ap continuation (sym (front_at j b)) ∙ after j (omega arith) (omega (arith, front_length))) in
+      record { within = omega arith; is = ap (λ (j : ℕ). take j t) (sym b) }
+
+  pub truncated_none : ((j : ℕ) → j < length (take (n + 1) t) → continuation (get_or (take (n + 1) t) j 0) ≡ true) → Trimmed t 0 (truncate n t)
+  unfolding truncate
+  truncated_none all =
+      let b : boundary n t ≡ 0 = boundary_none t n (λ j l. ap continuation (sym (front_at j l)) ∙ all j (omega (arith, front_length))) in
+      record { within = omega arith; is = ap (λ (j : ℕ). take j t) (sym b) }

@@ -1,14 +1,13 @@
 -- The blocks of a list item. Assumes nothing.
-use Prim.Native.Nat.{ℕ, zero, suc, ◌+◌, ◌-◌, ◌≤◌, ◌<◌}
+use Prim.Native.Nat.{ℕ, ◌-◌, ◌≤◌, ◌<◌}
 use mathlib.Core.Path.{◌≡◌, refl, sym, ap, ◌∙◌}
 use mathlib.Core.Bool.{Bool, true, false, cond, ◌&&◌}
 use mathlib.Core.List.{List, [], ◌∷◌, ◌++◌, append_assoc}
 use native.Mathlib.Omega.{arith}
-use native.Mathlib.Numerals.{add-one}
 use borrow.Author.Tests.{eq-eqb}
 use lib.Dec.{eqb}
 use lib.ListN.{length, take, drop, get_or, replicate, length-drop, length-replicate}
-use lib.Seq.{length-take-le, take_all, take-take, drop-drop, slice, slice-cons}
+use lib.Seq.{take-take}
 use Rattle.spec.specs.Bytes.{blank, null, same, every, ends_with, one, parts, cut_at, split, trim_end_matches, trim_start_matches}
 use Rattle.spec.specs.Out.{Out, and_then, push, beside}
 use Rattle.spec.specs.Md.Ctx.{break_of}
@@ -20,19 +19,8 @@ use Rattle.text.specs.Writes.{Says, Writes}
 use Rattle.text.specs.Writes.{Wrote}
 use Rattle.std.specs.Prelude.{Ok, Err}
 use Rattle.lists_links.specs.declared.list.Item.{Item}
-use Rattle.lists_links.proofs.Boundary.{none_behind, boundary_here}
 use Rattle.text.proofs.Reading.{ends_short, rest_part}
-use Rattle.text.proofs.Sourcing.{part_is, part_none}
 use Rattle.text.proofs.Writing.{push_both, reaches}
-
--- ---- cuts
-
-pub truncate_all : (t : List ℕ) (n : ℕ) → length t ≤ n → def.truncate n t ≡ t
-unfolding def.truncate def.boundary
-truncate_all [] zero h = refl
-truncate_all (x ∷ t) zero h = absurd (omega arith)
-truncate_all t (suc n) h =
-    ap (λ (k : ℕ). take k t) (boundary_here t (suc n) (omega arith) (none_behind t (suc n) h)) ∙ take_all (suc n) t h
 
 -- ---- the place where a block can begin
 
@@ -76,46 +64,37 @@ lines_on item b s = go (eqb b 10)
     go true = sym (append_assoc (break_of item.ctx) (cond (null r.0) [] item.indent) (r.0 ++ def.more_lines item r.1))
     go false = refl
 
-pub lines_turn : (item : def.Item) (s : List ℕ) (i to b : ℕ) (e : Bool) (t : List ℕ) → i < to → to ≤ length s → b ≡ get_or s i 0 → e ≡ null (parts def.is_line_end (slice (i + 1) to s)).0
-    → push (def.block_lines item (split def.is_line_end (slice i to s))) t ≡ and_then (push (line_byte item e b) t) (push (def.block_lines item (split def.is_line_end (slice (i + 1) to s))))
-lines_turn item s i to b e t h k p q =
-    let c : slice i to s ≡ b ∷ slice (i + 1) to s = slice-cons i to s 0 h k ∙ ap (λ (j : ℕ). get_or s i 0 ∷ slice j to s) (sym (add-one i)) ∙ ap (λ (x : ℕ). x ∷ slice (i + 1) to s) (sym p) in
-    let w : List ℕ = def.block_lines item (split def.is_line_end (slice (i + 1) to s)) in
-    ap (λ (x : List ℕ). push (def.block_lines item (split def.is_line_end x)) t) c
-    ∙ ap (λ (x : List ℕ). push x t) (lines_on item b (slice (i + 1) to s) ∙ ap (λ (z : Bool). line_byte item z b ++ w) (sym q))
-    ∙ push_both (line_byte item e b) w t
-
-pub lines_end : (item : def.Item) (s : List ℕ) (i to : ℕ) (t : List ℕ) → to ≤ i → push (def.block_lines item (split def.is_line_end (slice i to s))) t ≡ push [] t
-unfolding def.block_lines def.more_lines split parts
-lines_end item s i to t h = ap (λ (x : List ℕ). push (def.block_lines item (split def.is_line_end x)) t) (part_none i to s h)
-
-pub line_none : (s : List ℕ) (i to : ℕ) → to ≤ i → null (parts def.is_line_end (slice i to s)).0 ≡ true
+pub line_none : (s : List ℕ) → length s < 1 → null (parts def.is_line_end s).0 ≡ true
 unfolding null parts
-line_none s i to h = ap (λ (x : List ℕ). null (parts def.is_line_end x).0) (part_none i to s h)
+line_none [] h = refl
+line_none (b ∷ s) h = absurd (omega arith)
 
-pub line_some : (s : List ℕ) (i to : ℕ) → i < to → to ≤ length s → null (parts def.is_line_end (slice i to s)).0 ≡ eqb (get_or s i 0) 10
+pub line_first : (s : List ℕ) → 1 ≤ length s → null (parts def.is_line_end s).0 ≡ eqb (get_or s 0 0) 10
 unfolding null parts cut_at def.is_line_end
-line_some s i to h k = ap (λ (x : List ℕ). null (parts def.is_line_end x).0) (slice-cons i to s 0 h k) ∙ go (eqb (get_or s i 0) 10)
+line_first [] h = absurd (omega arith)
+line_first (b ∷ s) h = go (eqb b 10)
   where
-    go : (t : Bool) → null (cut_at t (get_or s i 0) (parts def.is_line_end (slice (suc i) to s))).0 ≡ t
+    go : (t : Bool) → null (cut_at t b (parts def.is_line_end s)).0 ≡ t
     go true = refl
     go false = refl
 
--- ---- a block behind the room
+pub lines_turn : (item : def.Item) (s t : List ℕ) (e : Bool) → 1 ≤ length s → e ≡ null (parts def.is_line_end (drop 1 s)).0
+    → push (def.block_lines item (split def.is_line_end s)) t ≡ and_then (push (line_byte item e (get_or s 0 0)) t) (push (def.block_lines item (split def.is_line_end (drop 1 s))))
+lines_turn item [] t e h q = absurd (omega arith)
+lines_turn item (b ∷ s) t e h q =
+    ap (λ (x : List ℕ). push x t) (lines_on item b s ∙ ap (λ (z : Bool). line_byte item z b ++ def.block_lines item (split def.is_line_end s)) (sym q))
+    ∙ push_both (line_byte item e b) (def.block_lines item (split def.is_line_end s)) t
 
-module _ (s : List ℕ) (room k j : ℕ) (h : room ≤ length s) (p : Skipped (take (length s - room) (drop room s)) k (trim_start_matches (λ b. eqb b 10) (take (length s - room) (drop room s)))) where
-  pub block_from : room + k ≤ length s
-  block_from = omega (arith, p.within, length-take-le (length s - room) (drop room s) (omega (arith, length-drop room s)))
+pub lines_end : (item : def.Item) (s t : List ℕ) → length s < 1 → push (def.block_lines item (split def.is_line_end s)) t ≡ push [] t
+unfolding def.block_lines def.more_lines split parts
+lines_end item [] t h = refl
+lines_end item (b ∷ s) t h = absurd (omega arith)
 
-  module _ (q : Trimmed (take (length s - (room + k)) (drop (room + k) s)) j (trim_end_matches (one (λ b. eqb b 10)) (take (length s - (room + k)) (drop (room + k) s)))) where
-    pub block_is : slice (room + k) (room + k + j) s ≡ block_text (drop room s)
-    unfolding def.is_line_end
-    block_is =
-        let z : room + k + j - (room + k) ≡ j = omega arith in
-        let a : drop (room + k) s ≡ trim_start_matches (λ b. eqb b 10) (drop room s) =
-        sym (drop-drop k room s) ∙ ap (drop k) (sym (rest_part room s)) ∙ p.is ∙ ap (trim_start_matches (λ b. eqb b 10)) (rest_part room s) in
-        sym (part_is (room + k) (room + k + j) s) ∙ ap (λ (i : ℕ). take i (drop (room + k) s)) z ∙ ap (take j) (sym (rest_part (room + k) s)) ∙ q.is
-        ∙ ap (trim_end_matches (one (λ b. eqb b 10))) (rest_part (room + k) s ∙ a)
+-- the block without the line ends around it, as the two trims cut it out
+pub block_is : (s : List ℕ) (k j : ℕ) → Skipped s k (trim_start_matches (λ b. eqb b 10) s) → Trimmed (take (length s - k) (drop k s)) j (trim_end_matches (one (λ b. eqb b 10)) (take (length s - k) (drop k s)))
+    → take j (take (length s - k) (drop k s)) ≡ block_text s
+unfolding def.is_line_end
+block_is s k j p q = q.is ∙ ap (trim_end_matches (one (λ b. eqb b 10))) (rest_part k s ∙ p.is)
 
 -- ---- what is written before the block counts with it
 

@@ -7,3 +7,4 @@ pub mod ItemLines
 pub mod Values
 pub mod Balance
 pub mod ItemLeads
+pub mod Titles

@@ -1,56 +1,41 @@
 // What ctx.rs hands over as strings, appended.
-ghost use Rattle.std.specs.Prelude.{◌≡◌, ◌≤◌, ◌++◌, length, take};
+ghost use Rattle.std.specs.Prelude.{◌≡◌, ◌≤◌, ◌++◌, length};
 ghost use Rattle.spec.specs.Bytes.{ascii, decimal};
 ghost use Rattle.spec.specs.Out.{push};
 ghost use Rattle.spec.specs.Md.Ctx as def;
-ghost use Rattle.text.specs.Writes.{Writes};
+ghost use Rattle.text.specs.Texts.{WritesTo};
 
 use spec::ctx::{ListContext, ListKind, digits};
-use text::buffer::Wrote;
-use text::by_len::{push_all, push_byte};
+use text::buffer::Full;
+use text::text::Text;
 
 // Appends n in decimal.
-fn push_decimal(text: &mut [u8], len: usize, n: u32) -> Wrote
-    requires { len ≤ length text.old }
-    ensures { Writes (length text.old) text.new result (push (decimal n) (take len text.old)) }
+fn push_decimal(text: &mut Text, n: u32) -> Result<(), Full>
+    ensures { WritesTo text.old text.new result (push (decimal n)) }
 {
-    let last = b'0' + (n % 10) as u8;
-    if n < 10 {
-        return push_byte(text, len, last);
+    if 10 <= n {
+        push_decimal(text, n / 10)?;
     }
-    let m = push_decimal(text, len, n / 10)?;
-    push_byte(text, m, last)
-}
-
-// Appends the marker of an item of a bullet list.
-fn push_ul_prefix(text: &mut [u8], len: usize, ctx: ListContext) -> Wrote
-    requires { len ≤ length text.old }
-    ensures { Writes (length text.old) text.new result (push (def.ul_prefix ctx) (take len text.old)) }
-{
-    if ctx.opts.table_cell {
-        push_all(text, len, b"+ ")
-    } else {
-        push_all(text, len, b"- ")
-    }
+    text.push_byte(b'0' + (n % 10) as u8)
 }
 
 // Appends an item's number with its dot.
-fn push_ol_prefix(text: &mut [u8], len: usize, n: u32) -> Wrote
-    requires { len ≤ length text.old }
-    ensures { Writes (length text.old) text.new result (push (decimal n ++ ascii ". ") (take len text.old)) }
+#[tactic(auto, using(text::proofs::Texts::pushes_both, text::proofs::Texts::pushes_stop))]
+fn push_ol_prefix(text: &mut Text, n: u32) -> Result<(), Full>
+    ensures { WritesTo text.old text.new result (push (decimal n ++ ascii ". ")) }
 {
-    let m = push_decimal(text, len, n)?;
-    push_all(text, m, b". ")
+    push_decimal(text, n)?;
+    text.push_all(b". ")
 }
 
 // Appends the marker of an item.
-pub fn push_prefix(text: &mut [u8], len: usize, ctx: ListContext) -> Wrote
-    requires { len ≤ length text.old }
-    ensures { Writes (length text.old) text.new result (push (def.prefix ctx) (take len text.old)) }
+#[tactic(auto, unfolding(spec::specs::Md::Ctx::prefix, spec::specs::Md::Ctx::prefix_of, spec::specs::Md::Ctx::ul_prefix))]
+pub fn push_prefix(text: &mut Text, ctx: ListContext) -> Result<(), Full>
+    ensures { WritesTo text.old text.new result (push (def.prefix ctx)) }
 {
     match ctx.kind {
-        ListKind::Ul => push_ul_prefix(text, len, ctx),
-        ListKind::Ol(n) => push_ol_prefix(text, len, n),
+        ListKind::Ul => text.push_all(if ctx.opts.table_cell { b"+ " } else { b"- " }),
+        ListKind::Ol(n) => push_ol_prefix(text, n),
     }
 }
 

@@ -1,6 +1,6 @@
 // elements/image.rs. The element opens at `place` of the sheet; a value is a part of the sheet.
 ghost use Rattle.std.proofs.Math.Option.{some};
-ghost use Rattle.std.specs.Prelude.{◌+◌, ◌≤◌, length, take};
+ghost use Rattle.std.specs.Prelude.{◌+◌, ◌≤◌, length};
 ghost use Rattle.spec.specs.Bytes.{ascii, or_else};
 ghost use Rattle.spec.specs.Tree.{attr};
 ghost use Rattle.spec.specs.Md.Ctx.{new};
@@ -8,14 +8,13 @@ ghost use Rattle.spec.specs.Md.TextUtils.{push_normalized_text};
 ghost use Rattle.spec.specs.Md.Elements.Image as def;
 ghost use Rattle.tree.specs.Attributes.{Valued};
 ghost use Rattle.tree.specs.Represents.{attrs_behind};
-ghost use Rattle.text.specs.Writes.{Writes};
+ghost use Rattle.text.specs.Texts.{WritesTo};
 
 use crate::link::push_link_end;
-use normalized::by_len::push_normalized_text;
-use spec::ctx::FormatOpts;
-use text::buffer::{Wrote, trim_end_matches, trim_start_matches};
-use text::by_len::push_all;
+use crate::title::push_normalized;
+use text::buffer::{Full, trim_end_matches, trim_start_matches};
 use text::class::{Black, Only, White};
+use text::text::Text;
 use text::white_space::trim_end;
 use tree::attributes::attribute;
 
@@ -72,33 +71,32 @@ fn source(sheet: &[u8], place: usize) -> Option<&[u8]>
 }
 
 // Appends the alternative text, if there is one.
-fn push_alt(text: &mut [u8], len: usize, sheet: &[u8], place: usize) -> Wrote
-    requires { (len ≤ length text.old) × (place + 3 ≤ length sheet.now) }
-    ensures { Writes (length text.old) text.new result (def.if_some (attr (ascii "alt") (attrs_behind sheet.now place)) (λ alt. push_normalized_text alt new) (take len text.old)) }
+fn push_alt(text: &mut Text, sheet: &[u8], place: usize) -> Result<(), Full>
+    requires { place + 3 ≤ length sheet.now }
+    ensures { WritesTo text.old text.new result (def.if_some (attr (ascii "alt") (attrs_behind sheet.now place)) (λ alt. push_normalized_text alt new)) }
 {
-    let opts = FormatOpts::new();
     match attribute(sheet, place, b"alt") {
-        Some(alt) => push_normalized_text(text, len, alt, opts),
-        None => Ok(len),
+        Some(alt) => push_normalized(text, alt),
+        None => Ok(()),
     }
 }
 
 // Appends an image with this source.
-fn push_image(text: &mut [u8], len: usize, sheet: &[u8], place: usize, source: &[u8]) -> Wrote
-    requires { (len ≤ length text.old) × (place + 3 ≤ length sheet.now) × (length source.now ≤ 1048576) }
-    ensures { Writes (length text.old) text.new result (def.image_of (attrs_behind sheet.now place) source.now (take len text.old)) }
+fn push_image(text: &mut Text, sheet: &[u8], place: usize, source: &[u8]) -> Result<(), Full>
+    requires { (place + 3 ≤ length sheet.now) × (length source.now ≤ 1048576) }
+    ensures { WritesTo text.old text.new result (def.image_of (attrs_behind sheet.now place) source.now) }
 {
-    let n = push_all(text, len, b"![")?;
-    let m = push_alt(text, n, sheet, place)?;
-    push_link_end(text, m, sheet, place, source)
+    text.push_all(b"![")?;
+    push_alt(text, sheet, place)?;
+    push_link_end(text, sheet, place, source)
 }
 
-pub fn write_img(text: &mut [u8], len: usize, sheet: &[u8], place: usize) -> Wrote
-    requires { (len ≤ length text.old) × (place + 3 ≤ length sheet.now) × (length sheet.now ≤ 1048576) }
-    ensures { Writes (length text.old) text.new result (def.write_img (attrs_behind sheet.now place) (take len text.old)) }
+pub fn write_img(text: &mut Text, sheet: &[u8], place: usize) -> Result<(), Full>
+    requires { (place + 3 ≤ length sheet.now) × (length sheet.now ≤ 1048576) }
+    ensures { WritesTo text.old text.new result (def.write_img (attrs_behind sheet.now place)) }
 {
     match source(sheet, place) {
-        Some(source) => push_image(text, len, sheet, place, source),
-        None => Ok(len),
+        Some(source) => push_image(text, sheet, place, source),
+        None => Ok(()),
     }
 }

@@ -2,6 +2,7 @@
 
 #![tactic(auto)]
 
+pub mod by_len;
 pub mod ctx;
 pub mod image;
 pub mod link;

@@ -1,38 +1,28 @@
 // write_list_item_indented of elements/list.rs: a block that is written from column zero is appended line by line, indented.
-ghost use Rattle.std.specs.Prelude.{◌≡◌, ◌+◌, ◌≤◌, max, length, take, drop, get_or};
-ghost use Rattle.std.proofs.Math.Seq.{slice};
+ghost use Rattle.std.specs.Prelude.{◌≡◌, ◌+◌, ◌≤◌, max, length, take, drop};
 ghost use Rattle.spec.specs.Bytes.{null, parts, split, trim_end};
 ghost use Rattle.spec.specs.Out.{push};
 ghost use Rattle.spec.specs.Md.Elements.List as def;
-ghost use Rattle.lists_links.specs.Items.{item_of, line_byte, block_text, indented_block};
+ghost use Rattle.lists_links.specs.Items.{item_of, line_byte, block_text, own_block, indented_block};
 ghost use Rattle.text.specs.Source.{WritesIn};
+ghost use Rattle.text.specs.Texts.{bytes, WritesTo};
 ghost use Rattle.text.specs.Trimmed.{Trimmed};
-ghost use Rattle.text.specs.Writes.{Writes};
 
 use crate::list::{Item, push_line_start};
-use normalized::by_len::push_linebreak;
-use text::buffer::{Wrote, all_in, ends_with_byte, lift, trim_end_matches, trim_start_matches};
-use text::by_len::push_byte;
+use normalized::text_utils::push_linebreak;
+use text::buffer::{
+    Full, Wrote, all_in, ends_with_byte, lift, trim_end_matches, trim_start_matches,
+};
 use text::class::{Blank, Only};
+use text::text::Text;
 use text::white_space::trim_end;
 
-// Whether the byte at k goes on with a character; none stands behind the end.
-#[tactic(auto, using(crate::proofs::Boundary::none_behind), unfolding(spec::specs::Md::Elements::List::continuation))]
-fn continues(t: &[u8], k: usize) -> bool
-    ensures { result ≡ def.continuation (get_or t.now k 0) }
+// Whether b goes on with a character.
+#[tactic(auto, unfolding(spec::specs::Md::Elements::List::continuation))]
+fn continues(b: u8) -> bool
+    ensures { result ≡ def.continuation b }
 {
-    k < t.len() && matches!(t[k], 128..=191)
-}
-
-// Where a character begins, at n or before it.
-pub fn boundary(t: &[u8], n: usize) -> usize
-    ensures { (result ≡ def.boundary n t.now) × (result ≤ n) }
-{
-    let mut k = n;
-    while 0 < k && continues(t, k) {
-        k -= 1;
-    }
-    k
+    matches!(b, 128..=191)
 }
 
 // How long t is, cut at n or before the character that n is inside of.
@@ -42,7 +32,10 @@ fn truncate(t: &[u8], n: usize) -> usize
     if t.len() <= n {
         return t.len();
     }
-    boundary(t, n)
+    match t[..n + 1].iter().rposition(|b| !continues(*b)) {
+        Some(k) => k,
+        None => 0,
+    }
 }
 
 // Whether a block can begin where t ends.
@@ -75,71 +68,79 @@ fn trim_item_end(t: &[u8], start: usize) -> usize
 }
 
 // Goes to a line of its own behind other content.
-fn own_line(text: &mut [u8], len: usize, item: Item) -> Wrote
-    requires { len ≤ length text.old }
-    ensures { Writes (length text.old) text.new result (def.own_line (item_of item) (take len text.old)) }
+fn own_line(text: &mut Text, item: Item) -> Result<(), Full>
+    ensures { WritesTo text.old text.new result (def.own_line (item_of item)) }
 {
-    if at_line_start(&text[..len], item) {
-        return Ok(len);
+    if at_line_start(text.bytes(), item) {
+        return Ok(());
     }
-    let n = trim_item_end(&text[..len], item.start);
-    push_line_start(text, n, item)
+    text.len = trim_item_end(text.bytes(), item.start);
+    push_line_start(text, item)
 }
 
 // Appends a byte of a block; a line end with what begins the next line, which is `empty` or not.
-fn push_line_byte(text: &mut [u8], len: usize, b: u8, empty: bool, item: Item) -> Wrote
-    requires { len ≤ length text.old }
-    ensures { Writes (length text.old) text.new result (push (line_byte (item_of item) empty b) (take len text.old)) }
+fn push_line_byte(text: &mut Text, b: u8, empty: bool, item: Item) -> Result<(), Full>
+    ensures { WritesTo text.old text.new result (push (line_byte (item_of item) empty b)) }
 {
     if b != b'\n' {
-        return push_byte(text, len, b);
+        return text.push_byte(b);
     }
     if empty {
-        return push_linebreak(text, len, item.ctx.opts.table_cell);
+        return push_linebreak(text, item.ctx.opts.table_cell);
     }
-    push_line_start(text, len, item)
+    push_line_start(text, item)
 }
 
-// Whether a line of t ends at i, or the part up to `to` does.
-fn ends_line(t: &[u8], i: usize, to: usize) -> bool
-    requires { to ≤ length t.now }
-    ensures { result ≡ null (parts def.is_line_end (slice i to t.now)).0 }
+// Whether the first line of t is empty.
+fn is_line_empty(t: &[u8]) -> bool
+    ensures { result ≡ null (parts def.is_line_end t.now).0 }
 {
-    to <= i || t[i] == b'\n'
-}
-
-// Appends the lines of what stands from `from` to `to` behind the room.
-fn push_lines(text: &mut [u8], room: usize, from: usize, to: usize, len: usize, item: Item) -> Wrote
-    requires { (len ≤ room) × (room ≤ from) × (from ≤ to) × (to ≤ length text.old) }
-    ensures { WritesIn room text.old text.new result (push (def.block_lines (item_of item) (split def.is_line_end (slice from to text.old))) (take len text.old)) }
-{
-    let mut m = len;
-    for i in from..to {
-        let b = text[i];
-        let empty = ends_line(text, i + 1, to);
-        m = push_line_byte(&mut text[..room], m, b, empty, item)?;
+    match t {
+        [] => true,
+        [b, ..] => *b == b'\n',
     }
-    Ok(m)
 }
 
-// Appends the lines of the block that stands behind the room, without the line ends around it.
-fn push_block(text: &mut [u8], room: usize, len: usize, item: Item) -> Wrote
-    requires { (len ≤ room) × (room ≤ length text.old) }
-    ensures { WritesIn room text.old text.new result (push (def.block_lines (item_of item) (split def.is_line_end (block_text (drop room text.old)))) (take len text.old)) }
+// Appends the lines of a block.
+fn push_lines(text: &mut Text, block: &[u8], item: Item) -> Result<(), Full>
+    ensures { WritesTo text.old text.new result (push (def.block_lines (item_of item) (split def.is_line_end block.now))) }
 {
-    let from = room + trim_start_matches::<Only<b'\n'>>(&text[room..]);
-    let to = from + trim_end_matches::<Only<b'\n'>>(&text[from..]);
-    push_lines(text, room, from, to, len, item)
+    let mut rest = block;
+    while let [b, behind @ ..] = rest {
+        push_line_byte(text, *b, is_line_empty(behind), item)?;
+        rest = behind;
+    }
+    Ok(())
+}
+
+// Appends a block without the line ends around it, on a line of its own.
+fn push_own_block(text: &mut Text, block: &[u8], item: Item) -> Result<(), Full>
+    ensures { WritesTo text.old text.new result (own_block (item_of item) block.now) }
+{
+    own_line(text, item)?;
+    let begun = &block[trim_start_matches::<Only<b'\n'>>(block)..];
+    push_lines(text, &begun[..trim_end_matches::<Only<b'\n'>>(begun)], item)
+}
+
+// Appends the block that stands from `base` on to the text of `len` bytes in the room before it.
+fn push_block_from(memory: &mut [u8], base: usize, len: usize, item: Item) -> Wrote
+    requires { (len ≤ base) × (base ≤ length memory.old) }
+    ensures { WritesIn base memory.old memory.new result (own_block (item_of item) (drop base memory.old) (take len memory.old)) }
+{
+    let (room, block) = memory.split_at_mut(base);
+    let mut text = Text { room, len };
+    push_own_block(&mut text, block, item)?;
+    Ok(text.len)
 }
 
 // The last step of write_list_item_indented: the block is the n bytes behind the text. It goes to the end of the room, and is
 // appended from there, line by line.
-pub fn push_indented(text: &mut [u8], len: usize, n: usize, item: Item) -> Wrote
-    requires { len + n ≤ length text.old }
-    ensures { Writes (length text.old) text.new result (indented_block (item_of item) (take n (drop len text.old)) (take len text.old)) }
+pub fn push_indented(text: &mut Text, n: usize, item: Item) -> Result<(), Full>
+    requires { text.old.len + n ≤ length text.old.room.now }
+    ensures { WritesTo text.old text.new result (indented_block (item_of item) (take n (drop text.old.len text.old.room.now))) }
 {
-    let base = text.len() - n;
-    lift(text, len, n, base);
-    let m = own_line(&mut text[..base], len, item)?;
-    push_block(text, base, m, item)
+    let base = text.room.len() - n;
+    lift(text.room, text.len, n, base);
+    text.len = push_block_from(text.room, base, text.len, item)?;
+    Ok(())
 }

@@ -1,16 +1,16 @@
 // push_md_url of text_utils.rs with html_escape. The escaped destination is never a text of its own: each byte is replaced
 // as it is appended.
-ghost use Rattle.std.specs.Prelude.{◌≡◌, ◌≤◌, length, take, pos, ◌+ℤ◌, ◌-ℤ◌, ◌++◌};
+ghost use Rattle.std.specs.Prelude.{◌≡◌, ◌≤◌, length, pos, ◌+ℤ◌, ◌-ℤ◌, ◌++◌};
 ghost use Rattle.std.specs.Int.{w32};
 ghost use Rattle.std.proofs.Common.{SFits};
 ghost use Rattle.spec.specs.Bytes.{ascii, every};
 ghost use Rattle.spec.specs.Out.{push};
 ghost use Rattle.spec.specs.Md.TextUtils as def;
 ghost use Rattle.lists_links.specs.Url.{next_balance, url_byte, piece_of, kept, itself};
-ghost use Rattle.text.specs.Writes.{Writes};
+ghost use Rattle.text.specs.Texts.{WritesTo};
 
-use text::buffer::{Wrote, starts_with_byte};
-use text::by_len::{push_all, push_byte};
+use text::buffer::{Full, starts_with_byte};
+use text::text::Text;
 
 #[tactic(auto, unfolding(spec::specs::Md::TextUtils::wants_wrap, spec::specs::Bytes::isin))]
 fn wants_wrap(b: u8) -> bool
@@ -51,33 +51,31 @@ fn needs_wrap(dest: &[u8]) -> bool
 }
 
 #[tactic(auto, unfolding(spec::specs::Md::TextUtils::wrapped_byte, spec::specs::Md::TextUtils::backslash_twice, spec::specs::Bytes::isin))]
-fn push_url_byte(text: &mut [u8], len: usize, b: u8, wrap: bool) -> Wrote
-    requires { len ≤ length text.old }
-    ensures { Writes (length text.old) text.new result (push (url_byte wrap b) (take len text.old)) }
+fn push_url_byte(text: &mut Text, b: u8, wrap: bool) -> Result<(), Full>
+    ensures { WritesTo text.old text.new result (push (url_byte wrap b)) }
 {
     match b {
-        b'\\' => push_all(text, len, b"\\\\"),
-        b'<' if wrap => push_all(text, len, b"\\<"),
-        b'>' if wrap => push_all(text, len, b"\\>"),
-        b'\n' if wrap => push_all(text, len, b"%0A"),
-        b'\r' if wrap => push_all(text, len, b"%0D"),
-        _ => push_byte(text, len, b),
+        b'\\' => text.push_all(b"\\\\"),
+        b'<' if wrap => text.push_all(b"\\<"),
+        b'>' if wrap => text.push_all(b"\\>"),
+        b'\n' if wrap => text.push_all(b"%0A"),
+        b'\r' if wrap => text.push_all(b"%0D"),
+        _ => text.push_byte(b),
     }
 }
 
 // Appends what stands for b: `second` says that it ends U+00A0, `nbsp` that it begins it.
-fn push_piece(text: &mut [u8], len: usize, b: u8, wrap: bool, second: bool, nbsp: bool) -> Wrote
-    requires { len ≤ length text.old }
-    ensures { Writes (length text.old) text.new result (push (piece_of wrap second nbsp b) (take len text.old)) }
+fn push_piece(text: &mut Text, b: u8, wrap: bool, second: bool, nbsp: bool) -> Result<(), Full>
+    ensures { WritesTo text.old text.new result (push (piece_of wrap second nbsp b)) }
 {
     if second {
-        return Ok(len);
+        return Ok(());
     }
     match b {
-        b'&' => push_all(text, len, b"&amp;"),
-        b'"' => push_all(text, len, b"&quot;"),
-        _ if nbsp => push_all(text, len, b"&nbsp;"),
-        _ => push_url_byte(text, len, b, wrap),
+        b'&' => text.push_all(b"&amp;"),
+        b'"' => text.push_all(b"&quot;"),
+        _ if nbsp => text.push_all(b"&nbsp;"),
+        _ => push_url_byte(text, b, wrap),
     }
 }
 
@@ -95,30 +93,27 @@ fn is_kept_dest(dest: &[u8]) -> bool
     dest.iter().all(|b| is_kept(*b))
 }
 
-fn push_dest(text: &mut [u8], len: usize, dest: &[u8], wrap: bool) -> Wrote
-    requires { len ≤ length text.old }
-    ensures { Writes (length text.old) text.new result (push (def.each_byte (url_byte wrap) (def.html_escape dest.now)) (take len text.old)) }
+fn push_dest(text: &mut Text, dest: &[u8], wrap: bool) -> Result<(), Full>
+    ensures { WritesTo text.old text.new result (push (def.each_byte (url_byte wrap) (def.html_escape dest.now))) }
 {
     if is_kept_dest(dest) {
-        return push_all(text, len, dest);
+        return text.push_all(dest);
     }
-    let mut n = len;
     let mut second = false;
     for i in 0..dest.len() {
         let nbsp = (dest[i] == 194) & starts_with_byte(&dest[i + 1..], 160);
-        n = push_piece(text, n, dest[i], wrap, second, nbsp)?;
+        push_piece(text, dest[i], wrap, second, nbsp)?;
         second = !second & nbsp;
     }
-    Ok(n)
+    Ok(())
 }
 
-fn push_wrapped(text: &mut [u8], len: usize, dest: &[u8]) -> Wrote
-    requires { len ≤ length text.old }
-    ensures { Writes (length text.old) text.new result (push (ascii "<" ++ (def.each_byte def.wrapped_byte (def.html_escape dest.now) ++ ascii ">")) (take len text.old)) }
+fn push_wrapped(text: &mut Text, dest: &[u8]) -> Result<(), Full>
+    ensures { WritesTo text.old text.new result (push (ascii "<" ++ (def.each_byte def.wrapped_byte (def.html_escape dest.now) ++ ascii ">"))) }
 {
-    let n = push_byte(text, len, b'<')?;
-    let m = push_dest(text, n, dest, true)?;
-    push_byte(text, m, b'>')
+    text.push_byte(b'<')?;
+    push_dest(text, dest, true)?;
+    text.push_byte(b'>')
 }
 
 // Whether b stands in a destination as it is, whatever is around it.
@@ -140,16 +135,16 @@ fn is_plain_dest(dest: &[u8]) -> bool
 }
 
 // A destination is a part of the sheet, which has at most 1,048,576 bytes (question 1).
-pub fn push_md_url(text: &mut [u8], len: usize, dest: &[u8]) -> Wrote
-    requires { (len ≤ length text.old) × (length dest.now ≤ 1048576) }
-    ensures { Writes (length text.old) text.new result (def.push_md_url dest.now (take len text.old)) }
+pub fn push_md_url(text: &mut Text, dest: &[u8]) -> Result<(), Full>
+    requires { length dest.now ≤ 1048576 }
+    ensures { WritesTo text.old text.new result (def.push_md_url dest.now) }
 {
     if is_plain_dest(dest) {
-        return push_all(text, len, dest);
+        return text.push_all(dest);
     }
     if needs_wrap(dest) {
-        push_wrapped(text, len, dest)
+        push_wrapped(text, dest)
     } else {
-        push_dest(text, len, dest, false)
+        push_dest(text, dest, false)
     }
 }

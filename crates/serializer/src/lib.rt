@@ -29,21 +29,18 @@ ghost use Rattle.tables.specs.TableSteps.{rows_texts, RowWrites, RowsWrites};
 ghost use Rattle.serializer.specs.Options as def;
 ghost use Rattle.serializer.specs.Writers.{self_at, Ready, Fits, FitsIn, WritesForest, WritesElement, progress_of, GoesForest, GoesElement};
 
+use elements::by_len::{push_link, push_text_link, write_code, write_pre};
 use elements::by_len_steps::{
     closed, due_line, end_flow, end_list, opened, push_emphasis_by, push_heading_prefix,
 };
-use elements::code::write_code;
 use elements::item_steps::{child_opts, renumbered};
-use elements::link::{push_link, push_text_link};
 use elements::list_nodes::{
     has_blocks, is_list, kind_of, node_is_block_wrapper, node_is_list_item_block,
 };
-use elements::pre::write_pre;
 use elements::steps::{emphasis_opts, has_writer};
 use list_items::{write_list_item, write_list_item_blocks};
-use lists_links::image::write_img;
-use lists_links::list::{Item, end_item, item_from, push_block_lead, push_inline_lead};
-use lists_links::list_indented::push_indented;
+use lists_links::by_len::{end_item, push_block_lead, push_indented, push_inline_lead, write_img};
+use lists_links::list::{Item, item_from};
 use marks::by_len::escape_table_cell_inplace;
 use marks::table::trim_trailing_cell_break;
 use nodes::by_len::{write_text, write_text_node};

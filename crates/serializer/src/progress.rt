@@ -4,7 +4,8 @@ ghost use Rattle.spec.specs.Md.Elements.List as def;
 ghost use Rattle.lists_links.specs.Items.{item_of};
 ghost use Rattle.serializer.specs.Writers.{progress_of, Goes};
 
-use lists_links::list::{Item, push_rule};
+use lists_links::by_len::push_rule;
+use lists_links::list::Item;
 use text::buffer::Full;
 
 // The length of the text, whether no block stood before, whether a blank line is due.

@@ -1,18 +1,17 @@
 -- Blanks and line breaks at the end of a text. Assumes nothing.
-use Prim.Native.Nat.{ℕ, zero, suc, ◌+◌, ◌-◌, ◌≤◌, ◌<◌}
+use Prim.Native.Nat.{ℕ, zero, suc, ◌-◌, ◌≤◌, ◌<◌}
 use mathlib.Core.Path.{◌≡◌, refl, sym, ap, ◌∙◌}
 use mathlib.Core.Bool.{true, false, ◌||◌}
 use lib.Dec.{eqb}
-use mathlib.Core.List.{List, [], ◌∷◌, ◌++◌, append_assoc}
+use mathlib.Core.List.{List, [], ◌∷◌, ◌++◌}
 use native.Mathlib.Omega.{arith}
-use native.Mathlib.Numerals.{add-one}
-use lib.ListN.{length, take, drop, set, length-append, length-set}
-use lib.Seq.{length-take-le, take-take, take-suc-set}
+use lib.ListN.{length, take, drop}
+use lib.Seq.{length-take-le, take-take}
 use Rattle.spec.specs.Bytes.{ends_with, one, white, trim_end_matches, trim_start_matches, trim_ascii_end, trim_ascii_start}
 use Rattle.spec.specs.Out.{cut, keep, push, replace, and_then}
 use Rattle.spec.specs.Md.TextUtils.{escape_trailing_bang, ends_with_white, push_block_space, trim_space, breaks_until}
 use Rattle.text.specs.Trimmed.{Trimmed, Skipped}
-use Rattle.text.specs.Writes.{Written, Refused}
+use Rattle.text.specs.Writes.{Written}
 use Rattle.spec.proofs.Tests.{same_eq}
 use Rattle.input.proofs.Rules.{null_length}
 use Rattle.text.proofs.Reading.{drop_take}

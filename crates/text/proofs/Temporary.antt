@@ -1,25 +1,17 @@
 -- A text begun behind the text, lifted to the end of the room, and appended from there. Assumes nothing.
-use Prim.Native.Nat.{ℕ, ◌+◌, ◌-◌, ◌≤◌, ◌<◌}
-use mathlib.Core.Path.{◌≡◌, refl, sym, ap, subst₂, ◌∙◌}
-use mathlib.Core.Bool.{Bool, true, false, cond}
-use mathlib.Core.List.{List, [], ◌∷◌, ◌++◌}
+use Prim.Native.Nat.{ℕ, ◌+◌, ◌-◌, ◌≤◌}
+use mathlib.Core.Path.{◌≡◌, sym, ap, subst₂, ◌∙◌}
+use mathlib.Core.List.{List, ◌++◌}
 use native.Mathlib.Omega.{arith}
-use native.Mathlib.Numerals.{add-one}
-use borrow.Author.Tests.{eqb-true}
 use borrow.Rule.Slice.PartMut.{same_len_mid}
-use lib.ListN.{length, take, drop, get_or, length-drop}
-use lib.Dec.{eqb}
-use lib.Seq.{length-take-le, take_at, drop_at, take-append-le, take-take, slice, slice-cons}
-use Rattle.spec.specs.Bytes.{ascii}
-use Rattle.spec.specs.Out.{Out, Step, and_then, push, nested, inside, beside}
-use Rattle.spec.specs.Md.TextUtils.{each_byte, quote_escaped}
+use lib.ListN.{length, take, drop, length-drop}
+use lib.Seq.{length-take-le, take_at, take_all, drop_at, take-append-le, take-take}
+use Rattle.spec.specs.Out.{Out, Step, push, nested, inside, beside}
 use Rattle.text.specs.Lifted.{Lifted}
 use Rattle.text.specs.Source.{WritesIn}
 use Rattle.text.specs.Writes.{Written, Refused, Says, Writes, Wrote}
 use Rattle.std.specs.Prelude.{Ok, Err}
-use Rattle.text.specs.declared.buffer.Full.{Full}
-use Rattle.text.proofs.Writing.{push_both, reaches}
-use Rattle.text.proofs.Sourcing.{part_is, part_none}
+use Rattle.text.proofs.Writing.{reaches}
 
 -- the part from len on, as `&mut text[len..]` lends it, and the memory with that part back as ys
 abbrev pub lent : List ℕ → ℕ → List ℕ
@@ -61,11 +53,11 @@ module _ (xs : List ℕ) (len : ℕ) (h : len ≤ length xs) (o : Out) where
           let q : len ≤ base = omega (arith, temp_fits) in
           sym (take-take len base z q) ∙ ap (take len) l.kept ∙ take-take len base (back xs len ys) q ∙ back_text
 
-      temp_is : slice base (base + n) z ≡ o.text
-      temp_is = let q : base + n - base ≡ n = omega arith in sym (part_is base (base + n) z) ∙ ap (λ (k : ℕ). take k (drop base z)) q ∙ l.moved ∙ back_temp
+      temp_is : drop base z ≡ o.text
+      temp_is = sym (take_all n (drop base z) (omega (arith, length-drop base z, l.long, temp_fits))) ∙ l.moved ∙ back_temp
 
       -- g of it is appended before it
-      pub temp_writes : (g : List ℕ → List ℕ) {final : List ℕ} {r : Wrote} → WritesIn base z final r (push (g (slice base (base + n) z)) (take len z))
+      pub temp_writes : (g : List ℕ → List ℕ) {final : List ℕ} {r : Wrote} → WritesIn base z final r (push (g (drop base z)) (take len z))
           → Writes (length xs) final r (nested o (λ t. beside (length o.text) (push (g o.text) t)) (take len xs))
       unfolding nested inside beside push
       temp_writes g {final} {r} v = record { says = go r (subst₂ (λ (x y : List ℕ). Says base (take base final) r (push (g x) y)) temp_is text_kept v.writes.says) }
@@ -82,25 +74,3 @@ module _ (xs : List ℕ) (len : ℕ) (h : len ≤ length xs) (o : Out) where
                 text_is = sym (take-take m base final (omega (arith, reaches y, y.long))) ∙ y.text_is;
               }
           go (Err _) y = record { over = omega (arith, y.over, w.count, back_length, temp_fits, t) }
-
--- ---- quote marks escaped
-
-quote_is : (b : ℕ) → quote_escaped b ≡ cond (eqb b 34) (ascii "\\") [] ++ (b ∷ [])
-unfolding quote_escaped
-quote_is b = go (eqb b 34) refl
-  where
-    go : (t : Bool) → eqb b 34 ≡ t → cond t (ascii "\\\"") (b ∷ []) ≡ cond t (ascii "\\") [] ++ (b ∷ [])
-    go true e = ap (λ (x : ℕ). 92 ∷ x ∷ []) (sym (eqb-true b 34 e))
-    go false e = refl
-
-pub quote_turn : (s : List ℕ) (i to b : ℕ) (t : List ℕ) → i < to → to ≤ length s → b ≡ get_or s i 0
-    → push (each_byte quote_escaped (slice i to s)) t ≡ and_then (push (cond (eqb b 34) (ascii "\\") [] ++ (b ∷ [])) t) (push (each_byte quote_escaped (slice (i + 1) to s)))
-unfolding each_byte
-quote_turn s i to b t h k e =
-    let c : slice i to s ≡ b ∷ slice (i + 1) to s = slice-cons i to s 0 h k ∙ ap (λ (j : ℕ). get_or s i 0 ∷ slice j to s) (sym (add-one i)) ∙ ap (λ (x : ℕ). x ∷ slice (i + 1) to s) (sym e) in
-    ap (λ (x : List ℕ). push x t) (ap (each_byte quote_escaped) c ∙ ap (λ (x : List ℕ). x ++ each_byte quote_escaped (slice (i + 1) to s)) (quote_is b))
-    ∙ push_both (cond (eqb b 34) (ascii "\\") [] ++ (b ∷ [])) (each_byte quote_escaped (slice (i + 1) to s)) t
-
-pub quotes_end : (s : List ℕ) (i to : ℕ) (t : List ℕ) → to ≤ i → push (each_byte quote_escaped (slice i to s)) t ≡ push [] t
-unfolding each_byte
-quotes_end s i to t h = ap (λ (x : List ℕ). push (each_byte quote_escaped x) t) (part_none i to s h)

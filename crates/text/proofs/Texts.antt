@@ -5,15 +5,19 @@ use mathlib.Core.Bool.{false≢true}
 use mathlib.Core.List.{List, [], ◌++◌}
 use native.Mathlib.Omega.{arith}
 use borrow.Rule.Slice.PartMut.{put_mid}
-use lib.ListN.{length, take}
+use lib.ListN.{length, take, drop}
 use Rattle.std.specs.Prelude.{Result, Ok, Err}
 use Rattle.std.specs.Result.{IsErr}
-use Rattle.spec.specs.Out.{Step, and_then, keep, push}
+use Rattle.spec.specs.Out.{Step, and_then, cut, keep, push}
 use Rattle.text.specs.declared.buffer.Full.{Full}
 use Rattle.text.specs.declared.text.Text.{Text}
-use Rattle.text.specs.Writes.{Written, Refused, Says, Writes}
+use Rattle.text.specs.Source.{WritesIn}
+use Rattle.text.specs.Trimmed.{Trimmed}
+use Rattle.text.specs.Writes.{Written, Refused, Says, Writes, Wrote}
 use Rattle.text.specs.Texts.{bytes, wrote, WritesTo}
 use Rattle.text.proofs.Pushing.{put_done, push_full}
+use Rattle.text.proofs.Spaces.{cut_done}
+use Rattle.text.proofs.Sourcing.{lent_front, stops_in}
 use Rattle.text.proofs.Writing.{alike, then, refused, keeps, keeps_nothing, push_both}
 
 abbrev pub Answer : Type 0
@@ -42,6 +46,7 @@ stop {a} {b} {q} {r} {x} {f} g e w h = go r h
   where
     over : Refused (length a.room.now) (f (bytes a))
     over = subst (λ (y : Answer). Says (length a.room.now) b.room.now (wrote b y) (f (bytes a))) e w.writes.says
+
     go : (r : Answer) → IsErr r → WritesTo a b r (λ t. and_then (f t) g)
     go (Ok n) h = absurd (false≢true h)
     go (Err y) h = record { room_is = w.room_is; long = w.long; writes = record { says = refused g over } }
@@ -73,6 +78,26 @@ as_done n w = record { room_is = n; long = w.long; writes = record { says = w } 
 pub as_full : {a b : Text} {f : Step} → b.room.ghost_name ≡ a.room.ghost_name → length b.room.now ≡ length a.room.now → Refused (length a.room.now) (f (bytes a)) → WritesTo a b (Err (record {})) f
 as_full n l w = record { room_is = n; long = l; writes = record { says = w } }
 
+-- where a function over the memory says that there is no room
+pub as_over : {a b : Text} {r : Answer} {f : Step} → b.room.ghost_name ≡ a.room.ghost_name → length b.room.now ≡ length a.room.now → Refused (length a.room.now) (f (bytes a)) → IsErr r → WritesTo a b r f
+as_over {a} {b} {r} {f} n l w h = go r h
+  where
+    go : (r : Answer) → IsErr r → WritesTo a b r f
+    go (Ok u) h = absurd (false≢true h)
+    go (Err e) h = record { room_is = n; long = l; writes = record { says = w } }
+
+-- the text is made shorter: s is what was read of it
+pub cuts : {a b : Text} {s : List ℕ} {n : ℕ} (g : List ℕ → List ℕ) → s ≡ bytes a → Trimmed s n (g s) → b.room.ghost_name ≡ a.room.ghost_name → b.room.now ≡ a.room.now → b.len ≡ n → WritesTo a b (Ok tt) (cut g)
+cuts {a} {b} {s} {n} g e t i d l =
+    as_done i (subst₂ (λ (x : List ℕ) (k : ℕ). Written (length a.room.now) x k (cut g (bytes a))) (sym d) (sym l) (cut_done g a.room.now a.len n a.fits (subst (λ (x : List ℕ). Trimmed x n (g x)) e t)))
+
+-- two strings, one behind the other
+pub pushes_both : {a b c : Text} {q r : Answer} {u : Unit {0}} (x y : List ℕ) → q ≡ Ok u → WritesTo a b q (push x) → WritesTo b c r (push y) → WritesTo a c r (push (x ++ y))
+pushes_both {a} x y e v w = as_step (push_both x y (bytes a)) (next e v w)
+
+pub pushes_stop : {a b : Text} {q r : Answer} {f : Full} (x y : List ℕ) → q ≡ Err f → WritesTo a b q (push x) → IsErr r → WritesTo a b r (push (x ++ y))
+pushes_stop {a} x y e w h = as_step (push_both x y (bytes a)) (stop (push y) e w h)
+
 -- ---- what is left to be done: whoever writes `rest` on from b answers for `whole` from a
 pub record Owes (a b : Text) (rest whole : Step) : Type 0 where
   pub goes : (c : Text) (r : Answer) → WritesTo b c r rest → WritesTo a c r whole
@@ -97,6 +122,29 @@ module _ {a b : Text} {rest whole : Step} (p : Owes a b rest whole) where
   pub owes_none : rest (bytes b) ≡ keep (bytes b) → WritesTo a b (Ok tt) whole
   owes_none e = owes_last e (kept b)
 
+-- ---- one push after another
+module _ {a b : Text} {q : Answer} (x y : List ℕ) where
+  pub push_next : {c : Text} {r : Answer} {u : Unit {0}} → q ≡ Ok u → WritesTo a b q (push x) → WritesTo b c r (push y) → WritesTo a c r (push (x ++ y))
+  push_next e v w = as_step (push_both x y (bytes a)) (next e v w)
+
+  pub push_stopped : {r : Answer} {f : Full} → q ≡ Err f → WritesTo a b q (push x) → IsErr r → WritesTo a b r (push (x ++ y))
+  push_stopped e v h = as_step (push_both x y (bytes a)) (stop (push y) e v h)
+
+-- ---- the memory z is split: p is a text in the front of it, which comes back as ys when p has become q, and f of y, which stands behind the front, was written
+module _ {p q : Text} {r : Answer} {base : ℕ} {z y ys : List ℕ} (f : List ℕ → Step) (h : p.len ≤ base) (k : base ≤ length z) (e : p.room.now ≡ take base z) (d : y ≡ drop base z)
+    (w : WritesTo p q r (f y)) (i : ys ≡ q.room.now) where
+  split_writes : WritesIn base z (ys ++ y) (wrote q r) (f (drop base z) (take p.len z))
+  split_writes =
+      subst₂ (λ (t x : List ℕ). WritesIn base z (t ++ x) (wrote q r) (f (drop base z) (take p.len z))) (sym i) (sym d)
+      (lent_front base p.len z q.room.now (f (drop base z)) h k (w.long ∙ ap length e)
+      (subst₂ (λ (s t : List ℕ). Writes (length s) q.room.now (wrote q r) (f t (take p.len s))) e d w.writes))
+
+  pub split_done : {u : Unit {0}} → r ≡ Ok u → WritesIn base z (ys ++ y) (Ok q.len) (f (drop base z) (take p.len z))
+  split_done o = subst (λ (x : Answer). WritesIn base z (ys ++ y) (wrote q x) (f (drop base z) (take p.len z))) o split_writes
+
+  pub split_over : {x : Full} {s : Wrote} → r ≡ Err x → IsErr s → WritesIn base z (ys ++ y) s (f (drop base z) (take p.len z))
+  split_over o g = stops_in g (subst (λ (x : Answer). WritesIn base z (ys ++ y) (wrote q x) (f (drop base z) (take p.len z))) o split_writes)
+
 -- it has no room, where an answer is an `Err`
 pub as_stop : {a b : Text} {r : Answer} {f : Step} → b.room.ghost_name ≡ a.room.ghost_name → length b.room.now ≡ length a.room.now → IsErr r → Refused (length a.room.now) (f (bytes a))
     → WritesTo a b r f
@@ -105,11 +153,3 @@ as_stop {a} {b} {r} {f} n l h w = go r h
     go : (r : Answer) → IsErr r → WritesTo a b r f
     go (Ok u) h = absurd (false≢true h)
     go (Err e) h = record { room_is = n; long = l; writes = record { says = w } }
-
--- ---- x is appended, and y behind it
-
-pub push_next : {a b c : Text} {q r : Answer} {u : Unit {0}} (x y : List ℕ) → q ≡ Ok u → WritesTo a b q (push x) → WritesTo b c r (push y) → WritesTo a c r (push (x ++ y))
-push_next {a} x y e v w = as_step (push_both x y (bytes a)) (next e v w)
-
-pub push_stop : {a b : Text} {q r : Answer} {e : Full} (x y : List ℕ) → q ≡ Err e → WritesTo a b q (push x) → IsErr r → WritesTo a b r (push (x ++ y))
-push_stop {a} x y p w h = as_step (push_both x y (bytes a)) (stop (push y) p w h)

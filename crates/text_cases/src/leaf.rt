@@ -45,7 +45,7 @@ fn text_utils_end(name: &[u8], text: &mut [u8], len: usize, a: &[u8], b: &[u8]) 
         return destination(text, len, a);
     }
     if is_same(name, b"push_title") {
-        return lists_links::title::push_title(text, len, a);
+        return lists_links::by_len::push_title(text, len, a);
     }
     if is_same(name, b"push_block_space") {
         return normalized::by_len::push_block_space(text, len);
@@ -126,10 +126,10 @@ fn list(name: &[u8], text: &mut [u8], len: usize, case: Case, a: &[u8]) -> Wrote
     requires { len ≤ length text.old }
 {
     if is_same(name, b"prefix") {
-        return lists_links::ctx::push_prefix(text, len, context(case));
+        return lists_links::by_len::push_prefix(text, len, context(case));
     }
     if is_same(name, b"begin_item") {
-        return lists_links::list::begin_item(text, len, has(case, 64), context(case));
+        return lists_links::by_len::begin_item(text, len, has(case, 64), context(case));
     }
     if is_same(name, b"write_list_item_indented") {
         return indented(text, len, case, a);
@@ -148,10 +148,10 @@ fn item_parts(name: &[u8], text: &mut [u8], len: usize, case: Case) -> Wrote
     requires { len ≤ length text.old }
 {
     if is_same(name, b"push_rule") {
-        return lists_links::list::push_rule(text, len, item(case));
+        return lists_links::by_len::push_rule(text, len, item(case));
     }
     if is_same(name, b"push_block_lead") {
-        return lists_links::list::push_block_lead(
+        return lists_links::by_len::push_block_lead(
             text,
             len,
             item(case),
@@ -160,10 +160,10 @@ fn item_parts(name: &[u8], text: &mut [u8], len: usize, case: Case) -> Wrote
         );
     }
     if is_same(name, b"push_inline_lead") {
-        return lists_links::list::push_inline_lead(text, len, item(case), has(case, 512));
+        return lists_links::by_len::push_inline_lead(text, len, item(case), has(case, 512));
     }
     if is_same(name, b"end_item") {
-        return lists_links::list::end_item(text, len, item(case));
+        return lists_links::by_len::end_item(text, len, item(case));
     }
     unknown()
 }

@@ -89,7 +89,7 @@ pub fn indented(text: &mut [u8], len: usize, case: Case, a: &[u8]) -> Wrote
         return Err(Full);
     }
     push_all(text, len, a)?;
-    lists_links::list_indented::push_indented(text, len, n, it)
+    lists_links::by_len::push_indented(text, len, n, it)
 }
 
 // a stands behind the text; 32 says that it counts.
@@ -139,7 +139,7 @@ pub fn destination(text: &mut [u8], len: usize, a: &[u8]) -> Wrote
     if 1048576 < a.len() {
         return Err(Full);
     }
-    lists_links::url::push_md_url(text, len, a)
+    lists_links::by_len::push_md_url(text, len, a)
 }
 
 // a is a sheet whose first field opens the element.
@@ -152,5 +152,5 @@ pub fn image(text: &mut [u8], len: usize, a: &[u8]) -> Wrote
     if 1048576 < a.len() {
         return Err(Full);
     }
-    lists_links::image::write_img(text, len, a, 0)
+    lists_links::by_len::write_img(text, len, a, 0)
 }

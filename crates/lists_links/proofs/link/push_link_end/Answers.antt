@@ -1,5 +1,4 @@
 use Prim.Native.Nat.{ℕ}
-use mathlib.Core.Path.{refl}
 use mathlib.Core.List.{List}
 use Rattle.spec.specs.Bytes.{ascii}
 use Rattle.spec.specs.Out.{push, and_then}
@@ -8,20 +7,33 @@ use Rattle.spec.specs.Md.TextUtils.{push_md_url, push_title}
 use Rattle.spec.specs.Md.Elements.Image.{if_some}
 use Rattle.spec.specs.Md.Elements.Link.{link_end}
 use Rattle.tree.specs.Represents.{attrs_behind}
-use Rattle.text.proofs.Writing.{owes_all, owes_step, owes_stop, owes_last, stops}
+use Rattle.text.specs.Texts.{bytes}
+use Rattle.text.proofs.Texts.{as_step, next, stop}
+use Rattle.text.proofs.Writing.{then_assoc}
 use Rattle.lists_links.proofs.link.push_link_end.Goals as goal
+
+pub returns-in_err-push_all : goal.returns-in_err-push_all
+unfolding link_end
+returns-in_err-push_all c =
+    let titled = if_some (attr (ascii "title") (attrs_behind c.args.sheet.now c.args.place)) push_title in
+    let ended : List ℕ → _ = λ t. and_then (titled t) (push (ascii ")")) in
+    as_step (then_assoc (push (ascii "](") (bytes c.args.text.now)) (push_md_url c.args.dest.now) ended)
+    (stop (λ t. and_then (push_md_url c.args.dest.now t) ended) c.in_err-push_all.was c.push_all.ensures c.from_residual.ensures.0)
+
+pub returns-in_err-push_md_url : goal.returns-in_err-push_md_url
+unfolding link_end
+returns-in_err-push_md_url c =
+    let titled = if_some (attr (ascii "title") (attrs_behind c.args.sheet.now c.args.place)) push_title in
+    stop (λ t. and_then (titled t) (push (ascii ")"))) c.in_err-push_md_url.was (next c.in_ok-push_all.was c.push_all.ensures c.push_md_url.ensures) c.from_residual-in_err-push_md_url.ensures.0
+
+pub returns-in_err-push_title_of : goal.returns-in_err-push_title_of
+unfolding link_end
+returns-in_err-push_title_of c =
+    next c.in_ok-push_md_url.was (next c.in_ok-push_all.was c.push_all.ensures c.push_md_url.ensures)
+    (stop (push (ascii ")")) c.in_err-push_title_of.was c.push_title_of.ensures c.from_residual-in_err-push_title_of.ensures.0)
 
 pub returns : goal.returns
 unfolding link_end
 returns c =
-    owes_last (owes_step (owes_step (owes_all c.args.text.now c.args.len (link_end (attrs_behind c.args.sheet.now c.args.place) c.args.dest.now) c.requires.0 refl) (λ (t : List ℕ). and_then (push (ascii "](") t) (push_md_url c.args.dest.now)) (λ (t : List ℕ). and_then ((if_some (attr (ascii "title") (attrs_behind c.args.sheet.now c.args.place)) push_title) t) (push (ascii ")"))) refl c.in_ok-n.was c.push_dest.ensures) (if_some (attr (ascii "title") (attrs_behind c.args.sheet.now c.args.place)) push_title) (push (ascii ")")) refl c.in_ok-m.was c.push_title_of.ensures) c.push_byte.ensures
-
-pub returns-in_err-m : goal.returns-in_err-m
-unfolding link_end
-returns-in_err-m c =
-    stops c.from_residual-in_err-m.ensures.0 (owes_stop (owes_step (owes_all c.args.text.now c.args.len (link_end (attrs_behind c.args.sheet.now c.args.place) c.args.dest.now) c.requires.0 refl) (λ (t : List ℕ). and_then (push (ascii "](") t) (push_md_url c.args.dest.now)) (λ (t : List ℕ). and_then ((if_some (attr (ascii "title") (attrs_behind c.args.sheet.now c.args.place)) push_title) t) (push (ascii ")"))) refl c.in_ok-n.was c.push_dest.ensures) (if_some (attr (ascii "title") (attrs_behind c.args.sheet.now c.args.place)) push_title) (push (ascii ")")) refl c.in_err-m.was c.push_title_of.ensures)
-
-pub returns-in_err-n : goal.returns-in_err-n
-unfolding link_end
-returns-in_err-n c =
-    stops c.from_residual.ensures.0 (owes_stop (owes_all c.args.text.now c.args.len (link_end (attrs_behind c.args.sheet.now c.args.place) c.args.dest.now) c.requires.0 refl) (λ (t : List ℕ). and_then (push (ascii "](") t) (push_md_url c.args.dest.now)) (λ (t : List ℕ). and_then ((if_some (attr (ascii "title") (attrs_behind c.args.sheet.now c.args.place)) push_title) t) (push (ascii ")"))) refl c.in_err-n.was c.push_dest.ensures)
+    next c.in_ok-push_md_url.was (next c.in_ok-push_all.was c.push_all.ensures c.push_md_url.ensures)
+    (next c.in_ok-push_title_of.was c.push_title_of.ensures c.push_byte.ensures)

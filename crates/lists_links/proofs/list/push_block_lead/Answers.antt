@@ -1,21 +1,27 @@
 use Prim.Native.Nat.{ℕ}
 use mathlib.Core.Path.{ap}
 use mathlib.Core.List.{List}
-use lib.ListN.{take}
 use lib.Seq.{length-take-le}
 use Rattle.spec.specs.Out.{push}
 use Rattle.lists_links.proofs.ItemLeads.{lead_none, lead_indented, lead_flow}
-use Rattle.text.proofs.Writing.{alike, keeps_nothing}
+use Rattle.text.specs.Texts.{bytes}
+use Rattle.text.proofs.Texts.{as_step, pushes_nothing}
 use Rattle.lists_links.proofs.list.push_block_lead.Goals as goal
 
 pub returns-then-is_first_block-indented : goal.returns-then-is_first_block-indented
 returns-then-is_first_block-indented c =
-    alike (ap (λ (x : List ℕ). push x (take c.args.len c.args.text.now)) (lead_none c.args.item (take c.args.len c.args.text.now) (length-take-le c.args.len c.args.text.now c.requires) c.args.is_first_block c.args.indented c.if-is_first_block-indented.true)) (record { says = keeps_nothing c.args.text.now c.args.len c.requires })
+    let a = c.args.text.now in
+    let e = lead_none c.args.item (bytes a) (length-take-le a.len a.room.now a.fits) c.args.is_first_block c.args.indented c.if-is_first_block-indented.true in
+    as_step (ap (λ (x : List ℕ). push x (bytes a)) e) (pushes_nothing a)
 
 pub returns-then-indented : goal.returns-then-indented
 returns-then-indented c =
-    alike (ap (λ (x : List ℕ). push x (take c.args.len c.args.text.now)) (lead_indented c.args.item (take c.args.len c.args.text.now) (length-take-le c.args.len c.args.text.now c.requires) c.args.is_first_block c.args.indented c.if-is_first_block-indented.false c.if-indented.true)) c.push_repeated.ensures
+    let a = c.args.text.now in
+    let e = lead_indented c.args.item (bytes a) (length-take-le a.len a.room.now a.fits) c.args.is_first_block c.args.indented c.if-is_first_block-indented.false c.if-indented.true in
+    as_step (ap (λ (x : List ℕ). push x (bytes a)) e) c.push_repeated.ensures
 
 pub returns : goal.returns
 returns c =
-    alike (ap (λ (x : List ℕ). push x (take c.args.len c.args.text.now)) (lead_flow c.args.item (take c.args.len c.args.text.now) (length-take-le c.args.len c.args.text.now c.requires) c.args.is_first_block c.args.indented c.if-is_first_block-indented.false c.if-indented.false)) c.push_flow_lead.ensures
+    let a = c.args.text.now in
+    let e = lead_flow c.args.item (bytes a) (length-take-le a.len a.room.now a.fits) c.args.is_first_block c.args.indented c.if-is_first_block-indented.false c.if-indented.false in
+    as_step (ap (λ (x : List ℕ). push x (bytes a)) e) c.push_flow_lead.ensures

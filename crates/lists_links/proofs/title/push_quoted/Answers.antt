@@ -1,38 +1,28 @@
 use Prim.Native.Nat.{◌+◌}
-use mathlib.Core.Bool.{cond}
-use mathlib.Core.List.{[], ◌∷◌, ◌++◌}
-use lib.ListN.{take, get_or}
-use lib.Dec.{eqb}
-use lib.Seq.{slice}
-use Rattle.spec.specs.Bytes.{ascii}
+use lib.ListN.{drop}
 use Rattle.spec.specs.Out.{push}
 use Rattle.spec.specs.Md.TextUtils.{each_byte, quote_escaped}
-use Rattle.text.proofs.Sourcing.{owed_step, owed_stop, owed_nothing, get_d_kept, stops_in}
-use Rattle.text.proofs.Temporary.{quote_turn, quotes_end}
-use native.Mathlib.Omega.{arith}
+use Rattle.text.specs.Texts.{bytes}
+use Rattle.text.proofs.Texts.{pushes_nothing, owes_all, owes_step, owes_stop, owes_last}
+use Rattle.lists_links.proofs.Titles.{each_turn, each_end}
 use Rattle.lists_links.proofs.title.push_quoted.Goals as goal
 
-pub returns-in_err-m : goal.returns-in_err-m
-returns-in_err-m c =
-    stops_in c.from_residual.ensures.0 (let a = c.args in
-    let l = c.loop-i in
-    let o = l.invariant.2 in
-    owed_stop o (push (cond (eqb (get_or l.text l.i 0) 34) (ascii "\\") [] ++ (get_or l.text l.i 0 ∷ []))) (push (each_byte quote_escaped (slice (l.i + 1) (a.base + a.n) a.text.now)))
-    (quote_turn a.text.now l.i (a.base + a.n) (get_or l.text l.i 0) (take l.m l.text) c.loop-i-test.true c.requires.1 (get_d_kept o.still l.i l.invariant.0)) c.in_err-m.was c.put_escaped.ensures)
+pub loop-b-init : goal.loop-b-init
+loop-b-init c = owes_all c.args.text.now (push (each_byte quote_escaped c.args.title.now))
 
-pub loop-i-preserved : goal.loop-i-preserved
-loop-i-preserved c =
-    let a = c.args in
-    let l = c.loop-i in
-    let o = l.invariant.2 in (
-      omega (arith, l.invariant.0),
-      omega (arith, c.loop-i-test.true),
-      owed_step o (push (cond (eqb (get_or l.text l.i 0) 34) (ascii "\\") [] ++ (get_or l.text l.i 0 ∷ []))) (push (each_byte quote_escaped (slice (l.i + 1) (a.base + a.n) a.text.now)))
-          (quote_turn a.text.now l.i (a.base + a.n) (get_or l.text l.i 0) (take l.m l.text) c.loop-i-test.true c.requires.1 (get_d_kept o.still l.i l.invariant.0)) c.in_ok-m.was c.put_escaped.ensures,
-    )
+pub returns-in_err-push_quoted_byte : goal.returns-in_err-push_quoted_byte
+returns-in_err-push_quoted_byte c =
+    let l = c.loop-b in let s = c.args.title.now in
+    owes_stop l.invariant (push (each_byte quote_escaped (drop (l.b-index + 1) s))) (each_turn quote_escaped s (bytes l.text) l.b-index c.loop-b-test.true)
+    c.in_err-push_quoted_byte.was c.push_quoted_byte.ensures c.from_residual.ensures.0
+
+pub loop-b-preserved : goal.loop-b-preserved
+loop-b-preserved c =
+    let l = c.loop-b in let s = c.args.title.now in
+    owes_step l.invariant (push (each_byte quote_escaped (drop (l.b-index + 1) s))) (each_turn quote_escaped s (bytes l.text) l.b-index c.loop-b-test.true)
+    c.in_ok-push_quoted_byte.was c.push_quoted_byte.ensures
 
 pub returns : goal.returns
 returns c =
-    let a = c.args in
-    let l = c.loop-i in
-    owed_nothing l.invariant.2 (quotes_end a.text.now l.i (a.base + a.n) (take l.m l.text) c.loop-i-test.false)
+    let l = c.loop-b in
+    owes_last l.invariant (each_end quote_escaped c.args.title.now (bytes l.text) l.b-index c.loop-b-test.false) (pushes_nothing l.text)

@@ -2,7 +2,7 @@ use Rattle.std.proofs.Common.{cond, not, [], ◌++◌, refl}
 use Rattle.spec.specs.Bytes.{ascii}
 use Rattle.spec.specs.Md.Elements.Code.{backticks}
 use Rattle.text.specs.Texts.{bytes}
-use Rattle.text.proofs.Texts.{as_step, push_next, push_stop}
+use Rattle.text.proofs.Texts.{as_step, push_next, push_stopped}
 use Rattle.marks.proofs.Spans.{line_unless}
 use Rattle.marks.proofs.code.push_block_closing.Goals as goal
 
@@ -19,10 +19,10 @@ returns-in_err-push_repeated c =
     let a = c.args in let nl = ascii "\n" in let fence = backticks a.fence in
     as_step (line_unless a.ended a.ended (fence ++ nl) (bytes a.text.now) refl)
     (push_next (cond (not a.ended) nl []) (fence ++ nl) c.in_ok-push_byte_if.was c.push_byte_if.ensures
-    (push_stop fence nl c.in_err-push_repeated.was c.push_repeated.ensures c.from_residual-in_err-push_repeated.ensures.0))
+    (push_stopped fence nl c.in_err-push_repeated.was c.push_repeated.ensures c.from_residual-in_err-push_repeated.ensures.0))
 
 pub returns-in_err-push_byte_if : goal.returns-in_err-push_byte_if
 returns-in_err-push_byte_if c =
     let a = c.args in let nl = ascii "\n" in let fence = backticks a.fence in
     as_step (line_unless a.ended a.ended (fence ++ nl) (bytes a.text.now) refl)
-    (push_stop (cond (not a.ended) nl []) (fence ++ nl) c.in_err-push_byte_if.was c.push_byte_if.ensures c.from_residual.ensures.0)
+    (push_stopped (cond (not a.ended) nl []) (fence ++ nl) c.in_err-push_byte_if.was c.push_byte_if.ensures c.from_residual.ensures.0)

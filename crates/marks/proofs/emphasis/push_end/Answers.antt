@@ -1,6 +1,6 @@
 use Rattle.std.proofs.Common.{cond, []}
 use Rattle.spec.specs.Bytes.{ascii}
-use Rattle.text.proofs.Texts.{push_next, push_stop}
+use Rattle.text.proofs.Texts.{push_next, push_stopped}
 use Rattle.marks.proofs.emphasis.push_end.Goals as goal
 
 pub returns : goal.returns
@@ -9,4 +9,4 @@ returns c =
 
 pub returns-in_err-push_all : goal.returns-in_err-push_all
 returns-in_err-push_all c =
-    let x = c.args.marker.now in let y = cond c.args.trail (ascii " ") [] in push_stop x y c.in_err-push_all.was c.push_all.ensures c.from_residual.ensures.0
+    let x = c.args.marker.now in let y = cond c.args.trail (ascii " ") [] in push_stopped x y c.in_err-push_all.was c.push_all.ensures c.from_residual.ensures.0

@@ -5,7 +5,7 @@ use Rattle.spec.specs.Out.{push}
 use Rattle.text.specs.Flow.{flow}
 use Rattle.text.specs.Texts.{bytes}
 use Rattle.text.proofs.Sourcing.{part_is}
-use Rattle.text.proofs.Texts.{as_step, push_next, push_stop}
+use Rattle.text.proofs.Texts.{as_step, push_next, push_stopped}
 use Rattle.normalized.specs.Layout.{front, Laid}
 use Rattle.normalized.proofs.normalize.push_words.Goals as goal
 
@@ -25,7 +25,7 @@ returns-in_err-push_front c =
     let z = cond l.last (ascii " ") [] in
     let laid = subst (λ (t : List ℕ). Laid a.opts t s l) c.bytes.ensures c.lay_out-l.ensures in
     as_step laid.is
-    (push_stop (front escape s l) (flow escape (slice l.mark (length s) s) ++ z) c.in_err-push_front.was c.push_front.ensures c.from_residual.ensures.0)
+    (push_stopped (front escape s l) (flow escape (slice l.mark (length s) s) ++ z) c.in_err-push_front.was c.push_front.ensures c.from_residual.ensures.0)
 
 pub returns-in_err-push_flow : goal.returns-in_err-push_flow
 returns-in_err-push_flow c =
@@ -34,4 +34,4 @@ returns-in_err-push_flow c =
     let z = cond l.last (ascii " ") [] in
     let laid = subst (λ (t : List ℕ). Laid a.opts t s l) c.bytes.ensures c.lay_out-l.ensures in
     as_step laid.is
-    (push_next (front escape s l) (flow escape (slice l.mark (length s) s) ++ z) c.in_ok-push_front.was c.push_front.ensures (push_stop (flow escape (slice l.mark (length s) s)) z c.in_err-push_flow.was (as_step (ap (λ (x : List ℕ). push (flow escape x) (bytes c.push_front.new.text)) (sym (part_is l.mark (length s) s))) c.push_flow.ensures) c.from_residual-in_err-push_flow.ensures.0))
+    (push_next (front escape s l) (flow escape (slice l.mark (length s) s) ++ z) c.in_ok-push_front.was c.push_front.ensures (push_stopped (flow escape (slice l.mark (length s) s)) z c.in_err-push_flow.was (as_step (ap (λ (x : List ℕ). push (flow escape x) (bytes c.push_front.new.text)) (sym (part_is l.mark (length s) s))) c.push_flow.ensures) c.from_residual-in_err-push_flow.ensures.0))
