@@ -30,13 +30,14 @@ ghost use Rattle.serializer.specs.Options as def;
 ghost use Rattle.serializer.specs.Writers.{self_at, Ready, Fits, FitsIn, WritesForest, WritesElement, progress_of, GoesForest, GoesElement};
 
 use elements::by_len::{push_link, push_text_link, write_code, write_pre};
-use elements::item_steps::{
-    child_opts, due_line, end_flow, end_list, push_heading_prefix, renumbered,
+use elements::by_len_steps::{
+    closed, due_line, end_flow, end_list, opened, push_emphasis_by, push_heading_prefix,
 };
+use elements::item_steps::{child_opts, renumbered};
 use elements::list_nodes::{
     has_blocks, is_list, kind_of, node_is_block_wrapper, node_is_list_item_block,
 };
-use elements::steps::{closed, emphasis_opts, has_writer, opened, push_emphasis_by};
+use elements::steps::{emphasis_opts, has_writer};
 use list_items::by_len::{write_list_item, write_list_item_blocks};
 use lists_links::by_len::{end_item, push_block_lead, push_indented, push_inline_lead, write_img};
 use lists_links::list::{Item, item_from};
