@@ -1,7 +1,7 @@
 -- A text that was gathered behind the text, and what is made of it. Assumes nothing.
 use Prim.Native.Nat.{ℕ, ◌+◌, ◌-◌, ◌≤◌, ◌<◌, max}
 use native.Mathlib.Omega.{arith}
-use mathlib.Core.Path.{◌≡◌, ap, ◌∙◌, sym, subst, subst₂}
+use mathlib.Core.Path.{◌≡◌, ap, ap₂, ◌∙◌, sym, subst, subst₂}
 use mathlib.Core.Bool.{cond, ◌||◌}
 use mathlib.Core.List.{[], ◌∷◌, ◌++◌}
 use lib.ListN.{length, take, drop, length-append}
@@ -10,35 +10,51 @@ use Rattle.spec.specs.Bytes.{Bytes, ascii, null, ends_with, words, join}
 use Rattle.spec.specs.Out.{Step, push, and_then, beside}
 use Rattle.spec.specs.Md.Elements.Code.{backticks, needs_space, code_span, fenced_block, pre_in_link, max_backtick_run, push_code_text}
 use Rattle.spec.specs.Md.TextUtils.{push_block_space}
+use Rattle.std.specs.Prelude.{Ok, Err}
+use Rattle.std.specs.Result.{IsErr}
 use Rattle.text.specs.Writes.{Written, Refused, Writes}
-use Rattle.text.specs.Writes.{Wrote}
+use Rattle.text.specs.Texts.{bytes, wrote, WritesTo}
+use Rattle.text.specs.declared.buffer.Full.{Full}
+use Rattle.text.specs.declared.text.Text.{Text}
 use Rattle.text.proofs.Reading.{drop_take}
-use Rattle.text.proofs.Writing.{reaches, then_assoc}
+use Rattle.text.proofs.Texts.{Answer, as_over, done}
+use Rattle.text.proofs.Writing.{full, reaches, then_assoc}
 
--- x stands behind the first `len` bytes of d now, up to m
-module _ (d x : Bytes) {after : Bytes} (len : ℕ) {m : ℕ} (h : len ≤ length d) (w : Written (length d) after m (push x (take len d))) where
-  pub behind_from : len ≤ m
+-- what has no room has none for g, which takes more
+pub stop_as : {a b : Text} {q r : Answer} {z : Full} {f g : Step} → q ≡ Err z → WritesTo a b q f → IsErr r → (Refused (length a.room.now) (f (bytes a)) → Refused (length a.room.now) (g (bytes a))) → WritesTo a b r g
+stop_as {b = b} e v h k = as_over v.room_is v.long (k (full (ap (wrote b) e) v.writes)) h
+
+-- x was written behind a text, up to the length of b; then the text is cut to what it was
+module _ {a b : Text} {q : Answer} {u : Unit {0}} (x : Bytes) (e : q ≡ Ok u) (v : WritesTo a b q (push x)) where
+  w : Written (length a.room.now) b.room.now b.len (push x (bytes a))
+  w = done e v
+
+  pub behind_from : a.len ≤ b.len
   unfolding push
-  behind_from = omega (arith, w.count, length-append (take len d) x, length-take-le len d h)
+  behind_from = omega (arith, w.count, length-append (bytes a) x, length-take-le a.len a.room.now a.fits)
 
-  pub behind_fits : len + (m - len) ≤ length after
+  pub behind_fits : a.len + (b.len - a.len) ≤ length b.room.now
   behind_fits = omega (arith, reaches w, behind_from)
 
-  text_kept : take len after ≡ take len d
+  text_kept : take a.len b.room.now ≡ bytes a
   unfolding push
   text_kept =
-      sym (take-take len m after behind_from) ∙ (ap (take len) w.text_is ∙ take_at (take len d) x len (length-take-le len d h))
+      sym (take-take a.len b.len b.room.now behind_from) ∙ (ap (take a.len) w.text_is ∙ take_at (bytes a) x a.len (length-take-le a.len a.room.now a.fits))
 
-  behind_is : take (m - len) (drop len after) ≡ x
+  behind_is : take (b.len - a.len) (drop a.len b.room.now) ≡ x
   unfolding push
-  behind_is = sym (drop_take len m after) ∙ (ap (drop len) w.text_is ∙ drop_at (take len d) x len (length-take-le len d h))
+  behind_is = sym (drop_take a.len b.len b.room.now) ∙ (ap (drop a.len) w.text_is ∙ drop_at (bytes a) x a.len (length-take-le a.len a.room.now a.fits))
 
   -- f makes something of it
-  pub behind_writes : (f : Bytes → Step) {final : Bytes} {r : Wrote} → Writes (length after) final r (f (take (m - len) (drop len after)) (take len after))
-      → Writes (length d) final r (f x (take len d))
-  behind_writes f {final} {r} v =
-      subst (λ (k : ℕ). Writes k final r (f x (take len d))) w.long
-      (subst₂ (λ (y t : Bytes). Writes (length after) final r (f y t)) behind_is text_kept v)
+  pub behind_writes : (f : Bytes → Step) {m c : Text} {r : Answer} → m.room.ghost_name ≡ b.room.ghost_name → m.room.now ≡ b.room.now → m.len ≡ a.len
+      → WritesTo m c r (f (take (b.len - a.len) (drop a.len b.room.now))) → WritesTo a c r (f x)
+  behind_writes f {m} {c} {r} n g l y =
+      record {
+        room_is = y.room_is ∙ (n ∙ v.room_is);
+        long = y.long ∙ (ap length g ∙ v.long);
+        writes = subst (λ (k : ℕ). Writes k c.room.now (wrote c r) (f x (bytes a))) (ap length g ∙ v.long)
+            (subst₂ (λ (s t : Bytes). Writes (length m.room.now) c.room.now (wrote c r) (f s t)) behind_is (ap₂ (λ (k : ℕ) (z : Bytes). take k z) l g ∙ text_kept) y.writes);
+      }
 
 -- the steps of `pre` in a link's text behind the first
 abbrev pub span_in_link : Bytes → Step

@@ -1,11 +1,11 @@
 -- How the texts of a range of nodes begin and end, and the code without its edges. Assumes nothing.
-use Prim.Native.Nat.{ℕ, suc, ◌+◌, ◌-◌, ◌≤◌, ◌<◌}
+use Prim.Native.Nat.{ℕ, ◌+◌, ◌-◌, ◌≤◌, ◌<◌}
 use native.Mathlib.Omega.{arith}
 use mathlib.Core.Path.{◌≡◌, refl, ap, ◌∙◌, sym}
 use mathlib.Core.Bool.{Bool, true, false, cond}
 use mathlib.Core.List.{[], ◌∷◌, ◌++◌}
-use lib.ListN.{length, take, drop, get_or, length-append, length-take, length-drop, drop_of_length-le}
-use lib.Seq.{length-take-le, take-take, drop-cons, drop-drop, get_or-append-add, get_or-take, get_or-drop}
+use lib.ListN.{length, take, drop, get_or, length-append, length-take, length-drop}
+use lib.Seq.{length-take-le, take-take, drop-drop, get_or-append-add}
 use lib.Dec.{eqb}
 use Rattle.spec.specs.Bytes.{Bytes, ascii, null, one, same, unless, starts_with, ends_with, blank, trim_start_matches, trim_end_matches}
 use Rattle.spec.specs.Tree.{Forest, text_of}
@@ -13,8 +13,7 @@ use Rattle.spec.specs.Md.TextUtils.{trim_blanks}
 use Rattle.spec.specs.Md.Elements.Code.{is_tab_or_blank, trim_edges}
 use Rattle.tree.specs.Memory.{place_at}
 use Rattle.tree.specs.Represents.{Rep}
-use Rattle.tree.specs.Nodes.{text_at, PartIs}
-use Rattle.std.specs.declared.ops.Range.{Range}
+use Rattle.tree.specs.Nodes.{text_at}
 use Rattle.tree.proofs.Ranges.{text_pieces}
 use Rattle.text.specs.Trimmed.{Trimmed, Skipped}
 use Rattle.text.proofs.Reading.{starts_byte, ends_byte, drop_take}
@@ -45,29 +44,23 @@ front_stays p (a ∷ x) y {b} {t} e = go (p a) (front_stays p x y) e
     go false f e = ap (λ (w : Bytes). w ++ y) e
 
 module _ (sh ns : Bytes) (e i : ℕ) where
-  -- the field of node i stands at p, its text is the part r of the sheet, and begins with k tabs and blanks
-  module _ (l : i < e) {p : ℕ} (q : p ≡ place_at ns i) {r : Range ℕ} (a : PartIs sh r (text_at sh p)) {k : ℕ}
-      (w : Skipped (take (r.end - r.start) (drop r.start sh)) k (trim_start_matches is_tab_or_blank (take (r.end - r.start) (drop r.start sh)))) where
-    part_long : length (take (r.end - r.start) (drop r.start sh)) ≡ r.end - r.start
-    part_long = length-take-le (r.end - r.start) (drop r.start sh) (omega (arith, length-drop r.start sh, a.inside))
+  -- the field of node i stands at p, its text is x, of which `rest` is left behind the tabs and blanks at its front
+  module _ (l : i < e) {p : ℕ} (q : p ≡ place_at ns i) {x rest : Bytes} (h : text_at sh p ≡ x) (w : rest ≡ trim_start_matches is_tab_or_blank x) where
+    pub begin_here : 1 ≤ length rest → eqb (get_or rest 0 0) 10 ≡ begins (pieces sh ns e i)
+    begin_here m = go rest w m
+      where
+        go : (r : Bytes) → r ≡ trim_start_matches is_tab_or_blank x → 1 ≤ length r → eqb (get_or r 0 0) 10 ≡ begins (pieces sh ns e i)
+        go [] w m = absurd (omega arith)
+        go (b ∷ t) w m =
+            starts_byte (b ∷ (t ++ pieces sh ns e (i + 1))) 10 (λ z. omega arith)
+            ∙ sym (ap (starts_with (ascii "\n")) (ap (trim_start_matches is_tab_or_blank) (pieces_on sh ns e i l q h) ∙ front_stays is_tab_or_blank x (pieces sh ns e (i + 1)) (sym w)))
 
-    pub begin_here : r.start + k < r.end → eqb (get_or sh (r.start + k) 0) 10 ≡ begins (pieces sh ns e i)
-    begin_here m =
-        let x = take (r.end - r.start) (drop r.start sh) in
-        let v : k < length x = omega (arith, part_long, a.ordered) in
-        let g : get_or x k 0 ≡ get_or sh (r.start + k) 0 = get_or-take (r.end - r.start) (drop r.start sh) k 0 (omega arith) ∙ get_or-drop r.start sh k 0 in
-        let f : trim_start_matches is_tab_or_blank (pieces sh ns e i) ≡ get_or x k 0 ∷ (drop (suc k) x ++ pieces sh ns e (i + 1)) =
-        ap (trim_start_matches is_tab_or_blank) (pieces_on sh ns e i l q a.bytes_are)
-        ∙ front_stays is_tab_or_blank x (pieces sh ns e (i + 1)) (sym w.is ∙ drop-cons x k 0 v) in
-        ap (λ (b : ℕ). eqb b 10) (sym g)
-        ∙ (starts_byte (get_or x k 0 ∷ (drop (suc k) x ++ pieces sh ns e (i + 1))) 10 (λ z. omega arith) ∙ sym (ap (starts_with (ascii "\n")) f))
-
-    pub begin_on : r.end ≤ r.start + k → begins (pieces sh ns e i) ≡ begins (pieces sh ns e (i + 1))
-    begin_on m =
-        let x = take (r.end - r.start) (drop r.start sh) in
-        ap (starts_with (ascii "\n"))
-        (ap (trim_start_matches is_tab_or_blank) (pieces_on sh ns e i l q a.bytes_are)
-        ∙ front_goes is_tab_or_blank x (pieces sh ns e (i + 1)) (sym w.is ∙ drop_of_length-le x {i = k} (omega (arith, part_long))))
+    pub begin_on : length rest ≤ 0 → begins (pieces sh ns e i) ≡ begins (pieces sh ns e (i + 1))
+    begin_on m = go rest w m
+      where
+        go : (r : Bytes) → r ≡ trim_start_matches is_tab_or_blank x → length r ≤ 0 → begins (pieces sh ns e i) ≡ begins (pieces sh ns e (i + 1))
+        go [] w m = ap (starts_with (ascii "\n")) (ap (trim_start_matches is_tab_or_blank) (pieces_on sh ns e i l q h) ∙ front_goes is_tab_or_blank x (pieces sh ns e (i + 1)) (sym w))
+        go (b ∷ t) w m = absurd (omega arith)
 
   pub begin_none : e ≤ i → begins (pieces sh ns e i) ≡ false
   unfolding starts_with trim_start_matches same
@@ -140,31 +133,26 @@ pub ended_folds : Folds ended_by
 unfolding ended_by trim_end_matches null
 ended_folds = record { none = λ before. refl; joins = ended_then }
 
--- ---- the code: n bytes of the text from len on; the first k of them are left, and of these those from m on
+-- ---- the code: the n bytes of d from len on; the first k of them are left, and of these those from m on
+
+module _ (d : Bytes) (len n : ℕ) (fits : len + n ≤ length d) {c : Bytes} (z : c ≡ take n (drop len d)) {k m : ℕ} {x y : Bytes} (a : Trimmed c k x) (b : Skipped (take k c) m y) where
+  pub code_reach : (k ≤ n) × (m ≤ k)
+  code_reach = (omega (arith, a.within, ap length z, length-take n (drop len d)), omega (arith, b.within, length-take k c))
 
 module _ (d raw : Bytes) (len n k m : ℕ) (fits : len + n ≤ length d) {ended begun : Bool} (x : ended ≡ ends_with (ascii "\n") (trimmed raw)) (y : begun ≡ begins raw)
-    (a : Trimmed (take (len + n - len) (drop len d)) k (cond ended (trim_blanks (take (len + n - len) (drop len d))) (take (len + n - len) (drop len d))))
-    (b : Skipped (take (len + k - len) (drop len d)) m (cond begun (trim_start_matches blank (take (len + k - len) (drop len d))) (take (len + k - len) (drop len d)))) where
+    {c : Bytes} (z : c ≡ take n (drop len d)) (a : Trimmed c k (cond ended (trim_blanks c) c)) (b : Skipped (take k c) m (cond begun (trim_start_matches blank (take k c)) (take k c))) where
   code_long : k ≤ n
-  code_long = omega (arith, a.within, length-take (len + n - len) (drop len d))
+  code_long = (code_reach d len n fits z a b).0
 
-  shorter : take (len + k - len) (drop len d) ≡ cond ended (trim_blanks (take n (drop len d))) (take n (drop len d))
-  shorter =
-      let u : len + k - len ≡ k = omega arith in
-      let v : len + n - len ≡ n = omega arith in
-      ap (λ (j : ℕ). take j (drop len d)) u
-      ∙ (sym (take-take k n (drop len d) code_long)
-      ∙ (ap (λ (j : ℕ). take k (take j (drop len d))) (sym v) ∙ (a.is ∙ ap (λ (j : ℕ). cond ended (trim_blanks (take j (drop len d))) (take j (drop len d))) v)))
+  shorter : take k (drop len d) ≡ take k c
+  shorter = sym (take-take k n (drop len d) code_long) ∙ ap (take k) (sym z)
 
   pub code_is : take (k - m) (drop (len + m) d) ≡ trim_edges raw (take n (drop len d))
   unfolding trim_edges
   code_is =
-      let u : len + k - len ≡ k = omega arith in
       ap (take (k - m)) (sym (drop-drop m len d))
       ∙ (sym (drop_take m k (drop len d))
-      ∙ (ap (λ (j : ℕ). drop m (take j (drop len d))) (sym u)
-      ∙ (b.is
-      ∙ (ap (λ (z : Bytes). cond begun (trim_start_matches blank z) z) shorter ∙ rw (x, y)))))
+      ∙ (ap (drop m) shorter ∙ (b.is ∙ (ap (λ (z : Bytes). cond begun (trim_start_matches blank z) z) a.is ∙ rw (← z, x, y)))))
 
   pub code_size : k - m ≡ length (trim_edges raw (take n (drop len d)))
-  code_size = sym (ap length (sym code_is) ∙ length-take-le (k - m) (drop (len + m) d) (omega (arith, length-drop (len + m) d, code_long)))
+  code_size = sym (ap length (sym code_is) ∙ length-take-le (k - m) (drop (len + m) d) (omega (arith, length-drop (len + m) d, code_long, fits)))

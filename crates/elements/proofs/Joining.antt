@@ -1,7 +1,7 @@
 -- The words of a text that comes in pieces, joined by blanks. Assumes nothing.
 use Prim.Native.Nat.{ℕ, ◌+◌, ◌≤◌, ◌<◌}
 use native.Mathlib.Numerals.{add-one}
-use mathlib.Core.Path.{◌≡◌, refl, ap, ◌∙◌, sym, subst}
+use mathlib.Core.Path.{◌≡◌, refl, ap, ◌∙◌, sym}
 use mathlib.Core.Bool.{Bool, true, false, cond, not, ◌&&◌, ◌||◌, false≢true}
 use mathlib.Core.List.{[], ◌∷◌, ◌++◌, append_assoc}
 use lib.ListN.{length, drop, get_or, drop_of_length-le}
@@ -14,9 +14,10 @@ use Rattle.elements.specs.JoinedWords.{word_byte, words_on, some_after, gap_afte
 use Rattle.elements.specs.declared.pre.Joined.{Joined}
 use Rattle.std.specs.Prelude.{Result, Ok, Err}
 use Rattle.std.specs.Result.{IsErr}
-use Rattle.text.specs.Writes.{Writes, no_room}
+use Rattle.text.specs.Texts.{WritesTo}
+use Rattle.text.specs.declared.text.Text.{Text}
 use Rattle.text.specs.declared.buffer.Full.{Full}
-use Rattle.nodes.proofs.AppendingByLen.{Spells}
+use Rattle.nodes.proofs.Appending.{Spells}
 
 -- ---- all pieces together
 
@@ -54,10 +55,6 @@ pub words_all : (f : Forest) (t : Bytes) → push (join (ascii " ") (words (text
 words_all f t = ap (λ (x : Bytes). push x t) (sym (on_none false (text_of f)))
 
 -- ---- from piece to piece
-
--- what is known in the arm of a `match` on an answer
-pub joins_as : {room : ℕ} {after : Bytes} {r z : Result Joined Full} {some gap : Bool} {s t : Bytes} → r ≡ z → Joins room after r some gap s t → Joins room after z some gap s t
-joins_as {room} {after} {r} {z} {some} {gap} {s} {t} e w = subst (λ (x : Result Joined Full). Joins room after x some gap s t) e w
 
 on_both : (some gap : Bool) (s u : Bytes) → words_on some gap (s ++ u) ≡ words_on some gap s ++ words_on (some_after some s) (gap_after gap s) u
 unfolding words_on some_after gap_after
@@ -111,9 +108,9 @@ module _ (s : Bytes) (i : ℕ) where
     gap_end = ap (gap_after gap) (drop_of_length-le s l)
 
 -- where `?` returns early
-pub joins_not : {room : ℕ} {after : Bytes} {r : Result Joined Full} {some gap : Bool} {s t : Bytes} → IsErr r → Writes room after no_room (push (words_on some gap s) t) → Joins room after r some gap s t
-joins_not {room} {after} {r} {some} {gap} {s} {t} h w = go r h
+pub joins_not : {before after : Text} {r : Result Joined Full} {some gap : Bool} {s : Bytes} → IsErr r → WritesTo before after (Err (record {})) (push (words_on some gap s)) → Joins before after r some gap s
+joins_not {before} {after} {r} {some} {gap} {s} h w = go r h
   where
-    go : (r : Result Joined Full) → IsErr r → Joins room after r some gap s t
+    go : (r : Result Joined Full) → IsErr r → Joins before after r some gap s
     go (Ok j) h = absurd (false≢true h)
     go (Err e) h = record { writes = w; state = tt }

@@ -6,10 +6,12 @@ use mathlib.Core.Logic.{⊎_elim}
 use mathlib.Core.Bool.{Bool, true, false, cond, false≢true}
 use mathlib.Core.List.{List, [], ◌∷◌}
 use mathlib.Core.Option.{Option, none, some, map}
-use lib.ListN.{length, take, drop, get_or}
-use lib.Seq.{slice, take-length, length-slice, take-nil, drop-drop}
+use lib.ListN.{length, take, drop}
+use lib.Seq.{take-nil}
+use lib.Dec.{eqb}
+use lib.Pointwise.{pointwise}
 use borrow.Author.Tests.{eq-eqb, ne_eqb}
-use Rattle.spec.specs.Bytes.{Bytes, ascii, white, words, split, parts, filled, null, starts_with, first_word, or_else, or_nothing}
+use Rattle.spec.specs.Bytes.{Bytes, ascii, same, white, words, split, parts, cut_at, filled, null, starts_with, first_word, or_else, or_nothing}
 use Rattle.spec.specs.Names.{tag_of}
 use Rattle.spec.specs.Tree.{Attr, Forest, nothing, text, comment, element, attr}
 use Rattle.spec.specs.Md.MDSerializer.{Ancestors}
@@ -19,15 +21,15 @@ use Rattle.tree.specs.Attributes.{PartOf, Valued, language_attr}
 use Rattle.tree.specs.Memory.{place_at, parent_at}
 use Rattle.tree.specs.Represents.{Rep, Around, attrs_behind, rest_of}
 use Rattle.tree.specs.Nodes.{name_at}
-use Rattle.std.specs.Prelude.{Option as Answer, Some, None}
+use Rattle.std.specs.Prelude.{Option as Answer, Some, None, MatchOption}
+use Rattle.std.specs.List.{find, slice_split, onto_first}
+use Rattle.std.specs.Option.{option_map, unwrap_or}
 use Rattle.std.specs.Borrow.{Bor}
 use Rattle.tree.proofs.Ancestry.{Innermost, innermost, around_in, around_none}
 use Rattle.spec.proofs.Order.{le_or_lt}
 use Rattle.tree.proofs.Kin.{first_name}
 use Rattle.tree.proofs.Values.{language_found, part_of_part}
-use Rattle.normalized.specs.Words.{WordAt, WordEnd}
-use Rattle.text.proofs.Reading.{starts_short}
-use Rattle.text.proofs.Sourcing.{part_is, part_none}
+use Rattle.text.proofs.Reading.{rest_part}
 use Rattle.elements.specs.Languages.{Language, Within}
 use Rattle.nodes.specs.Stands.{ElementAt}
 
@@ -105,52 +107,103 @@ module _ {sh ns : Bytes} {i at left : ℕ} (p : Up sh ns i at left) where
 
 -- ---- the words of a class
 
-pub whole : (s : Bytes) → slice 0 (length s) s ≡ s
-whole s = take-length s
+abbrev prefix : Bytes
+prefix = ascii "language-"
 
--- the words from `at` on are left
-pub record ClassLeft (s : Bytes) (from to at : ℕ) : Type 0 where
-  pub within : at ≤ to
-  pub black : at < to → white (get_or s at 0) ≡ false
-  pub same_language : language_class (words (slice from to s)) ≡ language_class (words (slice at to s))
+pieces_are : (s : Bytes) → split white s ≡ slice_split white s
+unfolding split parts cut_at
+pieces_are [] = refl
+pieces_are (b ∷ s) = go (white b) (pieces_are s)
+  where
+    go : (t : Bool) → (parts white s).0 ∷ (parts white s).1 ≡ slice_split white s
+        → (cut_at t b (parts white s)).0 ∷ (cut_at t b (parts white s)).1 ≡ cond t ([] ∷ slice_split white s) (onto_first b (slice_split white s))
+    go true e = ap (λ (x : List Bytes). [] ∷ x) e
+    go false e = ap (onto_first b) e
 
-pub class_all : {s : Bytes} {from to at : ℕ} → WordAt s from to at → ClassLeft s from to at
-class_all w = record { within = w.within; black = w.black; same_language = ap language_class w.same_words }
+-- each is a part of s
+abbrev AllParts : Bytes → List Bytes → Type 0
+AllParts s [] = Unit {0}
+AllParts s (x ∷ xs) = PartOf s x × AllParts s xs
 
-module _ {s : Bytes} {from to at : ℕ} (p : ClassLeft s from to at) where
-  module _ {e : ℕ} (w : WordEnd s at to e) {b : Bool} (q : b ≡ starts_with (ascii "language-") (take (e - at) (drop at s))) where
-    -- the word says it, or those behind it
-    first_is_lem : language_class (words (slice from to s)) ≡ cond b (some (sanitize_attr_value (drop 9 (slice at e s)))) (language_class (words (slice e to s)))
-    unfolding language_class
-    first_is_lem =
-        p.same_language
-        ∙ (ap language_class w.first
-        ∙ ap (λ (t : Bool). cond t (some (sanitize_attr_value (drop 9 (slice at e s)))) (language_class (words (slice e to s))))
-        (sym (q ∙ ap (starts_with (ascii "language-")) (part_is at e s))))
+part_behind : (b : ℕ) (s : Bytes) {x : Bytes} → PartOf s x → PartOf (b ∷ s) x
+part_behind b s (p, q, o, i, e) =
+    let d : suc q - suc p ≡ q - p = omega arith in
+    (suc p, suc q, omega arith, omega arith, e ∙ ap (λ (k : ℕ). take k (drop p s)) (sym d))
 
-    pub class_on : b ≡ false → {n : ℕ} → WordAt s e to n → ClassLeft s from to n
-    class_on f v =
-        record {
-          within = v.within;
-          black = v.black;
-          same_language = first_is_lem ∙ (ap (λ (t : Bool). cond t (some (sanitize_attr_value (drop 9 (slice at e s)))) (language_class (words (slice e to s)))) f ∙ ap language_class v.same_words);
-        }
+parts_behind : (b : ℕ) (s : Bytes) (xs : List Bytes) → AllParts s xs → AllParts (b ∷ s) xs
+parts_behind b s [] h = tt
+parts_behind b s (x ∷ xs) h = (part_behind b s h.0, parts_behind b s xs h.1)
 
-    module _ (t : b ≡ true) (k : to ≤ length s) where
-      pub class_long : at + 9 ≤ e
-      class_long = ⊎_elim (λ (l : at + 9 ≤ e). l) (λ (l : e < at + 9). absurd (false≢true (sym (starts_short (slice at e s) (ascii "language-") (omega (arith, length-slice at e s (omega (arith, w.within))))) ∙ (sym (ap (starts_with (ascii "language-")) (part_is at e s)) ∙ (sym q ∙ t))))) (le_or_lt (at + 9) e)
+part_front : (s : Bytes) {x : Bytes} {k : ℕ} → k ≤ length s → x ≡ take k s → PartOf s x
+part_front s {x} {k} l e = let d : k - 0 ≡ k = omega arith in (0, k, omega arith, l, e ∙ ap (λ (j : ℕ). take j s) (sym d))
 
-      pub class_found : (x : Bor Bytes) → x.now ≡ take (e - (at + 9)) (drop (at + 9) s) → Language s (Some x) (language_class (words (slice from to s)))
-      class_found x d =
+pieces_inside : (s : Bytes) → (k : ℕ) × (k ≤ length s) × ((parts white s).0 ≡ take k s) × AllParts s (parts white s).1
+unfolding parts cut_at
+pieces_inside [] = (0, omega arith, refl, tt)
+pieces_inside (b ∷ s) = let r = pieces_inside s in go (white b) r.0 r.1 r.2 r.3
+  where
+    go : (t : Bool) (k : ℕ) → k ≤ length s → (parts white s).0 ≡ take k s → AllParts s (parts white s).1
+        → (k : ℕ) × (k ≤ length (b ∷ s)) × ((cut_at t b (parts white s)).0 ≡ take k (b ∷ s)) × AllParts (b ∷ s) (cut_at t b (parts white s)).1
+    go true k l e h = (0, omega arith, refl, (part_behind b s (part_front s l e), parts_behind b s (parts white s).1 h))
+    go false k l e h = (suc k, omega arith, ap (λ (x : Bytes). b ∷ x) e, parts_behind b s (parts white s).1 h)
+
+all_inside : (s : Bytes) → AllParts s (split white s)
+unfolding split
+all_inside s = let r = pieces_inside s in (part_front s r.1 r.2, r.3)
+
+-- the first piece that begins so
+found_none : (xs : List Bytes) → None ≡ find (starts_with prefix) xs → language_class (filled xs) ≡ none
+unfolding language_class filled null starts_with same
+found_none [] h = refl
+found_none ([] ∷ xs) h = found_none xs h
+found_none ((b ∷ x) ∷ xs) h = go (found_none xs) (starts_with prefix (b ∷ x)) h
+  where
+    go : (None ≡ find (starts_with prefix) xs → language_class (filled xs) ≡ none) → (t : Bool) → None ≡ cond t (Some (b ∷ x)) (find (starts_with prefix) xs) → cond t (some (sanitize_attr_value (drop 9 (b ∷ x)))) (language_class (filled xs)) ≡ none
+    go f true h = cc
+    go f false h = f h
+
+found_some : (s : Bytes) (xs : List Bytes) {w : Bytes} → AllParts s xs → Some w ≡ find (starts_with prefix) xs
+    → PartOf s w × (starts_with prefix w ≡ true) × (language_class (filled xs) ≡ some (sanitize_attr_value (drop 9 w)))
+unfolding language_class filled null starts_with same
+found_some s [] p h = cc
+found_some s ([] ∷ xs) p h = found_some s xs p.1 h
+found_some s ((b ∷ x) ∷ xs) {w} p h = go (found_some s xs p.1) (starts_with prefix (b ∷ x)) refl h
+  where
+    go : (Some w ≡ find (starts_with prefix) xs → PartOf s w × (starts_with prefix w ≡ true) × (language_class (filled xs) ≡ some (sanitize_attr_value (drop 9 w)))) → (t : Bool) → starts_with prefix (b ∷ x) ≡ t → Some w ≡ cond t (Some (b ∷ x)) (find (starts_with prefix) xs)
+        → PartOf s w × (starts_with prefix w ≡ true) × (cond t (some (sanitize_attr_value (drop 9 (b ∷ x)))) (language_class (filled xs)) ≡ some (sanitize_attr_value (drop 9 w)))
+    go f true e h = let q : b ∷ x ≡ w = cc in (subst (λ (y : Bytes). PartOf s y) q p.0, ap (starts_with prefix) (sym q) ∙ e, ap (λ (y : Bytes). some (sanitize_attr_value (drop 9 y))) q)
+    go f false e h = f h
+
+same_points : (x y : Bytes) → pointwise eqb x y ≡ same x y
+unfolding same
+same_points [] [] = refl
+same_points [] (b ∷ y) = refl
+same_points (a ∷ x) [] = refl
+same_points (a ∷ x) (b ∷ y) = rw (same_points x y) refl
+
+module _ (s : Bytes) {r : Answer (Bor Bytes)} (h : option_map (λ (x : Bor Bytes). x.now) r ≡ find (starts_with prefix) (slice_split white s)) where
+  pub class_none : r ≡ None → {z : Answer (Bor Bytes)} → z ≡ None → Language s z (language_class (words s))
+  unfolding words
+  class_none e n = subst (λ (x : Answer (Bor Bytes)). Language s x (language_class (words s))) (sym n) (record { inside = tt; language_is = found_none (split white s) (sym (ap (option_map (λ (x : Bor Bytes). x.now)) e) ∙ (h ∙ sym (ap (find (starts_with prefix)) (pieces_are s)))) })
+
+  -- what stands behind the word's front
+  pub class_some : {w : Bor Bytes} → r ≡ Some w → {z : Answer (Bor Bytes)}
+      → MatchOption z (pointwise eqb (take 9 w.now) prefix ≡ false) (λ (x : Bor Bytes). (pointwise eqb (take 9 w.now) prefix ≡ true) × (x.now ≡ drop 9 w.now) × (length x.now + 9 ≡ length w.now))
+      → Language s z (language_class (words s))
+  unfolding words starts_with
+  class_some {w} e {z} m = go z m
+    where
+      f : PartOf s w.now × (starts_with prefix w.now ≡ true) × (language_class (filled (split white s)) ≡ some (sanitize_attr_value (drop 9 w.now)))
+      f = found_some s (split white s) (all_inside s) (sym (ap (option_map (λ (x : Bor Bytes). x.now)) e) ∙ (h ∙ sym (ap (find (starts_with prefix)) (pieces_are s))))
+
+      go : (z : Answer (Bor Bytes)) → MatchOption z (pointwise eqb (take 9 w.now) prefix ≡ false) (λ (x : Bor Bytes). (pointwise eqb (take 9 w.now) prefix ≡ true) × (x.now ≡ drop 9 w.now) × (length x.now + 9 ≡ length w.now))
+          → Language s z (language_class (words s))
+      go None q = absurd (false≢true (sym q ∙ (same_points (take 9 w.now) prefix ∙ f.1)))
+      go (Some x) q =
           record {
-            inside = (at + 9, e, class_long, omega (arith, w.within), d);
-            language_is = first_is_lem ∙ (ap (λ (x : Bool). cond x (some (sanitize_attr_value (drop 9 (slice at e s)))) (language_class (words (slice e to s)))) t
-                ∙ ap (λ (x : Bytes). some (sanitize_attr_value x)) (drop-drop 9 at (take e s) ∙ sym (part_is (at + 9) e s) ∙ sym d));
+            inside = subst (λ (y : Bytes). PartOf s y) (rest_part 9 w.now ∙ sym q.1) (part_of_part s w.now 9 (length w.now) f.0 (omega (arith, q.2)) (omega arith));
+            language_is = f.2 ∙ ap (λ (y : Bytes). some (sanitize_attr_value y)) (sym q.1);
           }
-
-  pub class_none : to ≤ at → Language s None (language_class (words (slice from to s)))
-  unfolding language_class words split parts filled null
-  class_none l = record { inside = tt; language_is = p.same_language ∙ ap (λ (x : Bytes). language_class (words x)) (part_none at to s l) }
 
 -- ---- the class of an element
 
@@ -209,10 +262,11 @@ module _ {sh : Bytes} {o : Option Bytes} where
   pub language_second : {r : Answer (Bor Bytes)} {y : Option Bytes} → Language sh None o → Language sh r y → Language sh r (or_else o y)
   language_second {r} {y} w u = language_of (or_none o y w.language_is) u
 
-  pub language_some : {x : Bor Bytes} → Language sh (Some x) o → or_nothing o ≡ sanitize_attr_value x.now
-  unfolding or_nothing
-  language_some w = ap or_nothing w.language_is
-
-  pub language_none : Language sh None o → or_nothing o ≡ sanitize_attr_value []
+  -- nothing stands for none
+  pub language_or : {r : Answer (Bor Bytes)} (d : Bor Bytes) → d.now ≡ [] → Language sh r o → or_nothing o ≡ sanitize_attr_value (unwrap_or r d).now
   unfolding or_nothing sanitize_attr_value words split parts filled null first_word filter
-  language_none w = ap or_nothing w.language_is
+  language_or {r} d e w = go r w
+    where
+      go : (r : Answer (Bor Bytes)) → Language sh r o → or_nothing o ≡ sanitize_attr_value (unwrap_or r d).now
+      go (Some x) w = ap or_nothing w.language_is
+      go None w = ap or_nothing w.language_is ∙ sym (ap sanitize_attr_value e)

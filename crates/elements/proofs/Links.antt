@@ -1,12 +1,12 @@
 -- A link from its text, which was lifted to the end of the room, and the steps of links and emphasis in their definitions. Assumes nothing.
-use Prim.Native.Nat.{ℕ, ◌+◌, ◌-◌, ◌≤◌}
+use Prim.Native.Nat.{ℕ, ◌+◌, ◌≤◌}
 use mathlib.Core.Path.{◌≡◌, refl, sym, ap, subst, subst₂, ◌∙◌}
 use mathlib.Core.Bool.{Bool, true, false, cond}
-use mathlib.Core.List.{List, [], ◌∷◌}
+use mathlib.Core.List.{List, [], ◌∷◌, ◌++◌}
 use native.Mathlib.Omega.{arith}
 use lib.ListN.{length, take, drop, length-drop}
 use lib.Seq.{length-take-le, take-take}
-use Rattle.spec.specs.Bytes.{Bytes, ascii, null, every, white, is_blank}
+use Rattle.spec.specs.Bytes.{Bytes, ascii, null, is_blank}
 use Rattle.spec.specs.Tree.{Attr, Forest}
 use Rattle.spec.specs.Out.{Out, Step, keep, and_then, beside, nested}
 use Rattle.spec.specs.Md.Ctx.{fresh, contains, scope_of, include_node, inline, emphasis_scope}
@@ -16,11 +16,14 @@ use Rattle.spec.specs.Md.Elements.Emphasis.{md_emphasis, push_emphasis, write_em
 use Rattle.spec.specs.Md.Elements.Link.{link_of, blank_link, text_link}
 use Rattle.spec.specs.declared.ctx.FormatOpts.{FormatOpts}
 use Rattle.text.specs.Source.{WritesIn}
-use Rattle.text.specs.Writes.{Written, Refused, Says, Writes}
-use Rattle.text.specs.Writes.{Wrote, no_room}
+use Rattle.text.specs.declared.text.Text.{Text}
+use Rattle.text.specs.Texts.{bytes, wrote, WritesTo}
+use Rattle.text.specs.Writes.{Written, Refused, Says, Writes, Wrote}
 use Rattle.std.specs.Prelude.{Ok, Err}
 use Rattle.text.proofs.Reading.{null_some}
-use Rattle.text.proofs.Writing.{yes, no, done, full, reaches}
+use Rattle.text.proofs.Sourcing.{lent_front}
+use Rattle.text.proofs.Texts.{Answer}
+use Rattle.text.proofs.Writing.{yes, no, done, reaches}
 use Rattle.elements.specs.EmphasisStep.{emphasis_step}
 use Rattle.elements.specs.LinkStep.{append_by, bracket, link_front, link_shown, link_step, plain_step, text_link_step}
 
@@ -47,13 +50,13 @@ module _ (d : List ℕ) (len base : ℕ) (h : base ≤ length d) (f : Step) {mid
     front : Written base (take base mid) m (f (take len d))
     front = done e w.writes
 
-    pub front_reach : m ≤ base
+    front_reach : m ≤ base
     front_reach = omega (arith, reaches front, front.long)
 
     so_far : take m mid ≡ (f (take len d)).text
     so_far = sym (take-take m base mid front_reach) ∙ front.text_is
 
-    pub front_then : (g : List ℕ → Step) {after : List ℕ} {s : Wrote} → Writes (length mid) after s (beside (length (drop base mid)) (g (drop base mid) (take m mid)))
+    front_then : (g : List ℕ → Step) {after : List ℕ} {s : Wrote} → Writes (length mid) after s (beside (length (drop base mid)) (g (drop base mid) (take m mid)))
         → Writes (length d) after s (beside (length (drop base d)) (and_then (f (take len d)) (g (drop base d))))
     unfolding and_then beside
     front_then g {after} {s} v =
@@ -67,11 +70,22 @@ module _ (d : List ℕ) (len base : ℕ) (h : base ≤ length d) (f : Step) {mid
         go (Ok j) u = record { long = u.long; fits = omega (arith, u.fits, front.fits, length-drop base d); count = u.count; text_is = u.text_is }
         go (Err _) u = record { over = omega (arith, u.over) }
 
-  pub front_full : r ≡ no_room → (g : Step) {z : List ℕ} → Writes (length d) z no_room (beside (length (drop base d)) (and_then (f (take len d)) g))
-  unfolding and_then beside
-  front_full e g =
-      let v : Refused base (f (take len d)) = full e w.writes in
-      record { says = record { over = omega (arith, v.over, length-drop base d) } }
+-- where f has no room before it
+pub front_over : (d : List ℕ) (base : ℕ) → base ≤ length d → {o : Out} (g : Step) → Refused base o → Refused (length d) (beside (length (drop base d)) (and_then o g))
+unfolding and_then beside
+front_over d base h g v = record { over = omega (arith, v.over, length-drop base d) }
+
+-- f is written to the text in the room before `base`, which is ys then, and c is the whole text
+module _ (a : Text) (base : ℕ) (h : a.len ≤ base) (g : base ≤ length a.room.now) (f : Step) {ys : List ℕ} {r : Wrote} (l : length ys ≡ length (take base a.room.now))
+    (w : Writes (length (take base a.room.now)) ys r (f (take a.len (take base a.room.now)))) where
+  pub front_to : {m : ℕ} → r ≡ Ok m → (k : List ℕ → Step) {c e : Text} {s : Answer} → WritesTo c e s (λ t. beside (length (drop base c.room.now)) (k (drop base c.room.now) t))
+      → c.len ≡ m → c.room.ghost_name ≡ a.room.ghost_name → c.room.now ≡ ys ++ drop base a.room.now → WritesTo a e s (λ t. beside (length (drop base a.room.now)) (and_then (f t) (k (drop base a.room.now))))
+  front_to {m} z k {c} {e} {s} v n o q =
+      let x : WritesIn base a.room.now (ys ++ drop base a.room.now) r (f (bytes a)) = lent_front base a.len a.room.now ys f h g l w in
+      let mid : List ℕ = ys ++ drop base a.room.now in
+      let y : Writes (length mid) e.room.now (wrote e s) (beside (length (drop base mid)) (k (drop base mid) (take m mid))) =
+      subst₂ (λ (j : ℕ) (d : List ℕ). Writes (length d) e.room.now (wrote e s) (beside (length (drop base d)) (k (drop base d) (take j d)))) n q v.writes in
+      record { room_is = v.room_is ∙ o; long = v.long ∙ (ap length q ∙ x.long); writes = front_then a.room.now a.len base g f x z k y }
 
 -- ---- whether there is a text
 
@@ -104,11 +118,6 @@ module _ (opts : FormatOpts) (name : ℕ) (d : List ℕ) (len n : ℕ) (t : Byte
     emphasis_marked q m s = rw (some_text d len n h e, q, m, s)
 
 -- ---- whether a link's texts are blank
-
--- `&text[len..len + n]` lends them
-pub blank_part : (d : List ℕ) (len n : ℕ) {b : Bool} → b ≡ every white (take (len + n - len) (drop len d)) → b ≡ is_blank (take n (drop len d))
-unfolding is_blank
-blank_part d len n e = let q : len + n - len ≡ n = omega arith in e ∙ ap (λ (k : ℕ). every white (take k (drop len d))) q
 
 module _ (opts : FormatOpts) (attrs : List Attr) (href s t : Bytes) {own : FormatOpts} (q : own ≡ fresh opts) {b : Bool} (h : b ≡ is_blank s) where
   pub text_blank : b ≡ true → text_link_step opts attrs href s t ≡ plain_step own s t

@@ -2,8 +2,9 @@
 use Rattle.std.specs.Prelude.{ℕ, ◌≡◌, Bool, cond, not, ◌&&◌, ◌||◌, [], ◌∷◌, ◌++◌, Result, Ok, Err}
 use Rattle.spec.specs.Bytes.{Bytes, ascii, white}
 use Rattle.spec.specs.Out.{push}
-use Rattle.text.specs.Writes.{Writes, Wrote}
+use Rattle.text.specs.Texts.{WritesTo}
 use Rattle.text.specs.declared.buffer.Full.{Full}
+use Rattle.text.specs.declared.text.Text.{Text}
 use Rattle.elements.specs.declared.pre.Joined.{Joined}
 
 -- what a byte appends: white bytes nothing, any other itself, behind a blank if it leads a word that is not the first
@@ -24,15 +25,16 @@ unfoldable pub gap_after : Bool → Bytes → Bool
 gap_after gap [] = gap
 gap_after gap (b ∷ s) = gap_after (white b) s
 
-abbrev pub wrote_of : Result Joined Full → Wrote
-wrote_of (Ok j) = Ok j.len
-wrote_of (Err e) = Err e
+-- the answer without the state
+abbrev pub answer_of : Result Joined Full → Result (Unit {0}) Full
+answer_of (Ok _) = Ok tt
+answer_of (Err e) = Err e
 
 abbrev pub StateIs : Result Joined Full → Bool → Bool → Type 0
 StateIs (Ok j) a b = (j.some ≡ a) × (j.gap ≡ b)
 StateIs (Err _) a b = Unit {0}
 
--- the answer for a piece that is appended to t
-pub record Joins (room : ℕ) (after : Bytes) (r : Result Joined Full) (some gap : Bool) (s t : Bytes) : Type 0 where
-  pub writes : Writes room after (wrote_of r) (push (words_on some gap s) t)
+-- the answer for a piece that is appended
+pub record Joins (before after : Text) (r : Result Joined Full) (some gap : Bool) (s : Bytes) : Type 0 where
+  pub writes : WritesTo before after (answer_of r) (push (words_on some gap s))
   pub state : StateIs r (some_after some s) (gap_after gap s)

@@ -1,8 +1,8 @@
 // write_code of elements/code.rs.
-ghost use Rattle.std.specs.Prelude.{◌≡◌, cond, List, ℕ, ◌+◌, ◌≤◌, length, take, drop};
+ghost use Rattle.std.specs.Prelude.{◌≡◌, cond, List, [], ℕ, ◌+◌, ◌≤◌, length, take, drop};
 ghost use Rattle.spec.specs.Bytes.{Bytes, ascii, isin, one, starts_with, ends_with, blank, white_width, trim_from, trim, trim_start_matches, trim_end_matches};
 ghost use Rattle.spec.specs.Call.{tags_to_skip};
-ghost use Rattle.spec.specs.Tree.{Attr, Forest, text_of};
+ghost use Rattle.spec.specs.Tree.{Attr, Forest, nothing, element, text_of};
 ghost use Rattle.spec.specs.Md.MDSerializer.{Ancestors};
 ghost use Rattle.spec.specs.Md.Serializer.{serializer};
 ghost use Rattle.spec.specs.Md.TextUtils.{trim_blanks};
@@ -11,16 +11,20 @@ ghost use Rattle.tree.specs.Memory.{parent_at};
 ghost use Rattle.tree.specs.Represents.{Rep, Around};
 ghost use Rattle.input.specs.Scans.{skip_of};
 ghost use Rattle.text.specs.Trimmed.{Trimmed, Skipped};
+ghost use Rattle.text.specs.Texts.{WritesTo};
 ghost use Rattle.text.specs.Writes.{Writes};
 ghost use Rattle.elements.specs.Edges.{ended_by};
 ghost use Rattle.nodes.specs.Stands.{Siblings, ElementAt, SomeElement, Placed};
 
 use crate::pre::write_pre;
-use marks::by_len::push_code_text;
-use nodes::by_len::write_skip_md;
+use marks::code::push_code_text;
+use nodes::skip_md::write_skip_md;
 use spec::ctx::FormatOpts;
-use text::buffer::{Wrote, contains_byte, ends_with_byte, reread, trim_end_matches, trim_start_matches};
+use text::buffer::{
+    Full, Wrote, contains_byte, ends_with_byte, trim_end_matches, trim_start_matches,
+};
 use text::class::{Blank, TabOrBlank};
+use text::text::Text;
 use text::white_space::{is_white_space_1, is_white_space_2, is_white_space_3, trim_end};
 use tree::nodes::{Tree, text_at};
 
@@ -28,49 +32,33 @@ use tree::nodes::{Tree, text_at};
 fn white_width(s: &[u8]) -> usize
     ensures { result ≡ white_width s.now }
 {
-    if s.len() == 0 {
-        return 0;
+    match s {
+        [a, ..] if is_white_space_1(*a) => 1,
+        [a, b, ..] if is_white_space_2(*a, *b) => 2,
+        [a, b, c, ..] if is_white_space_3(*a, *b, *c) => 3,
+        _ => 0,
     }
-    if is_white_space_1(s[0]) {
-        return 1;
-    }
-    if s.len() < 2 {
-        return 0;
-    }
-    if is_white_space_2(s[0], s[1]) {
-        return 2;
-    }
-    if s.len() < 3 {
-        return 0;
-    }
-    if is_white_space_3(s[0], s[1], s[2]) {
-        return 3;
-    }
-    0
 }
 
-// How many bytes of White_Space s begins with.
-fn trim_start(s: &[u8]) -> usize
-    ensures { Skipped s.now result (trim_from 0 s.now) }
+// s without the White_Space at its front.
+fn trim_start(s: &[u8]) -> &[u8]
+    ensures { result.now ≡ trim_from 0 s.now }
 {
-    let mut i = 0;
-    while i < s.len() {
-        let n = white_width(&s[i..]);
+    let mut rest = s;
+    loop {
+        let n = white_width(rest);
         if n == 0 {
-            return i;
+            return rest;
         }
-        i += n;
+        rest = &rest[n..];
     }
-    i
 }
 
 // Whether s holds LF between other characters than White_Space.
 fn is_multiline_text(s: &[u8]) -> bool
     ensures { result ≡ isin 10 (trim s.now) }
 {
-    let end = trim_end(s);
-    let start = trim_start(&s[..end]);
-    contains_byte(&s[start..end], 10)
+    contains_byte(trim_start(&s[..trim_end(s)]), b'\n')
 }
 
 // Whether some text of the nodes from number `from` up to `to` does.
@@ -78,16 +66,11 @@ fn is_multiline(tree: &Tree, from: usize, to: usize) -> bool
     requires { Siblings tree.now.sheet.now tree.now.nodes.now from to }
     ensures { (parent : ℕ) (f : Forest) → Rep tree.now.sheet.now tree.now.nodes.now parent from to f → result ≡ def.is_multiline f }
 {
-    let mut i = from;
-    while i < to {
+    for i in from..to {
         let place = tree.node_place(i);
-        let part = text_at(tree.sheet, place);
-        let start = part.start;
-        let end = part.end;
-        if is_multiline_text(&tree.sheet[start..end]) {
+        if is_multiline_text(&tree.sheet[text_at(tree.sheet, place)]) {
             return true;
         }
-        i += 1;
     }
     false
 }
@@ -97,17 +80,12 @@ fn begins_line(tree: &Tree, from: usize, to: usize) -> bool
     requires { Siblings tree.now.sheet.now tree.now.nodes.now from to }
     ensures { (parent : ℕ) (f : Forest) → Rep tree.now.sheet.now tree.now.nodes.now parent from to f → result ≡ starts_with (ascii "\n") (trim_start_matches def.is_tab_or_blank (text_of f)) }
 {
-    let mut i = from;
-    while i < to {
+    for i in from..to {
         let place = tree.node_place(i);
-        let part = text_at(tree.sheet, place);
-        let start = part.start;
-        let end = part.end;
-        let n = start + trim_start_matches::<TabOrBlank>(&tree.sheet[start..end]);
-        if n < end {
-            return tree.sheet[n] == 10;
+        let part = &tree.sheet[text_at(tree.sheet, place)];
+        if let [first, ..] = &part[trim_start_matches::<TabOrBlank>(part)..] {
+            return *first == b'\n';
         }
-        i += 1;
     }
     false
 }
@@ -116,11 +94,11 @@ fn begins_line(tree: &Tree, from: usize, to: usize) -> bool
 fn ended_by(s: &[u8], before: bool) -> bool
     ensures { result ≡ ended_by before s.now }
 {
-    let n = trim_end_matches::<TabOrBlank>(s);
-    if n == 0 {
+    let front = &s[..trim_end_matches::<TabOrBlank>(s)];
+    if front.is_empty() {
         return before;
     }
-    ends_with_byte(&s[..n], 10)
+    ends_with_byte(front, b'\n')
 }
 
 // Whether the texts of those nodes end so.
@@ -129,14 +107,9 @@ fn ends_line(tree: &Tree, from: usize, to: usize) -> bool
     ensures { (parent : ℕ) (f : Forest) → Rep tree.now.sheet.now tree.now.nodes.now parent from to f → result ≡ ends_with (ascii "\n") (trim_end_matches (one def.is_tab_or_blank) (text_of f)) }
 {
     let mut ended = false;
-    let mut i = from;
-    while i < to {
+    for i in from..to {
         let place = tree.node_place(i);
-        let part = text_at(tree.sheet, place);
-        let start = part.start;
-        let end = part.end;
-        ended = ended_by(&tree.sheet[start..end], ended);
-        i += 1;
+        ended = ended_by(&tree.sheet[text_at(tree.sheet, place)], ended);
     }
     ended
 }
@@ -162,25 +135,19 @@ fn code_start(s: &[u8], begun: bool) -> usize
 }
 
 // The code is the n bytes behind the text.
-fn push_trimmed_code(
-    tree: &Tree,
-    text: &mut [u8],
-    len: usize,
-    n: usize,
-    i: usize,
-) -> Wrote
-    requires { SomeElement tree.now.sheet.now tree.now.nodes.now i × (len + n ≤ length text.old) }
-    ensures { (name : Bytes) (attrs : List Attr) (kids : Forest) → ElementAt tree.now.sheet.now tree.now.nodes.now i name attrs kids → Writes (length text.old) text.new result (def.push_code_text (length (def.trim_edges (text_of kids) (take n (drop len text.old)))) (def.trim_edges (text_of kids) (take n (drop len text.old))) (take len text.old)) }
+fn push_trimmed_code(tree: &Tree, text: &mut Text, n: usize, i: usize) -> Result<(), Full>
+    requires { SomeElement tree.now.sheet.now tree.now.nodes.now i × (text.old.len + n ≤ length text.old.room.now) }
+    ensures { (name : Bytes) (attrs : List Attr) (kids : Forest) → ElementAt tree.now.sheet.now tree.now.nodes.now i name attrs kids → WritesTo text.old text.new result (def.push_code_text (length (def.trim_edges (text_of kids) (take n (drop text.old.len text.old.room.now)))) (def.trim_edges (text_of kids) (take n (drop text.old.len text.old.room.now)))) }
 {
     let to = tree.node_end(i);
     let ended = ends_line(tree, i + 1, to);
     let begun = begins_line(tree, i + 1, to);
-    let end = len + n;
-    let k = code_end(&text[len..end], ended);
-    let last = len + k;
-    let m = code_start(&text[len..last], begun);
-    let size = k - m;
-    reread(push_code_text(text, len, len + m, size, size))
+    let base = text.len;
+    let code = &text.behind(base)[..n];
+    let end = code_end(code, ended);
+    let start = code_start(&code[..end], begun);
+    let size = end - start;
+    push_code_text(text, base + start, size, size)
 }
 
 fn code_opts(opts: FormatOpts) -> FormatOpts
@@ -189,37 +156,50 @@ fn code_opts(opts: FormatOpts) -> FormatOpts
     opts.fresh().include_node().inline().skip_escape().skip_md()
 }
 
+// What stands in the element, as code, in a room of its own.
+fn write_content(
+    tree: &Tree,
+    skip: Option<&[u8]>,
+    room: &mut [u8],
+    i: usize,
+    opts: FormatOpts,
+) -> Wrote
+    requires { SomeElement tree.now.sheet.now tree.now.nodes.now i }
+    ensures { (name : Bytes) (attrs : List Attr) (kids : Forest) → ElementAt tree.now.sheet.now tree.now.nodes.now i name attrs kids → Writes (length room.old) room.new result (def.write_skip_md (tags_to_skip (skip_of skip.entry)) opts (element name attrs kids nothing) []) }
+{
+    let mut text = Text { room, len: 0 };
+    write_skip_md(tree, skip, &mut text, i, opts)?;
+    Ok(text.len)
+}
+
 // One line of code.
 fn inline_code(
     tree: &Tree,
     skip: Option<&[u8]>,
-    text: &mut [u8],
-    len: usize,
+    text: &mut Text,
     i: usize,
     opts: FormatOpts,
-) -> Wrote
-    requires { SomeElement tree.now.sheet.now tree.now.nodes.now i × (len ≤ length text.old) }
-    ensures { (levels : ℕ) (name : Bytes) (attrs : List Attr) (kids : Forest) → ElementAt tree.now.sheet.now tree.now.nodes.now i name attrs kids → Writes (length text.old) text.new result (def.inline_code (serializer (tags_to_skip (skip_of skip.entry)) levels) opts name attrs kids (take len text.old)) }
+) -> Result<(), Full>
+    requires { SomeElement tree.now.sheet.now tree.now.nodes.now i }
+    ensures { (levels : ℕ) (name : Bytes) (attrs : List Attr) (kids : Forest) → ElementAt tree.now.sheet.now tree.now.nodes.now i name attrs kids → WritesTo text.old text.new result (def.inline_code (serializer (tags_to_skip (skip_of skip.entry)) levels) opts name attrs kids) }
 {
-    let inner = code_opts(opts);
-    let n = write_skip_md(tree, skip, &mut text[len..], 0, i, inner)?;
-    push_trimmed_code(tree, text, len, n, i)
+    let n = write_content(tree, skip, &mut text.room[text.len..], i, code_opts(opts))?;
+    push_trimmed_code(tree, text, n, i)
 }
 
 pub fn write_code(
     tree: &Tree,
     skip: Option<&[u8]>,
-    text: &mut [u8],
-    len: usize,
+    text: &mut Text,
     i: usize,
     opts: FormatOpts,
-) -> Wrote
-    requires { Placed tree.now.sheet.now tree.now.nodes.now i × (len ≤ length text.old) }
-    ensures { (levels : ℕ) (name : Bytes) (attrs : List Attr) (kids : Forest) (anc : Ancestors) → ElementAt tree.now.sheet.now tree.now.nodes.now i name attrs kids → Around tree.now.sheet.now tree.now.nodes.now (parent_at tree.now.nodes.now i) anc → Writes (length text.old) text.new result (def.write_code (serializer (tags_to_skip (skip_of skip.entry)) levels) anc opts name attrs kids (take len text.old)) }
+) -> Result<(), Full>
+    requires { Placed tree.now.sheet.now tree.now.nodes.now i }
+    ensures { (levels : ℕ) (name : Bytes) (attrs : List Attr) (kids : Forest) (anc : Ancestors) → ElementAt tree.now.sheet.now tree.now.nodes.now i name attrs kids → Around tree.now.sheet.now tree.now.nodes.now (parent_at tree.now.nodes.now i) anc → WritesTo text.old text.new result (def.write_code (serializer (tags_to_skip (skip_of skip.entry)) levels) anc opts name attrs kids) }
 {
     let to = tree.node_end(i);
     if is_multiline(tree, i + 1, to) {
-        return write_pre(tree, text, len, i, opts);
+        return write_pre(tree, text, i, opts);
     }
-    inline_code(tree, skip, text, len, i, opts)
+    inline_code(tree, skip, text, i, opts)
 }

@@ -1,20 +1,25 @@
 // The language of a code block. The answer is a part of the sheet, as it stands there.
-ghost use Rattle.std.specs.Prelude.{◌≡◌, false, List, ℕ, ◌+◌, ◌≤◌, ◌<◌, length, take, get_or};
-ghost use Rattle.spec.specs.Bytes.{Bytes, ascii, white, words};
+ghost use Rattle.std.specs.Prelude.{List, ℕ, ◌+◌, ◌≤◌, length, take};
+ghost use Rattle.spec.specs.Bytes.{Bytes, ascii, words};
 ghost use Rattle.spec.specs.Tree.{Attr, Forest, attr};
 ghost use Rattle.spec.specs.Md.MDSerializer.{Ancestors};
 ghost use Rattle.spec.specs.Md.Elements.Code as def;
 ghost use Rattle.tree.specs.Memory.{parent_at};
 ghost use Rattle.tree.specs.Represents.{Rep, Around, attrs_behind};
-ghost use Rattle.normalized.specs.Words.{WordAt, WordEnd};
 ghost use Rattle.elements.specs.Languages.{Language, Within};
 ghost use Rattle.nodes.specs.Stands.{Siblings, ElementAt, Placed};
 
 use nodes::nodes::node_name;
-use text::buffer::{starts_with, trim_start_matches};
-use text::class::{Black, White};
+use text::buffer::starts_with;
+use text::class::{ByteClass, White};
 use tree::attributes::{attribute, language_attribute};
 use tree::nodes::Tree;
+
+// The number of the name `code`.
+const CODE: usize = 24;
+
+// A language is looked for in an element and three around it.
+const NEAREST: usize = 4;
 
 // The language that node i or one of three elements around it says.
 fn nearest_language<'a>(tree: &Tree<'a, '_>, i: usize) -> Option<&'a [u8]>
@@ -22,8 +27,7 @@ fn nearest_language<'a>(tree: &Tree<'a, '_>, i: usize) -> Option<&'a [u8]>
     ensures { (anc : Ancestors) → Around tree.now.sheet.now tree.now.nodes.now i anc → Language tree.now.sheet.now result (def.nearest_language (take 4 anc)) }
 {
     let mut at = i;
-    let mut left: usize = 4;
-    while 0 < left {
+    for _ in 0..NEAREST {
         if at == 0 {
             return None;
         }
@@ -32,41 +36,21 @@ fn nearest_language<'a>(tree: &Tree<'a, '_>, i: usize) -> Option<&'a [u8]>
             return Some(language);
         }
         at = tree.node_parent(at);
-        left -= 1;
     }
     None
 }
 
-// Where the first word from i on begins.
-fn next_word(sheet: &[u8], i: usize, to: usize) -> usize
-    requires { (i ≤ to) × (to ≤ length sheet.now) }
-    ensures { WordAt sheet.now i to result }
-{
-    i + trim_start_matches::<White>(&sheet[i..to])
-}
-
-// Where the word at i ends.
-fn word_end(sheet: &[u8], i: usize, to: usize) -> usize
-    requires { (i < to) × (to ≤ length sheet.now) × (white (get_or sheet.now i 0) ≡ false) }
-    ensures { WordEnd sheet.now i to result }
-{
-    i + trim_start_matches::<Black>(&sheet[i..to])
-}
+// What begins a word of a class that says a language.
+const PREFIX: &[u8] = b"language-";
 
 // The language in the words of a class.
 fn class_language(class: &[u8]) -> Option<&[u8]>
     ensures { Language class.now result (def.language_class (words class.now)) }
 {
-    let to = class.len();
-    let mut at = next_word(class, 0, to);
-    while at < to {
-        let end = word_end(class, at, to);
-        if starts_with(&class[at..end], b"language-") {
-            return Some(&class[at + 9..end]);
-        }
-        at = next_word(class, end, to);
-    }
-    None
+    class
+        .split(|b| White::has(*b))
+        .find(|word| starts_with(word, PREFIX))?
+        .strip_prefix(PREFIX)
 }
 
 fn class_of(sheet: &[u8], place: usize) -> Option<&[u8]>
@@ -79,18 +63,14 @@ fn class_of(sheet: &[u8], place: usize) -> Option<&[u8]>
     }
 }
 
-// Of the first `code` among the siblings.
-fn find_code_language_css_class<'a>(
-    tree: &Tree<'a, '_>,
-    from: usize,
-    to: usize,
-) -> Option<&'a [u8]>
+// Of the first `code` among the siblings. A `while`: the next sibling is where this one ends.
+fn find_code_language_css_class<'a>(tree: &Tree<'a, '_>, from: usize, to: usize) -> Option<&'a [u8]>
     requires { Siblings tree.now.sheet.now tree.now.nodes.now from to }
     ensures { (parent : ℕ) (f : Forest) → Rep tree.now.sheet.now tree.now.nodes.now parent from to f → Language tree.now.sheet.now result (def.find_code_language_css_class f) }
 {
     let mut i = from;
     while i < to {
-        if node_name(tree, i) == 24 {
+        if node_name(tree, i) == CODE {
             let place = tree.node_place(i);
             return class_of(tree.sheet, place);
         }

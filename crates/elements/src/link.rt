@@ -1,123 +1,130 @@
 // elements/link.rs: what follows once a link's text stands behind the text.
 ghost use Rattle.std.specs.Prelude.{◌+◌, ◌≤◌, length, take, drop};
 ghost use Rattle.tree.specs.Represents.{attrs_behind};
+ghost use Rattle.text.specs.Texts.{WritesTo};
 ghost use Rattle.text.specs.Writes.{Writes};
 ghost use Rattle.spec.specs.Out.{beside};
 ghost use Rattle.elements.specs.LinkStep.{append_by, bracket, link_front, link_shown, link_step, plain_step, text_link_step};
 
-use lists_links::by_len::push_link_end;
-use normalized::by_len::{escape_trailing_bang, push_normalized_own};
+use lists_links::link::push_link_end;
+use normalized::normalize_own::push_normalized_own;
+use normalized::text_utils::escape_trailing_bang;
 use spec::ctx::FormatOpts;
-use text::buffer::{Wrote, all_in, lift};
-use text::by_len::{push_byte, push_lifted};
+use text::buffer::{Full, Wrote, all_in, lift};
 use text::class::White;
+use text::text::Text;
 
 // The opening bracket.
-fn push_bracket(text: &mut [u8], len: usize) -> Wrote
-    requires { len ≤ length text.old }
-    ensures { Writes (length text.old) text.new result (bracket (take len text.old)) }
+fn push_bracket(text: &mut Text) -> Result<(), Full>
+    ensures { WritesTo text.old text.new result bracket }
 {
-    let n = escape_trailing_bang(text, len)?;
-    push_byte(text, n, 91)
+    escape_trailing_bang(text)?;
+    text.push_byte(b'[')
+}
+
+// The same for a text in this room.
+fn push_bracket_in(room: &mut [u8], len: usize) -> Wrote
+    requires { len ≤ length room.old }
+    ensures { Writes (length room.old) room.new result (bracket (take len room.old)) }
+{
+    let mut text = Text { room, len };
+    push_bracket(&mut text)?;
+    Ok(text.len)
 }
 
 // The words of what stands from base on, escaped.
-fn push_plain(text: &mut [u8], base: usize, len: usize, opts: FormatOpts) -> Wrote
-    requires { (len ≤ base) × (base ≤ length text.old) }
-    ensures { Writes (length text.old) text.new result (plain_step opts (drop base text.old) (take len text.old)) }
+fn push_plain(text: &mut Text, base: usize, opts: FormatOpts) -> Result<(), Full>
+    requires { (text.old.len ≤ base) × (base ≤ length text.old.room.now) }
+    ensures { WritesTo text.old text.new result (plain_step opts (drop base text.old.room.now)) }
 {
-    push_normalized_own(text, base, len, opts)
+    push_normalized_own(text, base, opts)
 }
 
 // What stands from base on, by its words or as it stands.
-fn push_by(text: &mut [u8], base: usize, len: usize, plain: bool, opts: FormatOpts) -> Wrote
-    requires { (len ≤ base) × (base ≤ length text.old) }
-    ensures { Writes (length text.old) text.new result (beside (length (drop base text.old)) (append_by plain opts (drop base text.old) (take len text.old))) }
+fn push_by(text: &mut Text, base: usize, plain: bool, opts: FormatOpts) -> Result<(), Full>
+    requires { (text.old.len ≤ base) × (base ≤ length text.old.room.now) }
+    ensures { WritesTo text.old text.new result (λ t. beside (length (drop base text.old.room.now)) (append_by plain opts (drop base text.old.room.now) t)) }
 {
     if plain {
-        return push_plain(text, base, len, opts);
+        return push_plain(text, base, opts);
     }
-    let size = text.len() - base;
-    push_lifted(text, base, len, size)
+    text.push_lifted(base, text.room.len() - base)
 }
 
 // The bracket and the link's text, which stands from base on.
-fn push_link_text(text: &mut [u8], base: usize, len: usize, plain: bool, opts: FormatOpts) -> Wrote
-    requires { (len ≤ base) × (base ≤ length text.old) }
-    ensures { Writes (length text.old) text.new result (link_front (drop base text.old) (append_by plain opts) (take len text.old)) }
+fn push_link_text(text: &mut Text, base: usize, plain: bool, opts: FormatOpts) -> Result<(), Full>
+    requires { (text.old.len ≤ base) × (base ≤ length text.old.room.now) }
+    ensures { WritesTo text.old text.new result (link_front (drop base text.old.room.now) (append_by plain opts)) }
 {
-    let n = push_bracket(&mut text[..base], len)?;
-    push_by(text, base, n, plain, opts)
+    text.len = push_bracket_in(&mut text.room[..base], text.len)?;
+    push_by(text, base, plain, opts)
 }
 
 // The link whose text stands from base on.
 fn push_shown(
     sheet: &[u8],
-    text: &mut [u8],
+    text: &mut Text,
     base: usize,
-    len: usize,
     place: usize,
     dest: &[u8],
     plain: bool,
     opts: FormatOpts,
-) -> Wrote
-    requires { ((len ≤ base) × (base ≤ length text.old)) × ((place + 3 ≤ length sheet.now) × (length dest.now ≤ 1048576)) }
-    ensures { Writes (length text.old) text.new result (link_shown (attrs_behind sheet.now place) dest.now (drop base text.old) (append_by plain opts) (take len text.old)) }
+) -> Result<(), Full>
+    requires { ((text.old.len ≤ base) × (base ≤ length text.old.room.now)) × ((place + 3 ≤ length sheet.now) × (length dest.now ≤ 1048576)) }
+    ensures { WritesTo text.old text.new result (link_shown (attrs_behind sheet.now place) dest.now (drop base text.old.room.now) (append_by plain opts)) }
 {
-    let m = push_link_text(text, base, len, plain, opts)?;
-    push_link_end(text, m, sheet, place, dest)
+    push_link_text(text, base, plain, opts)?;
+    push_link_end(text, sheet, place, dest)
 }
 
 // The link, from its text, the n bytes behind the text.
 // `plain`: the words of the link's text are appended, escaped.
 pub fn push_link(
     sheet: &[u8],
-    text: &mut [u8],
-    len: usize,
+    text: &mut Text,
     n: usize,
     place: usize,
     dest: &[u8],
     plain: bool,
     opts: FormatOpts,
-) -> Wrote
-    requires { (len + n ≤ length text.old) × (place + 3 ≤ length sheet.now) × (length dest.now ≤ 1048576) }
-    ensures { Writes (length text.old) text.new result (link_step (attrs_behind sheet.now place) dest.now (take n (drop len text.old)) (append_by plain opts) (take len text.old)) }
+) -> Result<(), Full>
+    requires { (text.old.len + n ≤ length text.old.room.now) × (place + 3 ≤ length sheet.now) × (length dest.now ≤ 1048576) }
+    ensures { WritesTo text.old text.new result (link_step (attrs_behind sheet.now place) dest.now (take n (drop text.old.len text.old.room.now)) (append_by plain opts)) }
 {
     if n == 0 {
-        return Ok(len);
+        return Ok(());
     }
-    let base = text.len() - n;
-    lift(text, len, n, base);
-    push_shown(sheet, text, base, len, place, dest, plain, opts)
+    let base = text.room.len() - n;
+    lift(text.room, text.len, n, base);
+    push_shown(sheet, text, base, place, dest, plain, opts)
 }
 
 // A link that shows only white bytes parts the words around it.
-fn push_blank_link(text: &mut [u8], len: usize, n: usize, opts: FormatOpts) -> Wrote
-    requires { len + n ≤ length text.old }
-    ensures { Writes (length text.old) text.new result (plain_step opts (take n (drop len text.old)) (take len text.old)) }
+fn push_blank_link(text: &mut Text, n: usize, opts: FormatOpts) -> Result<(), Full>
+    requires { text.old.len + n ≤ length text.old.room.now }
+    ensures { WritesTo text.old text.new result (plain_step opts (take n (drop text.old.len text.old.room.now))) }
 {
-    let base = text.len() - n;
-    lift(text, len, n, base);
-    push_plain(text, base, len, opts)
+    let base = text.room.len() - n;
+    lift(text.room, text.len, n, base);
+    push_plain(text, base, opts)
 }
 
 // A link that shows its texts, the n bytes behind the text.
 pub fn push_text_link(
     sheet: &[u8],
-    text: &mut [u8],
-    len: usize,
+    text: &mut Text,
     n: usize,
     place: usize,
     dest: &[u8],
     opts: FormatOpts,
-) -> Wrote
-    requires { (len + n ≤ length text.old) × (place + 3 ≤ length sheet.now) × (length dest.now ≤ 1048576) }
-    ensures { Writes (length text.old) text.new result (text_link_step opts (attrs_behind sheet.now place) dest.now (take n (drop len text.old)) (take len text.old)) }
+) -> Result<(), Full>
+    requires { (text.old.len + n ≤ length text.old.room.now) × (place + 3 ≤ length sheet.now) × (length dest.now ≤ 1048576) }
+    ensures { WritesTo text.old text.new result (text_link_step opts (attrs_behind sheet.now place) dest.now (take n (drop text.old.len text.old.room.now))) }
 {
     let own = opts.fresh();
-    let end = len + n;
-    if all_in::<White>(&text[len..end]) {
-        return push_blank_link(text, len, n, own);
+    let end = text.len;
+    if all_in::<White>(&text.behind(end)[..n]) {
+        return push_blank_link(text, n, own);
     }
-    push_link(sheet, text, len, n, place, dest, true, own)
+    push_link(sheet, text, n, place, dest, true, own)
 }

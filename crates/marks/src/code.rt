@@ -50,14 +50,14 @@ fn runs_behind(before: Runs, s: &[u8]) -> Runs
     runs
 }
 
-// The same for one byte or more, most often without a backtick.
+// The same for a block of bytes, most often without a backtick.
 #[tactic(auto, using(crate::proofs::Leaves::runs_away))]
-fn runs_behind_part(before: Runs, s: &[u8]) -> Runs
-    requires { (0 < length s.now) × (before.run + length s.now < 2 ^ 64) }
-    ensures { RunsBehind before s.now result }
+fn runs_behind_block(before: Runs, block: &[u8; 16]) -> Runs
+    requires { before.run + 16 < 2 ^ 64 }
+    ensures { RunsBehind before block.now result }
 {
-    if contains_byte(s, b'`') {
-        runs_behind(before, s)
+    if contains_byte(block, b'`') {
+        runs_behind(before, block)
     } else {
         Runs {
             best: before.best.max(before.run),
@@ -66,14 +66,14 @@ fn runs_behind_part(before: Runs, s: &[u8]) -> Runs
     }
 }
 
-// The longest run of backticks. Blocks of 16 bytes are tested at once.
+// The longest run of backticks.
 pub fn max_backtick_run(s: &[u8]) -> usize
     ensures { result ≡ def.max_backtick_run s.now }
 {
     let mut runs = Runs { best: 0, run: 0 };
     let mut rest = s;
-    while let Some((block, behind)) = rest.split_first_chunk::<16>() {
-        runs = runs_behind_part(runs, block);
+    while let Some((block, behind)) = rest.split_first_chunk() {
+        runs = runs_behind_block(runs, block);
         rest = behind;
     }
     runs = runs_behind(runs, rest);

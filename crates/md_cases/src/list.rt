@@ -32,8 +32,7 @@ const TEXT: usize = 30;
 #[derive(Clone, Copy)]
 pub struct Call<'a> {
     pub sheet: &'a [u8],
-    pub own: bool,
-    pub run: &'a [u8],
+    pub skip: Option<&'a [u8]>,
     pub start: usize,
     pub with_node: bool,
     pub memory: usize,
@@ -53,8 +52,7 @@ pub fn read_call<'a>(list: &'a [u8], head: &[u8], zeros: &'a [u8]) -> Call<'a>
         } else {
             part(zeros, 0, read::<4>(head, SHEET + 4))
         },
-        own: flags & OWN != 0,
-        run: pointed(list, head, SKIP_LIST),
+        skip: (flags & OWN != 0).then_some(pointed(list, head, SKIP_LIST)),
         start: read::<4>(head, START),
         with_node: flags & WITH_NODE != 0,
         memory: read::<4>(head, MEMORY),

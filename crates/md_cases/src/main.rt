@@ -77,8 +77,7 @@ fn replay(
     text.fill(TEXT_BEFORE);
     let answer = serialize_md(
         call.sheet,
-        call.own,
-        call.run,
+        call.skip,
         call.start,
         call.with_node,
         nodes,

@@ -1,7 +1,6 @@
 -- What the proofs of several functions use.
 pub mod Numbers
 pub mod Appending
-pub mod AppendingByLen
 pub mod Siblings
 pub mod Tests
 pub mod Whites

@@ -65,7 +65,7 @@ fn show(
     text: &mut [u8],
 ) -> io::Result<()> {
     print_title(rt, title)?;
-    let answer = serialize_md(sheet, false, b"", start, with_node, nodes, text);
+    let answer = serialize_md(sheet, None, start, with_node, nodes, text);
     print_answer(rt, answer, text)
 }
 

@@ -33,7 +33,7 @@ pub fn answer_to(
     if longer {
         return Err(Refusal::SheetLength);
     }
-    serialize_md(sheet, false, b"", 0, false, nodes, text)
+    serialize_md(sheet, None, 0, false, nodes, text)
 }
 
 // The text with no line end added, or `no ` and the number in a line.

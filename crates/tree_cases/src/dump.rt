@@ -9,9 +9,7 @@ use input::tag::NAME;
 use std::io;
 use tree::attributes::{attribute, language_attribute};
 use tree::names::is_skipped;
-use tree::nodes::{
-    first_child, next_sibling, node_end, node_number, node_parent, node_place, tag_at, text_at,
-};
+use tree::nodes::{Tree, tag_at, text_at};
 
 // Bytes of the sheet: how far behind the node's field they begin, and how many they are.
 #[derive(Clone, Copy, PartialEq)]
@@ -82,27 +80,28 @@ fn part_of_value(sheet: &[u8], place: usize, names: [&[u8]; 2], value: Option<&[
 }
 
 // Node i of a call; `before` is where the field of the node before it stands.
-fn read_line(call: &Call, sheet: &[u8], ns: &[u8], i: usize, before: usize) -> Line
-    requires { Readable sheet.now ns.now i }
+fn read_line(call: &Call, tree: &Tree, i: usize, before: usize) -> Line
+    requires { Readable tree.now.sheet.now tree.now.nodes.now i }
 {
-    let place = node_place(ns, i);
+    let sheet = tree.sheet;
+    let place = tree.node_place(i);
     let text = text_at(sheet, place);
     let value = attribute(sheet, place, call.name);
     let language = language_attribute(sheet, place);
     Line {
-        end: node_end(ns, i).saturating_sub(i),
-        parent: node_parent(ns, i),
-        first_child: behind_node(first_child(ns, i), i),
-        next_sibling: behind_node(next_sibling(ns, i), i),
+        end: tree.node_end(i).saturating_sub(i),
+        parent: tree.node_parent(i),
+        first_child: behind_node(tree.first_child(i), i),
+        next_sibling: behind_node(tree.next_sibling(i), i),
         tag: tag_at(sheet, place),
-        number: node_number(ns, i),
+        number: tree.node_number(i),
         text: Part {
             from: text.start.saturating_sub(place),
             len: text.len(),
         },
         value: part_of_value(sheet, place, [call.name, call.name], value),
         language: part_of_value(sheet, place, [b"data-lang", b"data-language"], language),
-        skipped: is_skipped(sheet, place, call.own, call.run),
+        skipped: is_skipped(sheet, place, call.skip),
         place: place.saturating_sub(before),
     }
 }
@@ -141,21 +140,15 @@ fn put_again(rt: &impl Print, again: usize) -> io::Result<()> {
 }
 
 // Every node but the fragment, in a line of its own; lines that are alike as one, with how often it comes again.
-pub fn print_nodes(
-    rt: &impl Print,
-    call: &Call,
-    sheet: &[u8],
-    ns: &[u8],
-    count: usize,
-) -> io::Result<()>
-    requires { Holds sheet.now ns.now count }
+pub fn print_nodes(rt: &impl Print, call: &Call, tree: &Tree, count: usize) -> io::Result<()>
+    requires { Holds tree.now.sheet.now tree.now.nodes.now count }
 {
     let mut last = None;
     let mut again = 0;
     let mut before = 0;
     for i in 1..count {
-        let line = read_line(call, sheet, ns, i, before);
-        before = node_place(ns, i);
+        let line = read_line(call, tree, i, before);
+        before = tree.node_place(i);
         if last == Some(line) {
             again += 1;
             continue;

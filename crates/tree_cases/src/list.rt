@@ -30,8 +30,7 @@ const LENGTH: usize = 4;
 // A call but for its sheet.
 #[derive(Clone, Copy)]
 pub struct Call<'a> {
-    pub own: bool,
-    pub run: &'a [u8],
+    pub skip: Option<&'a [u8]>,
     pub name: &'a [u8],
     pub start: usize,
     pub memory: usize,
@@ -46,8 +45,7 @@ pub fn read_call(input: &[u8]) -> Option<(Call<'_>, &[u8])>
     let (run, rest) = rest.split_at_checked(read::<2>(head, RUN))?;
     let (name, rest) = rest.split_at_checked(read::<2>(head, NAME))?;
     let call = Call {
-        own: head[OWN] == 1,
-        run,
+        skip: (head[OWN] == 1).then_some(run),
         name,
         start: read::<4>(head, START),
         memory: read::<4>(head, MEMORY),

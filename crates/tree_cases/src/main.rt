@@ -13,20 +13,20 @@ use input::questions::first_refusal;
 use reading::read_full;
 use std::io;
 use tree::memory::clear;
+use tree::nodes::Tree;
 use tree::store::store_nodes;
 
 // One call: a line with the number, and for number 0 a line for each node.
 #[tactic(auto, using(tree::specs::Accepted::storable))]
 fn run_call(rt: &impl Print, call: &Call, sheet: &[u8], nodes: &mut [u8]) -> io::Result<()> {
-    let asked = first_refusal(sheet, call.own, call.run, call.start, nodes.len());
-    if let Err(refusal) = asked {
+    if let Err(refusal) = first_refusal(sheet, call.skip, call.start, nodes.len()) {
         return println!(rt; "{refusal}");
     }
     rt.write_all(b"0")?;
     let count = store_nodes(sheet, nodes);
     put(rt, count)?;
     rt.write_all(b"\n")?;
-    print_nodes(rt, call, sheet, nodes, count)?;
+    print_nodes(rt, call, &Tree { sheet, nodes }, count)?;
     clear(nodes);
     Ok(())
 }

@@ -1,4 +1,4 @@
-use Prim.Native.Nat.{◌≤◌, ◌-◌}
+use Prim.Native.Nat.{◌≤◌}
 use mathlib.Core.Path.{◌≡◌}
 use Rattle.nodes.proofs.Numbers.{pieces}
 use Rattle.elements.proofs.Edges.{begins}
@@ -6,6 +6,3 @@ use Rattle.elements.proofs.code.begins_line.Given as goal
 
 abbrev pub invariant-loop-i : goal.invariant-loop-i
 invariant-loop-i l = (l.from ≤ l.i) × (begins (pieces l.tree.sheet.now l.tree.nodes.now l.to l.from) ≡ begins (pieces l.tree.sheet.now l.tree.nodes.now l.to l.i))
-
-abbrev pub decreases-loop-i : goal.decreases-loop-i
-decreases-loop-i l = l.to - l.i

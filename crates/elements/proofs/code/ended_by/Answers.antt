@@ -1,16 +1,16 @@
-use mathlib.Core.Path.{sym, ◌∙◌}
+use Rattle.std.proofs.Common.{◌∙◌, sym, length, take, arith}
 use lib.Seq.{length-take-le}
+use borrow.Author.Tests.{eqb-true, eqb-false}
 use Rattle.elements.proofs.Edges.{ended_nothing, ended_here}
 use Rattle.elements.proofs.code.ended_by.Goals as goal
 
-pub slice_bounds-ends_with_byte-end : goal.slice_bounds-ends_with_byte-end
-slice_bounds-ends_with_byte-end c =
-    sym (length-take-le c.trim_end_matches-n.result c.args.s.now c.trim_end_matches-n.ensures.within)
-
-pub returns-then-n-eq0 : goal.returns-then-n-eq0
-returns-then-n-eq0 c =
-    ended_nothing c.args.s.now c.args.before c.trim_end_matches-n.result c.trim_end_matches-n.ensures c.if-n-eq0.true
+pub returns-then-is_empty : goal.returns-then-is_empty
+returns-then-is_empty c =
+    let s = c.args.s.now in let n = c.trim_end_matches.result in let w = c.trim_end_matches.ensures in
+    ended_nothing s c.args.before n w (omega (arith, eqb-true (length (take n s)) 0 (sym c.is_empty.ensures ∙ c.if-is_empty.true), length-take-le n s w.within))
 
 pub returns : goal.returns
 returns c =
-    c.ends_with_byte.ensures ∙ ended_here c.args.s.now c.args.before c.trim_end_matches-n.result c.trim_end_matches-n.ensures c.if-n-eq0.false
+    let s = c.args.s.now in let n = c.trim_end_matches.result in let w = c.trim_end_matches.ensures in
+    c.ends_with_byte.ensures
+    ∙ ended_here s c.args.before n w (λ z. eqb-false (length (take n s)) 0 (sym c.is_empty.ensures ∙ c.if-is_empty.false) (omega (arith, length-take-le n s w.within)))

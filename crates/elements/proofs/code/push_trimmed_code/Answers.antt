@@ -1,33 +1,35 @@
-use Prim.Native.Nat.{ℕ}
-use mathlib.Core.Path.{sym, ap₂}
-use lib.ListN.{take}
+use Rattle.std.proofs.Common.{ℕ, ap, ap₂, sym, take, arith}
 use Rattle.spec.specs.Bytes.{Bytes}
 use Rattle.spec.specs.Tree.{text_of}
 use Rattle.spec.specs.Md.Elements.Code.{push_code_text}
-use Rattle.text.proofs.Writing.{alike, alike_answer}
+use Rattle.text.specs.Texts.{bytes}
+use Rattle.text.proofs.Texts.{as_step}
 use Rattle.nodes.proofs.Interrupts.{element_kids}
-use Rattle.elements.proofs.Edges.{code_is, code_size}
+use Rattle.elements.proofs.Edges.{code_is, code_size, code_reach}
 use Rattle.elements.proofs.code.push_trimmed_code.Goals as goal
 
 pub ends_line-ended-requires : goal.ends_line-ended-requires
-ends_line-ended-requires c =
-    (c.args.i, c.requires.0.2, element_kids c.requires.0.3 c.node_end-to.ensures)
+ends_line-ended-requires c = (c.args.i, c.requires.0.2, element_kids c.requires.0.3 c.node_end-to.ensures)
 
 pub begins_line-begun-requires : goal.begins_line-begun-requires
-begins_line-begun-requires c =
-    (c.args.i, c.requires.0.2, element_kids c.requires.0.3 c.node_end-to.ensures)
+begins_line-begun-requires c = (c.args.i, c.requires.0.2, element_kids c.requires.0.3 c.node_end-to.ensures)
+
+pub push_code_text-requires : goal.push_code_text-requires
+push_code_text-requires c =
+    let t = c.args.text.now in
+    let r = code_reach t.room.now t.len c.args.n c.requires.1 (ap (take c.args.n) c.behind.ensures) c.code_end-end.ensures c.code_start-start.ensures in
+    (omega arith, omega (arith, r.0, r.1), omega arith)
 
 pub returns : goal.returns
 returns c =
-    let d = c.args.text.now in
-    let k = c.code_end-k.result in
-    let m = c.code_start-m.result in
+    let a = c.args in let t = a.text.now in let d = t.room.now in let k = c.code_end-end.result in let m = c.code_start-start.result in
     λ name attrs kids x.
     let h = element_kids x c.node_end-to.ensures in
-    let e = c.ends_line-ended.ensures c.args.i kids h in
-    let b = c.begins_line-begun.ensures c.args.i kids h in
-    alike
-    (ap₂ (λ (j : ℕ) (z : Bytes). push_code_text j z (take c.args.len d))
-    (sym (code_size d (text_of kids) c.args.len c.args.n k m c.requires.1 e b c.code_end-k.ensures c.code_start-m.ensures))
-    (sym (code_is d (text_of kids) c.args.len c.args.n k m c.requires.1 e b c.code_end-k.ensures c.code_start-m.ensures)))
-    (alike_answer c.reread.ensures c.push_code_text.ensures)
+    let e = c.ends_line-ended.ensures a.i kids h in
+    let b = c.begins_line-begun.ensures a.i kids h in
+    let z = ap (take a.n) c.behind.ensures in
+    as_step
+    (ap₂ (λ (j : ℕ) (y : Bytes). push_code_text j y (bytes t))
+    (sym (code_size d (text_of kids) t.len a.n k m c.requires.1 e b z c.code_end-end.ensures c.code_start-start.ensures))
+    (sym (code_is d (text_of kids) t.len a.n k m c.requires.1 e b z c.code_end-end.ensures c.code_start-start.ensures)))
+    c.push_code_text.ensures

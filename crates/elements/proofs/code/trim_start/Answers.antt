@@ -1,32 +1,27 @@
-use mathlib.Core.Path.{refl, sym, ◌∙◌}
-use Rattle.elements.proofs.WhiteStarts.{start_stop, start_next, start_fits, start_ended}
-use native.Mathlib.Omega.{arith}
+use Rattle.std.proofs.Common.{refl, sym, ap, ◌∙◌, arith, length, length-drop}
+use Rattle.spec.specs.Bytes.{trim_from}
+use Rattle.text.proofs.Reading.{rest_part}
+use Rattle.elements.proofs.WhiteStarts.{width_fits, start_here, start_goes}
 use Rattle.elements.proofs.code.trim_start.Goals as goal
 
-pub loop-i-init : goal.loop-i-init
-loop-i-init c =
-    (omega arith, refl)
+pub loop-rest-init : goal.loop-rest-init
+loop-rest-init c = refl
 
 pub returns-then-n-eq0 : goal.returns-then-n-eq0
-returns-then-n-eq0 c =
-    let s = c.args.s.now in
-    record { within = c.loop-i.invariant.0; is = start_stop s c.loop-i.i c.white_width-n.ensures c.if-n-eq0.true ∙ sym c.loop-i.invariant.1 }
+returns-then-n-eq0 c = let r = c.loop-rest.rest.now in sym (c.loop-rest.invariant ∙ start_here r (sym c.white_width-n.ensures ∙ c.if-n-eq0.true))
 
-pub overflow_add-i : goal.overflow_add-i
-overflow_add-i c =
-    let s = c.args.s.now in
-    omega (arith, start_fits s c.loop-i.i c.white_width-n.ensures c.loop-i.invariant.0)
+pub loop-rest-smaller : goal.loop-rest-smaller
+loop-rest-smaller c =
+    let r = c.loop-rest.rest.now in let n = c.white_width-n.result in
+    omega (arith, ap length (rest_part n r), length-drop n r, width_fits r, c.white_width-n.ensures, c.if-n-eq0.false)
 
-pub loop-i-smaller : goal.loop-i-smaller
-loop-i-smaller c =
-    omega (arith, c.if-n-eq0.false, c.loop-i-test.true)
+pub loop-rest-preserved : goal.loop-rest-preserved
+loop-rest-preserved c =
+    let r = c.loop-rest.rest.now in let n = c.white_width-n.result in
+    c.loop-rest.invariant ∙ (start_goes r n (sym c.white_width-n.ensures) ∙ sym (ap (trim_from 0) (rest_part n r)))
 
-pub loop-i-preserved : goal.loop-i-preserved
-loop-i-preserved c =
-    let s = c.args.s.now in
-    (start_fits s c.loop-i.i c.white_width-n.ensures c.loop-i.invariant.0, c.loop-i.invariant.1 ∙ start_next s c.loop-i.i c.white_width-n.ensures)
+pub slice_bounds-rest-count : goal.slice_bounds-rest-count
+slice_bounds-rest-count c = omega (arith, width_fits c.loop-rest.rest.now, c.white_width-n.ensures)
 
-pub returns : goal.returns
-returns c =
-    let s = c.args.s.now in
-    record { within = c.loop-i.invariant.0; is = start_ended s c.loop-i.i c.loop-i-test.false ∙ sym c.loop-i.invariant.1 }
+pub slice_bounds-rest-start : goal.slice_bounds-rest-start
+slice_bounds-rest-start c = omega (arith, width_fits c.loop-rest.rest.now, c.white_width-n.ensures)

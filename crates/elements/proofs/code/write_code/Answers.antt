@@ -1,38 +1,29 @@
 use mathlib.Core.Path.{sym, ◌∙◌}
-use lib.ListN.{take}
 use Rattle.spec.specs.Call.{tags_to_skip}
 use Rattle.spec.specs.Md.Serializer.{serializer}
 use Rattle.input.specs.Scans.{skip_of}
-use Rattle.text.proofs.Writing.{alike}
+use Rattle.text.specs.Texts.{bytes}
+use Rattle.text.proofs.Texts.{as_step}
 use Rattle.nodes.proofs.Interrupts.{element_kids}
 use Rattle.elements.proofs.Multilines.{code_block, code_line}
 use Rattle.elements.proofs.code.write_code.Goals as goal
 
 pub is_multiline-requires : goal.is_multiline-requires
-is_multiline-requires c =
-    let x = c.requires.0.0 in
-    (c.args.i, x.2, element_kids x.3 c.node_end-to.ensures)
-
-pub write_pre-requires : goal.write_pre-requires
-write_pre-requires c =
-    c.requires
+is_multiline-requires c = let x = c.requires.0 in (c.args.i, x.2, element_kids x.3 c.node_end-to.ensures)
 
 pub inline_code-requires : goal.inline_code-requires
-inline_code-requires c =
-    (c.requires.0.0, c.requires.1)
+inline_code-requires c = c.requires.0
 
 pub returns-then-is_multiline : goal.returns-then-is_multiline
 returns-then-is_multiline c =
-    λ levels name attrs kids anc x a.
-    alike
-    (code_block (serializer (tags_to_skip (skip_of c.args.skip)) levels) anc c.args.opts name attrs kids (take c.args.len c.args.text.now)
+    λ levels name attrs kids anc x a. as_step
+    (code_block (serializer (tags_to_skip (skip_of c.args.skip)) levels) anc c.args.opts name attrs kids (bytes c.args.text.now)
     (sym (c.is_multiline.ensures c.args.i kids (element_kids x c.node_end-to.ensures)) ∙ c.if-is_multiline.true))
     (c.write_pre.ensures name attrs kids anc x a)
 
 pub returns : goal.returns
 returns c =
-    λ levels name attrs kids anc x a.
-    alike
-    (code_line (serializer (tags_to_skip (skip_of c.args.skip)) levels) anc c.args.opts name attrs kids (take c.args.len c.args.text.now)
+    λ levels name attrs kids anc x a. as_step
+    (code_line (serializer (tags_to_skip (skip_of c.args.skip)) levels) anc c.args.opts name attrs kids (bytes c.args.text.now)
     (sym (c.is_multiline.ensures c.args.i kids (element_kids x c.node_end-to.ensures)) ∙ c.if-is_multiline.false))
     (c.inline_code.ensures levels name attrs kids x)

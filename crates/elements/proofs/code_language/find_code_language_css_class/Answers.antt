@@ -31,12 +31,12 @@ pub class_of-requires : goal.class_of-requires
 class_of-requires c =
     omega (arith, (left_node c.loop-i.invariant c.loop-i-test.true).placed, c.node_place-place.ensures)
 
-pub returns-then-node_name-eq24 : goal.returns-then-node_name-eq24
-returns-then-node_name-eq24 c =
+pub returns-then-node_name-eq-CODE : goal.returns-then-node_name-eq-CODE
+returns-then-node_name-eq-CODE c =
     let a = c.args in
     λ parent f h. language_of
     (sym (left_at c.loop-i.invariant (class_language (attr (ascii "class") (attrs_behind a.tree.now.sheet.now c.node_place-place.result)))
-    (λ parent g h. css_here a.tree.now.sheet.now a.tree.now.nodes.now parent c.loop-i.i a.to g h c.loop-i-test.true (sym c.node_name.ensures ∙ c.if-node_name-eq24.true)
+    (λ parent g h. css_here a.tree.now.sheet.now a.tree.now.nodes.now parent c.loop-i.i a.to g h c.loop-i-test.true (sym c.node_name.ensures ∙ c.if-node_name-eq-CODE.true)
     ∙ ap (λ (p : ℕ). class_language (attr (ascii "class") (attrs_behind a.tree.now.sheet.now p))) (sym c.node_place-place.ensures)) parent f h))
     c.class_of.ensures
 
@@ -48,7 +48,7 @@ pub loop-i-preserved : goal.loop-i-preserved
 loop-i-preserved c =
     let a = c.args in
     subst (λ (j : ℕ). Left find_code_language_css_class a.tree.now.sheet.now a.tree.now.nodes.now a.from a.to j) (sym c.node_end-i.ensures)
-    (left_on c.loop-i.invariant c.loop-i-test.true (λ parent g h. css_on a.tree.now.sheet.now a.tree.now.nodes.now parent c.loop-i.i a.to g h c.loop-i-test.true (λ q. c.if-node_name-eq24.false (c.node_name.ensures ∙ q))))
+    (left_on c.loop-i.invariant c.loop-i-test.true (λ parent g h. css_on a.tree.now.sheet.now a.tree.now.nodes.now parent c.loop-i.i a.to g h c.loop-i-test.true (λ q. c.if-node_name-eq-CODE.false (c.node_name.ensures ∙ q))))
 
 pub returns : goal.returns
 unfolding find_code_language_css_class

@@ -1,14 +1,17 @@
-use mathlib.Core.Path.{sym}
-use lib.ListN.{length-drop}
-use Rattle.text.proofs.Lifting.{in_being}
-use Rattle.elements.specs.LinkStep.{plain_step}
+use Rattle.std.proofs.Common.{Bool, ℕ, ap, ◌∙◌, length, drop, length-drop}
+use Rattle.spec.specs.Out.{beside, push}
+use Rattle.text.specs.Texts.{bytes}
+use Rattle.text.proofs.Texts.{as_step}
+use Rattle.elements.specs.LinkStep.{append_by, plain_step}
 use Rattle.elements.proofs.link.push_by.Goals as goal
 
 pub returns-then-plain : goal.returns-then-plain
 unfolding plain_step
 returns-then-plain c =
-    rw c.if-plain.true c.push_plain.ensures
+    let a = c.args in let t = a.text.now in let s = drop a.base t.room.now in
+    as_step (ap (λ (b : Bool). beside (length s) (append_by b a.opts s (bytes t))) c.if-plain.true) c.push_plain.ensures
 
 pub returns : goal.returns
 returns c =
-    rw c.if-plain.false (in_being _ (sym (length-drop c.args.base c.args.text.now)) c.push_lifted.ensures)
+    let a = c.args in let t = a.text.now in let s = drop a.base t.room.now in
+    as_step (ap (λ (b : Bool). beside (length s) (append_by b a.opts s (bytes t))) c.if-plain.false ∙ ap (λ (n : ℕ). beside n (push s (bytes t))) (length-drop a.base t.room.now)) c.push_lifted.ensures

@@ -4,12 +4,12 @@ use Rattle.spec.specs.Md.Elements.List.{kind_of}
 use Rattle.spec.specs.declared.ctx.ListKind.TheVariants.{Ol}
 use Rattle.elements.proofs.list_nodes.kind_of.Goals as goal
 
-pub returns-then-name-eq12 : goal.returns-then-name-eq12
+pub returns-then-name-eq-OL : goal.returns-then-name-eq-OL
 unfolding kind_of
-returns-then-name-eq12 c =
-    rw (eq-eqb c.args.name 12 c.if-name-eq12.true) (ap Ol c.start_of.ensures)
+returns-then-name-eq-OL c =
+    rw (eq-eqb c.args.name 12 c.if-name-eq-OL.true) (ap Ol c.start_of.ensures)
 
-pub returns : goal.returns
+pub returns-else-name-eq-OL : goal.returns-else-name-eq-OL
 unfolding kind_of
-returns c =
-    rw (ne_eqb c.args.name 12 c.if-name-eq12.false)
+returns-else-name-eq-OL c =
+    rw (ne_eqb c.args.name 12 c.if-name-eq-OL.false)

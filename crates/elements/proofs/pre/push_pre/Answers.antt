@@ -1,24 +1,15 @@
-use mathlib.Core.Path.{ap}
-use mathlib.Core.Bool.{cond}
-use mathlib.Core.List.{[], ◌++◌}
-use lib.ListN.{take, drop}
-use Rattle.spec.specs.Bytes.{Bytes, ascii, ends_with}
-use Rattle.spec.specs.Out.{push}
-use Rattle.spec.specs.Md.Elements.Code.{fenced_block}
-use Rattle.text.proofs.Writing.{alike}
-use Rattle.elements.proofs.Languages.{language_some, language_none}
+use Rattle.std.proofs.Common.{Bor, ap, refl, sym, ◌∙◌, take, drop}
+use Rattle.spec.specs.Bytes.{Bytes}
+use Rattle.spec.specs.Md.Elements.Code.{sanitize_attr_value}
+use Rattle.text.specs.Texts.{bytes}
+use Rattle.text.proofs.Texts.{as_step}
+use Rattle.elements.specs.PreStep.{pre_step}
+use Rattle.elements.proofs.Languages.{language_or}
 use Rattle.elements.proofs.pre.push_pre.Goals as goal
 
-pub returns-in-Some : goal.returns-in-Some
-returns-in-Some c =
-    let a = c.args in
-    λ name attrs kids anc x y. alike
-    (ap (λ (l : Bytes). push (cond (ends_with (ascii "\n\n") (take a.len a.text.now)) [] (ascii "\n") ++ fenced_block l (take a.n (drop a.len a.text.now))) (take a.len a.text.now))
-    (language_some (c.in-Some.ensures name attrs kids anc x y))) c.push_fenced_block.ensures
-
-pub returns-in-None : goal.returns-in-None
-returns-in-None c =
-    let a = c.args in
-    λ name attrs kids anc x y. alike
-    (ap (λ (l : Bytes). push (cond (ends_with (ascii "\n\n") (take a.len a.text.now)) [] (ascii "\n") ++ fenced_block l (take a.n (drop a.len a.text.now))) (take a.len a.text.now))
-    (language_none (c.in-None.ensures name attrs kids anc x y))) c.push_fenced_block-in-None.ensures
+pub returns : goal.returns
+returns c =
+    let a = c.args in let t = a.text.now in
+    λ name attrs kids anc x y. as_step
+    (ap (λ (l : Bytes). pre_step l (take a.n (drop t.len t.room.now)) (bytes t))
+    (language_or _ refl (c.find_code_language.ensures name attrs kids anc x y) ∙ ap (λ (z : Bor Bytes). sanitize_attr_value z.now) (sym c.unwrap_or-language.ensures))) c.push_fenced_block.ensures

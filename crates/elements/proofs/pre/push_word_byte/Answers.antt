@@ -1,30 +1,25 @@
-use mathlib.Core.Path.{refl, sym, ap, ◌∙◌}
+use mathlib.Core.Path.{sym, ap, ◌∙◌}
 use mathlib.Core.Bool.{Bool, cond}
 use mathlib.Core.List.{[], ◌∷◌, ◌++◌}
-use lib.ListN.{take}
 use Rattle.spec.specs.Bytes.{ascii}
 use Rattle.spec.specs.Out.{push}
-use Rattle.text.proofs.Writing.{alike, keeps_nothing, owes_all, owes_last, push_on, push_stop, stops}
+use Rattle.text.specs.Texts.{bytes}
+use Rattle.text.proofs.Texts.{as_step, pushes_nothing, push_next, push_stopped}
 use Rattle.elements.proofs.pre.push_word_byte.Goals as goal
 
 pub returns-then-has : goal.returns-then-has
 returns-then-has c =
     let a = c.args in
-    alike (ap (λ (t : Bool). push (cond t [] (cond a.lead (ascii " ") [] ++ (a.b ∷ []))) (take a.len a.text.now)) (sym c.has.ensures ∙ c.if-has.true)) (record { says = keeps_nothing a.text.now a.len c.requires })
-
-pub push_byte-requires : goal.push_byte-requires
-push_byte-requires c =
-    let a = c.args in
-    (push_on (cond a.lead (ascii " ") []) (a.b ∷ []) (owes_all a.text.now a.len (push (cond a.lead (ascii " ") [] ++ (a.b ∷ []))) c.requires refl) c.in_ok-n.was c.push_byte_if.ensures).reach
+    as_step (ap (λ (t : Bool). push (cond t [] (cond a.lead (ascii " ") [] ++ (a.b ∷ []))) (bytes a.text.now)) (sym c.has.ensures ∙ c.if-has.true)) (pushes_nothing a.text.now)
 
 pub returns : goal.returns
 returns c =
     let a = c.args in
-    alike (ap (λ (t : Bool). push (cond t [] (cond a.lead (ascii " ") [] ++ (a.b ∷ []))) (take a.len a.text.now)) (sym c.has.ensures ∙ c.if-has.false))
-    (owes_last (push_on (cond a.lead (ascii " ") []) (a.b ∷ []) (owes_all a.text.now a.len (push (cond a.lead (ascii " ") [] ++ (a.b ∷ []))) c.requires refl) c.in_ok-n.was c.push_byte_if.ensures) c.push_byte.ensures)
+    as_step (ap (λ (t : Bool). push (cond t [] (cond a.lead (ascii " ") [] ++ (a.b ∷ []))) (bytes a.text.now)) (sym c.has.ensures ∙ c.if-has.false))
+    (push_next (cond a.lead (ascii " ") []) (a.b ∷ []) c.in_ok-push_byte_if.was c.push_byte_if.ensures c.push_byte.ensures)
 
-pub returns-in_err-n : goal.returns-in_err-n
-returns-in_err-n c =
-    stops c.from_residual.ensures.0 (let a = c.args in
-    alike (ap (λ (t : Bool). push (cond t [] (cond a.lead (ascii " ") [] ++ (a.b ∷ []))) (take a.len a.text.now)) (sym c.has.ensures ∙ c.if-has.false))
-    (push_stop (cond a.lead (ascii " ") []) (a.b ∷ []) (owes_all a.text.now a.len (push (cond a.lead (ascii " ") [] ++ (a.b ∷ []))) c.requires refl) c.in_err-n.was c.push_byte_if.ensures))
+pub returns-in_err-push_byte_if : goal.returns-in_err-push_byte_if
+returns-in_err-push_byte_if c =
+    let a = c.args in
+    as_step (ap (λ (t : Bool). push (cond t [] (cond a.lead (ascii " ") [] ++ (a.b ∷ []))) (bytes a.text.now)) (sym c.has.ensures ∙ c.if-has.false))
+    (push_stopped (cond a.lead (ascii " ") []) (a.b ∷ []) c.in_err-push_byte_if.was c.push_byte_if.ensures c.from_residual.ensures.0)

@@ -1,9 +1,7 @@
 use mathlib.Core.Bool.{false}
-use lib.ListN.{length, take}
-use Rattle.nodes.proofs.AppendingByLen.{Appends}
+use Rattle.nodes.proofs.Appending.{Appends}
 use Rattle.elements.proofs.Joining.{words_in}
 use Rattle.elements.proofs.pre.push_words.Given as goal
 
 abbrev pub invariant-loop-i : goal.invariant-loop-i
-invariant-loop-i l =
-    Appends words_in l.tree.sheet.now l.tree.nodes.now l.from l.to (false, false) (take l.len l.initial.text) (length l.initial.text) l.text l.state.len l.i (l.state.some, l.state.gap)
+invariant-loop-i l = Appends words_in l.tree.sheet.now l.tree.nodes.now l.from l.to (false, false) l.initial.text l.text l.i (l.state.some, l.state.gap)

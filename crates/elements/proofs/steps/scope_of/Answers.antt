@@ -6,7 +6,7 @@ unfolding same
 returns-then-is_strong c =
     rw (c.is_strong.ensures, c.if-is_strong.true)
 
-pub returns : goal.returns
+pub returns-else-is_strong : goal.returns-else-is_strong
 unfolding same
-returns c =
+returns-else-is_strong c =
     rw (c.is_strong.ensures, c.if-is_strong.false)
