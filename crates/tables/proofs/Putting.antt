@@ -9,7 +9,8 @@ use borrow.Rule.Slice.PartMut.{put_mid, same_len_mid}
 use Rattle.std.proofs.lemmas.Slice.{take-put_mid, drop-put_mid}
 use lib.Seq.{length-take-le, take-suc-set, drop-set-lt, drop-drop}
 use Rattle.spec.specs.Bytes.{Bytes}
-use Rattle.tables.specs.Puts.{Puts, bar, bars}
+use Rattle.text.specs.declared.text.Text.{Text}
+use Rattle.tables.specs.Puts.{Puts, PutsTo, bar, bars}
 
 -- what is the same from n on is the same from m on
 pub drop_later : (a b : List ℕ) (n m : ℕ) → n ≤ m → drop n b ≡ drop n a → drop m b ≡ drop m a
@@ -38,15 +39,16 @@ puts_byte d len b h =
       behind = drop-set-lt (len + 1) d len b (omega arith);
     }
 
-pub puts_two : (d : List ℕ) (len a b : ℕ) → len + 2 ≤ length d → Puts d (set (set d len a) (len + 1) b) len (len + 2) (a ∷ b ∷ [])
-puts_two d len a b h =
-    let e : len + 1 + 1 ≡ len + 2 = omega arith in
-    subst (λ (k : ℕ). Puts d (set (set d len a) (len + 1) b) len k (a ∷ b ∷ [])) e
-    (puts_then (puts_byte d len a (omega arith)) (puts_byte (set d len a) (len + 1) b (omega (arith, length-set d len a))))
-
 -- the same bytes in other words
 pub puts_as : {a b : List ℕ} {len m : ℕ} {x y : List ℕ} → x ≡ y → Puts a b len m x → Puts a b len m y
 puts_as {a} {b} {len} {m} e p = subst (λ (z : List ℕ). Puts a b len m z) e p
+
+-- the same of texts
+pub put_next : {a b c : Text} {x y : List ℕ} → PutsTo a b x → PutsTo b c y → PutsTo a c (x ++ y)
+put_next p q = record { room_is = q.room_is ∙ p.room_is; puts = puts_then p.puts q.puts }
+
+pub put_as : {a b : Text} {x y : List ℕ} → x ≡ y → PutsTo a b x → PutsTo a b y
+put_as e p = record { room_is = p.room_is; puts = puts_as e p.puts }
 
 pub part_length : (d : List ℕ) (src n : ℕ) → src + n ≤ length d → length (take n (drop src d)) ≡ n
 part_length d src n h = length-take-le n (drop src d) (omega (arith, length-drop src d))

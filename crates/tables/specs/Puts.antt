@@ -1,6 +1,7 @@
 -- Bytes put where room is known to be. Assumes nothing.
 use Rattle.std.specs.Prelude.{ℕ, ◌+◌, ◌≡◌, List, [], ◌∷◌, ◌++◌, length, take, drop}
 use Rattle.spec.specs.Bytes.{Bytes}
+use Rattle.text.specs.declared.text.Text.{Text}
 
 -- x stands behind the first `len` bytes now, up to `end`, and all else is as it was
 pub record Puts (before after : List ℕ) (len end : ℕ) (x : List ℕ) : Type 0 where
@@ -8,6 +9,11 @@ pub record Puts (before after : List ℕ) (len end : ℕ) (x : List ℕ) : Type 
   pub count : end ≡ len + length x
   pub text_is : take end after ≡ take len before ++ x
   pub behind : drop end after ≡ drop end before
+
+-- the same of a text
+pub record PutsTo (before after : Text) (x : List ℕ) : Type 0 where
+  pub room_is : after.room.ghost_name ≡ before.room.ghost_name
+  pub puts : Puts before.room.now after.room.now before.len after.len x
 
 -- a cell of a line, from behind the pipe before it
 unfoldable pub bar : Bytes → Bytes

@@ -1,45 +1,56 @@
 // The cells of a table's lines, put where room is known to be.
 ghost use Rattle.std.specs.Prelude.{◌≡◌, false, [], ◌∷◌, ◌+◌, ◌*◌, ◌≤◌, ◌<◌, max, length, take, drop, replicate};
-ghost use Rattle.tables.specs.Puts.{Puts, bar, bars};
+ghost use Rattle.tables.specs.Puts.{PutsTo, bar, bars};
 ghost use Rattle.tables.specs.Columns.{column};
 
-// Puts the n bytes at `src`, which is not before `len`.
-fn put_from(text: &mut [u8], len: usize, src: usize, n: usize) -> usize
-    requires { (len ≤ src) × (src + n ≤ length text.old) }
-    ensures { Puts text.old text.new len result (take n (drop src text.old)) }
+use text::text::Text;
+
+// Puts a byte.
+fn put_byte(text: &mut Text, b: u8)
+    requires { text.old.len < length text.old.room.now }
+    ensures { PutsTo text.old text.new (b ∷ []) }
 {
-    text.copy_within(src..src + n, len);
-    len + n
+    text.room[text.len] = b;
+    text.len += 1;
+}
+
+// Puts the n bytes at `src`, which stand behind the text.
+fn put_from(text: &mut Text, src: usize, n: usize)
+    requires { (text.old.len ≤ src) × (src + n ≤ length text.old.room.now) }
+    ensures { PutsTo text.old text.new (take n (drop src text.old.room.now)) }
+{
+    let len = text.len;
+    text.room.copy_within(src..src + n, len);
+    text.len += n;
 }
 
 // Puts n times b.
-fn put_repeated(text: &mut [u8], len: usize, b: u8, n: usize) -> usize
-    requires { len + n ≤ length text.old }
-    ensures { Puts text.old text.new len result (replicate n b) }
+fn put_repeated(text: &mut Text, b: u8, n: usize)
+    requires { text.old.len + n ≤ length text.old.room.now }
+    ensures { PutsTo text.old text.new (replicate n b) }
 {
-    let end = len + n;
-    text[len..end].fill(b);
-    end
+    let end = text.len + n;
+    text.room[text.len..end].fill(b);
+    text.len = end;
 }
 
 // Puts what ends a cell.
-fn put_bar(text: &mut [u8], len: usize) -> usize
-    requires { len + 2 ≤ length text.old }
-    ensures { Puts text.old text.new len result (32 ∷ 124 ∷ []) }
+fn put_bar(text: &mut Text)
+    requires { text.old.len + 2 ≤ length text.old.room.now }
+    ensures { PutsTo text.old text.new (32 ∷ 124 ∷ []) }
 {
-    text[len] = b' ';
-    text[len + 1] = b'|';
-    len + 2
+    put_byte(text, b' ');
+    put_byte(text, b'|');
 }
 
 // Puts a cell with the n bytes at `src`.
-fn put_cell(text: &mut [u8], len: usize, src: usize, n: usize) -> usize
-    requires { (len < src) × (len + n + 3 ≤ length text.old) × (src + n ≤ length text.old) }
-    ensures { Puts text.old text.new len result (bar (take n (drop src text.old))) }
+fn put_cell(text: &mut Text, src: usize, n: usize)
+    requires { (text.old.len < src) × (text.old.len + n + 3 ≤ length text.old.room.now) × (src + n ≤ length text.old.room.now) }
+    ensures { PutsTo text.old text.new (bar (take n (drop src text.old.room.now))) }
 {
-    text[len] = b' ';
-    let end = put_from(text, len + 1, src, n);
-    put_bar(text, end)
+    put_byte(text, b' ');
+    put_from(text, src, n);
+    put_bar(text);
 }
 
 pub fn at_least_one(n: usize) -> usize
@@ -49,45 +60,43 @@ pub fn at_least_one(n: usize) -> usize
 }
 
 // Puts hyphens under a heading of n bytes.
-fn put_hyphens(text: &mut [u8], len: usize, n: usize) -> usize
-    requires { len + max n 1 + 3 ≤ length text.old }
-    ensures { Puts text.old text.new len result (bar (replicate (max n 1) 45)) }
+fn put_hyphens(text: &mut Text, n: usize)
+    requires { text.old.len + max n 1 + 3 ≤ length text.old.room.now }
+    ensures { PutsTo text.old text.new (bar (replicate (max n 1) 45)) }
 {
-    text[len] = b' ';
-    let k = at_least_one(n);
-    let end = put_repeated(text, len + 1, b'-', k);
-    put_bar(text, end)
+    put_byte(text, b' ');
+    put_repeated(text, b'-', at_least_one(n));
+    put_bar(text);
 }
 
 // Puts the cell of a column: hyphens under a heading of n bytes where `under`, else the n bytes at `src`.
-pub fn put_column(text: &mut [u8], len: usize, src: usize, n: usize, under: bool) -> usize
-    requires { (under ≡ false → len < src) × (len + length (column under n (drop src text.old)) + 3 ≤ length text.old) × (src + n ≤ length text.old) }
-    ensures { Puts text.old text.new len result (bar (column under n (drop src text.old))) }
+pub fn put_column(text: &mut Text, src: usize, n: usize, under: bool)
+    requires { (under ≡ false → text.old.len < src) × (text.old.len + length (column under n (drop src text.old.room.now)) + 3 ≤ length text.old.room.now) × (src + n ≤ length text.old.room.now) }
+    ensures { PutsTo text.old text.new (bar (column under n (drop src text.old.room.now))) }
 {
     if under {
-        return put_hyphens(text, len, n);
+        put_hyphens(text, n);
+    } else {
+        put_cell(text, src, n);
     }
-    put_cell(text, len, src, n)
 }
 
 // Puts a cell of one byte.
-fn put_byte_cell(text: &mut [u8], len: usize, b: u8) -> usize
-    requires { len + 4 ≤ length text.old }
-    ensures { Puts text.old text.new len result (bar (b ∷ [])) }
+fn put_byte_cell(text: &mut Text, b: u8)
+    requires { text.old.len + 4 ≤ length text.old.room.now }
+    ensures { PutsTo text.old text.new (bar (b ∷ [])) }
 {
-    text[len] = b' ';
-    text[len + 1] = b;
-    put_bar(text, len + 2)
+    put_byte(text, b' ');
+    put_byte(text, b);
+    put_bar(text);
 }
 
 // Puts so many cells of one byte.
-pub fn put_byte_cells(text: &mut [u8], len: usize, b: u8, count: usize) -> usize
-    requires { len + 4 * count ≤ length text.old }
-    ensures { Puts text.old text.new len result (bars (replicate count (b ∷ []))) }
+pub fn put_byte_cells(text: &mut Text, b: u8, count: usize)
+    requires { text.old.len + 4 * count ≤ length text.old.room.now }
+    ensures { PutsTo text.old text.new (bars (replicate count (b ∷ []))) }
 {
-    let mut end = len;
     for _ in 0..count {
-        end = put_byte_cell(text, end, b);
+        put_byte_cell(text, b);
     }
-    end
 }

@@ -3,5 +3,6 @@
 #![tactic(auto)]
 
 pub mod bars;
+pub mod by_len;
 pub mod rows;
 pub mod table;

@@ -12,7 +12,8 @@ ghost use Rattle.tables.specs.Columns.{columns};
 ghost use Rattle.tables.specs.TableSteps.{rows_texts, rows_lengths, table_step, table_sized, TableAt};
 ghost use Rattle.text.specs.Writes.{Writes};
 
-use crate::bars::{at_least_one, put_byte_cells, put_column};
+use crate::bars::at_least_one;
+use crate::by_len::{put_byte_cells, put_column};
 use crate::rows::{all_th, count_cells, is_table_cell, next_filled_row};
 use nodes::nodes::node_name;
 use text::buffer::{Full, Wrote, lift};

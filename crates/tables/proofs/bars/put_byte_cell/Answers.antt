@@ -1,9 +1,6 @@
-use mathlib.Core.List.{[], ◌∷◌}
-use Rattle.tables.proofs.Putting.{puts_two, puts_then, puts_as, bar_is}
-use native.Mathlib.Omega.{arith}
+use Rattle.std.proofs.Common.{[], ◌∷◌}
+use Rattle.tables.proofs.Putting.{put_next, put_as, bar_is}
 use Rattle.tables.proofs.bars.put_byte_cell.Goals as goal
 
 pub returns : goal.returns
-returns c =
-    let a = c.args in
-    puts_as (bar_is (a.b ∷ [])) (puts_then (puts_two a.text.now a.len 32 a.b (omega arith)) c.put_bar.ensures)
+returns c = put_as (bar_is (c.args.b ∷ [])) (put_next c.put_byte.ensures (put_next c.put_byte-2.ensures c.put_bar.ensures))

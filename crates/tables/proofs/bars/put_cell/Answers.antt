@@ -1,15 +1,10 @@
-use Prim.Native.Nat.{ℕ}
-use mathlib.Core.Path.{ap, ◌∙◌}
-use mathlib.Core.List.{List}
-use lib.ListN.{take}
-use lib.Seq.{drop-set-lt}
+use Rattle.std.proofs.Common.{List, ℕ, ap, ◌∙◌, take, arith}
 use Rattle.tables.specs.Puts.{bar}
-use Rattle.tables.proofs.Putting.{puts_byte, puts_then, puts_as, bar_is}
-use native.Mathlib.Omega.{arith}
+use Rattle.tables.proofs.Putting.{put_next, put_as, puts_behind, bar_is}
 use Rattle.tables.proofs.bars.put_cell.Goals as goal
 
 pub returns : goal.returns
 returns c =
-    let a = c.args in
-    puts_as (bar_is _ ∙ ap (λ (x : List ℕ). bar (take a.n x)) (drop-set-lt a.src a.text.now a.len 32 c.requires.0))
-    (puts_then (puts_byte a.text.now a.len 32 (omega arith)) (puts_then c.put_from-end.ensures c.put_bar.ensures))
+    let p = c.put_byte.ensures in
+    put_as (bar_is _ ∙ ap (λ (x : List ℕ). bar (take c.args.n x)) (puts_behind c.args.src p.puts (omega (arith, p.puts.count, c.requires.0))))
+    (put_next p (put_next c.put_from.ensures c.put_bar.ensures))
