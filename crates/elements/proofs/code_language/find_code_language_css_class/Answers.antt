@@ -5,15 +5,10 @@ use Rattle.spec.specs.Bytes.{ascii}
 use Rattle.spec.specs.Tree.{attr}
 use Rattle.spec.specs.Md.Elements.Code.{class_language, find_code_language_css_class}
 use Rattle.tree.specs.Represents.{attrs_behind}
-use Rattle.nodes.proofs.Siblings.{Left, left_all, left_first, left_node, left_on, left_at, left_none}
+use Rattle.nodes.proofs.Siblings.{Left, left_first, left_node, left_on, left_at, left_none}
 use Rattle.elements.proofs.Languages.{language_of, css_here, css_on}
 use native.Mathlib.Omega.{arith}
 use Rattle.elements.proofs.code_language.find_code_language_css_class.Goals as goal
-
-pub loop-i-init : goal.loop-i-init
-loop-i-init c =
-    let a = c.args in
-    left_all find_code_language_css_class a.tree.now.sheet.now a.tree.now.nodes.now a.from a.to c.requires
 
 pub node_name-requires : goal.node_name-requires
 node_name-requires c =
