@@ -1,6 +1,5 @@
 -- The tests of `elements/list.rs`, from sibling to sibling. Assumes nothing.
 use Prim.Native.Nat.{ℕ, ◌<◌}
-use native.Mathlib.Omega.{arith}
 use mathlib.Core.Path.{◌≡◌, refl, ap, ◌∙◌, sym}
 use mathlib.Core.Bool.{true, false, not, ◌&&◌, ◌||◌, false≢true}
 use mathlib.Core.List.{append-nil}
@@ -18,7 +17,7 @@ use Rattle.tree.specs.Nodes.{name_at, text_at}
 use Rattle.tree.proofs.Firsts.{first}
 use Rattle.tree.proofs.Kin.{first_name, first_text_lem}
 use Rattle.lists_links.specs.Parsed.{parsed_of}
-use Rattle.std.specs.Prelude.{Some, None}
+use Rattle.std.specs.Option.{unwrap_or}
 
 -- ---- blocks
 
@@ -97,12 +96,7 @@ module _ (sh ns : Bytes) (parent i e : ℕ) (f : Forest) (h : Rep sh ns parent i
 
 -- ---- numbers
 
-pub parsed_number : {m : ℕ} (o : Option ℕ) (n : ℕ) → parsed_of o ≡ Some m → m ≡ number_or o n
+pub parsed_or : (o : Option ℕ) (n : ℕ) → unwrap_or (parsed_of o) n ≡ number_or o n
 unfolding number_or
-parsed_number none n e = let z : ◌≡◌ {A = ℕ} 0 1 = cc in absurd (omega arith)
-parsed_number (some k) n e = cc
-
-pub parsed_nothing : (o : Option ℕ) (n : ℕ) → parsed_of o ≡ None → n ≡ number_or o n
-unfolding number_or
-parsed_nothing none n e = refl
-parsed_nothing (some k) n e = let z : ◌≡◌ {A = ℕ} 0 1 = cc in absurd (omega arith)
+parsed_or none n = refl
+parsed_or (some k) n = refl

@@ -6,4 +6,5 @@ pub mod ItemStep
 pub mod Edges
 pub mod Languages
 pub mod JoinedWords
+pub mod FirstElement
 pub mod PreStep

@@ -1,5 +1,5 @@
 // elements/list.rs: the steps of a list and of its items that reach no writer, and the contexts of the items.
-ghost use Rattle.std.specs.Prelude.{◌≡◌, cond, ℕ, ◌+◌, ◌≤◌, length, take};
+ghost use Rattle.std.specs.Prelude.{◌≡◌, cond, ℕ, ◌+◌, ◌≤◌, length};
 ghost use Rattle.std.proofs.Math.Option.{Option};
 ghost use Rattle.spec.specs.Bytes.{ascii};
 ghost use Rattle.spec.specs.Tree.{attr};
@@ -9,41 +9,37 @@ ghost use Rattle.spec.specs.Md.Elements.List as def;
 ghost use Rattle.spec.specs.declared.ctx.ListKind.TheVariants as kinds;
 ghost use Rattle.tree.specs.Represents.{attrs_behind};
 ghost use Rattle.lists_links.specs.Parsed.{parsed_of};
-ghost use Rattle.text.specs.Writes.{Writes};
+ghost use Rattle.text.specs.Texts.{WritesTo};
 ghost use Rattle.elements.specs.ItemStep.{ended_list, child_opts, line_if, flow_prefix, ended_flow};
 
 use crate::list_nodes::{is_list, number_of};
 use lists_links::list::Item;
-use marks::by_len::{escape_closing_hashes, push_md_prefix};
-use marks::heading::is_heading;
-use normalized::by_len::{add_linebreaks, push_linebreak};
+use marks::heading::{escape_closing_hashes, is_heading, push_md_prefix};
+use normalized::text_utils::{add_linebreaks, push_linebreak};
 use spec::ctx::{FormatOpts, ListContext, ListKind};
-use text::buffer::Wrote;
+use text::buffer::Full;
+use text::text::Text;
 
 // A blank line behind a list.
-pub fn end_list(text: &mut [u8], len: usize, opts: FormatOpts) -> Wrote
-    requires { len ≤ length text.old }
-    ensures { Writes (length text.old) text.new result (ended_list opts (take len text.old)) }
+#[tactic(auto, using(text::proofs::Texts::as_step, text::proofs::Texts::kept))]
+pub fn end_list(text: &mut Text, opts: FormatOpts) -> Result<(), Full>
+    ensures { WritesTo text.old text.new result (ended_list opts) }
 {
     if opts.table_cell {
-        return Ok(len);
+        return Ok(());
     }
-    add_linebreaks(text, len, b"\n", b"\n\n")
+    add_linebreaks(text, b"\n", b"\n\n")
 }
 
+#[tactic(auto, unfolding(spec::specs::Md::Ctx::with_kind))]
 fn with_kind(ctx: ListContext, kind: ListKind) -> ListContext
     ensures { result ≡ with_kind kind ctx }
 {
-    let opts = ctx.opts;
-    let indent = ctx.list_indent;
-    ListContext {
-        opts: opts,
-        kind: kind,
-        list_indent: indent,
-    }
+    ListContext { kind, ..ctx }
 }
 
 // The context of an ordered list at an item with that number.
+#[tactic(auto, using(crate::proofs::Renumbering::with_number, crate::proofs::Renumbering::without_number))]
 fn with_number(ctx: ListContext, number: Option<u32>) -> ListContext
     ensures { (m : ℕ) (o : Option ℕ) → number ≡ parsed_of o → result ≡ def.renumbered (kinds.Ol m) o ctx }
 {
@@ -61,11 +57,9 @@ pub fn renumbered(sheet: &[u8], place: usize, li: bool, ctx: ListContext) -> Lis
     if !li {
         return ctx;
     }
-    let number = number_of(sheet, place, b"value");
-    let kind = ctx.kind;
-    match kind {
+    match ctx.kind {
         ListKind::Ul => ctx,
-        ListKind::Ol(_) => with_number(ctx, number),
+        ListKind::Ol(_) => with_number(ctx, number_of(sheet, place, b"value")),
     }
 }
 
@@ -80,34 +74,32 @@ pub fn child_opts(name: usize, opts: FormatOpts) -> FormatOpts
 }
 
 // A line break that is due.
-pub fn due_line(text: &mut [u8], len: usize, line: bool, item: Item) -> Wrote
-    requires { len ≤ length text.old }
-    ensures { Writes (length text.old) text.new result (line_if line item.ctx (take len text.old)) }
+#[tactic(auto, using(text::proofs::Texts::as_step, text::proofs::Texts::kept))]
+pub fn due_line(text: &mut Text, line: bool, item: Item) -> Result<(), Full>
+    ensures { WritesTo text.old text.new result (line_if line item.ctx) }
 {
     if !line {
-        return Ok(len);
+        return Ok(());
     }
-    push_linebreak(text, len, item.ctx.opts.table_cell)
+    push_linebreak(text, item.ctx.opts.table_cell)
 }
 
 // What begins a block that is a heading.
-pub fn push_heading_prefix(text: &mut [u8], len: usize, name: usize) -> Wrote
-    requires { len ≤ length text.old }
-    ensures { Writes (length text.old) text.new result (push (flow_prefix name) (take len text.old)) }
+pub fn push_heading_prefix(text: &mut Text, name: usize) -> Result<(), Full>
+    ensures { WritesTo text.old text.new result (push (flow_prefix name)) }
 {
     if !is_heading(name) {
-        return Ok(len);
+        return Ok(());
     }
-    push_md_prefix(text, len, name)
+    push_md_prefix(text, name)
 }
 
 // What ends a block: a heading ends at its line end.
-pub fn end_flow(text: &mut [u8], len: usize, name: usize, item: Item) -> Wrote
-    requires { len ≤ length text.old }
-    ensures { Writes (length text.old) text.new result (ended_flow name item.ctx (take len text.old)) }
+pub fn end_flow(text: &mut Text, name: usize, item: Item) -> Result<(), Full>
+    ensures { WritesTo text.old text.new result (ended_flow name item.ctx) }
 {
     if is_heading(name) {
-        return escape_closing_hashes(text, len);
+        return escape_closing_hashes(text);
     }
-    push_linebreak(text, len, item.ctx.opts.table_cell)
+    push_linebreak(text, item.ctx.opts.table_cell)
 }

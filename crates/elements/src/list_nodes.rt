@@ -1,5 +1,5 @@
 // The tests of elements/list.rs on nodes.
-ghost use Rattle.std.specs.Prelude.{◌≡◌, ◌&&◌, List, ℕ, ◌+◌, ◌<◌, ◌≤◌, eqb, length, get_or};
+ghost use Rattle.std.specs.Prelude.{◌≡◌, ◌&&◌, ◌||◌, not, List, ℕ, ◌+◌, ◌<◌, ◌≤◌, eqb, length};
 ghost use Rattle.std.proofs.Math.Option.{Option};
 ghost use Rattle.spec.specs.Bytes.{Bytes, ascii};
 ghost use Rattle.spec.specs.Names.{tag_of};
@@ -9,71 +9,67 @@ ghost use Rattle.spec.specs.Md.Elements.List as def;
 ghost use Rattle.tree.specs.Memory.{place_at};
 ghost use Rattle.tree.specs.Represents.{Rep, attrs_behind, rest_of};
 ghost use Rattle.lists_links.specs.Parsed.{parsed_of};
-ghost use Rattle.nodes.specs.FirstElement.{first_element};
+ghost use Rattle.elements.specs.FirstElement.{FirstElement};
 ghost use Rattle.nodes.specs.Stands.{Siblings, SomeNode, NodeAt, ElementAt, SomeElement};
 
+use input::tag::{OPEN, TEXT};
 use lists_links::list_number::parse_list_number;
 use nodes::nodes::{is_white_space, node_name};
 use spec::ctx::ListKind;
 use text::buffer::all_in;
 use text::class::White;
 use tree::attributes::attribute;
+use tree::element::{ARTICLE, DIV, HR, LI, OL, PRE, TABLE, UL};
 use tree::nodes::{Tree, tag_at, text_at};
 
 // The number of the attribute of that name of the element at `place`.
+#[tactic(auto, unfolding(spec::specs::Md::Elements::List::number_of))]
 pub fn number_of(sheet: &[u8], place: usize, name: &[u8]) -> Option<u32>
     requires { place + 3 ≤ length sheet.now }
     ensures { result ≡ parsed_of (def.number_of (attr name.now (attrs_behind sheet.now place))) }
 {
-    match attribute(sheet, place, name) {
-        Some(value) => parse_list_number(value),
-        None => None,
-    }
+    parse_list_number(attribute(sheet, place, name)?)
 }
 
-pub fn number_or(number: Option<u32>, n: u32) -> u32
-    ensures { (o : Option ℕ) → number ≡ parsed_of o → result ≡ def.number_or o n }
-{
-    match number {
-        Some(m) => m,
-        None => n,
-    }
-}
-
+#[tactic(auto, using(crate::proofs::ListTests::parsed_or), unfolding(spec::specs::Md::Elements::List::start_of))]
 fn start_of(sheet: &[u8], place: usize) -> u32
     requires { place + 3 ≤ length sheet.now }
     ensures { result ≡ def.start_of (attrs_behind sheet.now place) }
 {
-    let number = number_of(sheet, place, b"start");
-    number_or(number, 1)
+    number_of(sheet, place, b"start").unwrap_or(1)
 }
 
+#[tactic(auto, unfolding(spec::specs::Md::Elements::Blocks::is_list, spec::specs::Bytes::isin))]
 pub fn is_list(name: usize) -> bool
     ensures { result ≡ blocks.is_list name }
 {
-    (name == 11) | (name == 12)
+    (name == UL) | (name == OL)
 }
 
+#[tactic(auto, unfolding(spec::specs::Md::Elements::List::kind_of))]
 pub fn kind_of(sheet: &[u8], place: usize, name: usize) -> ListKind
     requires { place + 3 ≤ length sheet.now }
     ensures { result ≡ def.kind_of name (attrs_behind sheet.now place) }
 {
-    if name == 12 {
-        return ListKind::Ol(start_of(sheet, place));
+    if name == OL {
+        ListKind::Ol(start_of(sheet, place))
+    } else {
+        ListKind::Ul
     }
-    ListKind::Ul
 }
 
+#[tactic(auto, using(nodes::proofs::Tests::md_block_range))]
 pub fn is_md_block(name: usize) -> bool
     ensures { result ≡ blocks.is_md_block name }
 {
-    (1 <= name) & (name <= 15)
+    (ARTICLE <= name) & (name <= HR)
 }
 
+#[tactic(auto, unfolding(spec::specs::Md::Elements::List::node_is_list_item_block))]
 pub fn node_is_list_item_block(name: usize) -> bool
     ensures { result ≡ def.node_is_list_item_block name }
 {
-    !is_list(name) & (is_md_block(name) | (name == 23))
+    !is_list(name) & (is_md_block(name) | (name == PRE))
 }
 
 // Whether one of the siblings from number `from` up to `to` is a block of its own.
@@ -81,47 +77,42 @@ pub fn has_blocks(tree: &Tree, from: usize, to: usize) -> bool
     requires { Siblings tree.now.sheet.now tree.now.nodes.now from to }
     ensures { (parent : ℕ) (f : Forest) → Rep tree.now.sheet.now tree.now.nodes.now parent from to f → result ≡ def.has_blocks f }
 {
-    let mut i = from;
-    while i < to {
-        let name = node_name(tree, i);
-        if node_is_list_item_block(name) {
+    for i in tree.siblings(from, to) {
+        if node_is_list_item_block(node_name(tree, i)) {
             return true;
         }
-        i = tree.node_end(i);
     }
     false
 }
 
-// Whether node i is a list, a block but a table or a rule, a comment or a blank text.
+// Whether an element of this name is a list, or a block but a table or a rule.
+fn is_only_block_name(name: usize) -> bool
+    ensures { result ≡ (blocks.is_list name || (def.node_is_list_item_block name && (not (eqb name 14) && not (eqb name 15)))) }
+{
+    is_list(name) | (node_is_list_item_block(name) & ((name != TABLE) & (name != HR)))
+}
+
+// Whether node i is such an element, a comment or a blank text.
 fn is_only_block(tree: &Tree, i: usize) -> bool
     requires { NodeAt tree.now.sheet.now tree.now.nodes.now i }
     ensures { (parent e : ℕ) (f : Forest) → Rep tree.now.sheet.now tree.now.nodes.now parent i e f → i < e → def.only_blocks f ≡ (result && def.only_blocks (rest_of f)) }
 {
     let place = tree.node_place(i);
-    let tag = tag_at(tree.sheet, place);
-    if tag == 4 {
-        let part = text_at(tree.sheet, place);
-        let start = part.start;
-        let end = part.end;
-        return all_in::<White>(&tree.sheet[start..end]);
+    match tag_at(tree.sheet, place) {
+        TEXT => all_in::<White>(&tree.sheet[text_at(tree.sheet, place)]),
+        OPEN => is_only_block_name(node_name(tree, i)),
+        _ => true,
     }
-    if tag != 1 {
-        return true;
-    }
-    let name = node_name(tree, i);
-    is_list(name) | (node_is_list_item_block(name) & ((name != 14) & (name != 15)))
 }
 
 fn only_blocks(tree: &Tree, from: usize, to: usize) -> bool
     requires { Siblings tree.now.sheet.now tree.now.nodes.now from to }
     ensures { (parent : ℕ) (f : Forest) → Rep tree.now.sheet.now tree.now.nodes.now parent from to f → result ≡ def.only_blocks f }
 {
-    let mut i = from;
-    while i < to {
+    for i in tree.siblings(from, to) {
         if !is_only_block(tree, i) {
             return false;
         }
-        i = tree.node_end(i);
     }
     true
 }
@@ -132,14 +123,11 @@ pub fn node_is_block_wrapper(tree: &Tree, i: usize) -> bool
     ensures { (parent e : ℕ) (f : Forest) → Rep tree.now.sheet.now tree.now.nodes.now parent i e f → i < e → result ≡ def.node_is_block_wrapper (def.name_of f) (kids_of f) }
 {
     let name = node_name(tree, i);
-    if !((1 <= name) & (name <= 3)) {
+    if !((ARTICLE <= name) & (name <= DIV)) {
         return false;
     }
     let to = tree.node_end(i);
-    if !has_blocks(tree, i + 1, to) {
-        return false;
-    }
-    only_blocks(tree, i + 1, to)
+    has_blocks(tree, i + 1, to) && only_blocks(tree, i + 1, to)
 }
 
 // Whether before the first list of the siblings some node holds more than White_Space.
@@ -147,36 +135,28 @@ fn has_text_before_list(tree: &Tree, from: usize, to: usize) -> bool
     requires { Siblings tree.now.sheet.now tree.now.nodes.now from to }
     ensures { (parent : ℕ) (f : Forest) → Rep tree.now.sheet.now tree.now.nodes.now parent from to f → result ≡ def.has_text_before_list f }
 {
-    let mut i = from;
-    while i < to {
-        let name = node_name(tree, i);
-        if is_list(name) {
+    for i in tree.siblings(from, to) {
+        if is_list(node_name(tree, i)) {
             return false;
         }
-        let next = tree.node_end(i);
-        if !is_white_space(tree, i, next) {
+        if !is_white_space(tree, i, tree.node_end(i)) {
             return true;
         }
-        i = next;
     }
     false
 }
 
-// The number of the first element among the siblings, or `to`.
-fn first_element(tree: &Tree, from: usize, to: usize) -> usize
+// The first element among the siblings, if there is one.
+fn first_element(tree: &Tree, from: usize, to: usize) -> Option<usize>
     requires { Siblings tree.now.sheet.now tree.now.nodes.now from to }
-    ensures elements { (parent : ℕ) (f : Forest) → Rep tree.now.sheet.now tree.now.nodes.now parent from to f → Rep tree.now.sheet.now tree.now.nodes.now parent result to (first_element f) }
-    ensures tagged { result < to → get_or tree.now.sheet.now (place_at tree.now.nodes.now result) 0 ≡ 1 }
+    ensures { FirstElement tree.now.sheet.now tree.now.nodes.now from to result }
 {
-    let mut i = from;
-    while i < to {
-        let place = tree.node_place(i);
-        if tag_at(tree.sheet, place) == 1 {
-            return i;
+    for i in tree.siblings(from, to) {
+        if tag_at(tree.sheet, tree.node_place(i)) == OPEN {
+            return Some(i);
         }
-        i = tree.node_end(i);
     }
-    to
+    None
 }
 
 // Whether the item at node `li`, the first of the list at node i, begins with 1.
@@ -186,9 +166,8 @@ fn begins_with_one(tree: &Tree, i: usize, li: usize) -> bool
 {
     let item = tree.node_place(li);
     let list = tree.node_place(i);
-    let value = number_of(tree.sheet, item, b"value");
     let start = start_of(tree.sheet, list);
-    number_or(value, start) == 1
+    number_of(tree.sheet, item, b"value").unwrap_or(start) == 1
 }
 
 // Whether the list at node i can interrupt a paragraph.
@@ -197,19 +176,14 @@ pub fn can_interrupt_paragraph(tree: &Tree, i: usize) -> bool
     ensures { (name : Bytes) (attrs : List Attr) (kids : Forest) → ElementAt tree.now.sheet.now tree.now.nodes.now i name attrs kids → result ≡ def.can_interrupt_paragraph (tag_of name) attrs kids }
 {
     let to = tree.node_end(i);
-    let li = first_element(tree, i + 1, to);
-    if to <= li {
+    let Some(li) = first_element(tree, i + 1, to) else {
+        return false;
+    };
+    if node_name(tree, li) != LI {
         return false;
     }
-    if node_name(tree, li) != 16 {
+    if !has_text_before_list(tree, li + 1, tree.node_end(li)) {
         return false;
     }
-    let end = tree.node_end(li);
-    if !has_text_before_list(tree, li + 1, end) {
-        return false;
-    }
-    if node_name(tree, i) != 12 {
-        return true;
-    }
-    begins_with_one(tree, i, li)
+    node_name(tree, i) != OL || begins_with_one(tree, i, li)
 }

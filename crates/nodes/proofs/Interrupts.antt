@@ -1,5 +1,5 @@
 -- The first element of a list, and whether the list can interrupt a paragraph. Assumes nothing.
-use Prim.Native.Nat.{ℕ, ◌+◌, ◌≤◌, ◌<◌}
+use Prim.Native.Nat.{ℕ, ◌+◌, ◌<◌}
 use native.Mathlib.Omega.{arith}
 use mathlib.Core.Path.{◌≡◌, refl, ap, ◌∙◌, sym, subst}
 use mathlib.Core.Bool.{true, false, not, ◌&&◌, ◌||◌}
@@ -14,7 +14,7 @@ use Rattle.spec.specs.Md.Elements.List.{has_text_before_list, number_or, number_
 use Rattle.tree.specs.Memory.{place_at, end_at}
 use Rattle.tree.specs.Represents.{Rep, attrs_behind, rest_of}
 use Rattle.tree.specs.Nodes.{name_at}
-use Rattle.tree.proofs.Firsts.{first, ended, its_tag, its_body}
+use Rattle.tree.proofs.Firsts.{first, its_tag, its_body}
 use Rattle.nodes.specs.Stands.{NodeAt, ElementAt}
 use Rattle.nodes.specs.FirstElement.{first_element}
 
@@ -34,11 +34,6 @@ module _ (sh ns : Bytes) (parent i e : ℕ) where
   element_on (text s r) h t = refl
   element_on (comment s r) h t = refl
   element_on (element name attrs k r) h t = absurd (t (its_tag h.1))
-
-  pub element_none : (f g : Forest) → Rep sh ns parent i e g → first_element f ≡ first_element g → e ≤ i → Rep sh ns parent e e (first_element f)
-  unfolding Rep first_element
-  element_none f g h q l =
-      subst (λ (x : Forest). Rep sh ns parent e e x) (sym (q ∙ ap first_element (ended sh ns parent i e g h l))) refl
 
 pub element_name : {sh ns : Bytes} {i : ℕ} {name : Bytes} {attrs : List Attr} {kids : Forest} → ElementAt sh ns i name attrs kids
     → name_at sh (place_at ns i) ≡ tag_of name
@@ -62,12 +57,12 @@ can_first n attrs (text s r) = can_first n attrs r
 can_first n attrs (comment s r) = can_first n attrs r
 can_first n attrs (element name more k r) = refl
 
+pub can_none : (n : ℕ) (attrs : List Attr) (f : Forest) → first_element f ≡ nothing → can_interrupt_paragraph n attrs f ≡ false
+unfolding can_interrupt_paragraph
+can_none n attrs f e = can_first n attrs f ∙ ap (can_interrupt_paragraph n attrs) e
+
 -- the first element of the list's children is node li
 module _ (sh ns : Bytes) (n : ℕ) (attrs : List Attr) (parent li e : ℕ) (f : Forest) (h : Rep sh ns parent li e (first_element f)) where
-  pub can_none : e ≤ li → can_interrupt_paragraph n attrs f ≡ false
-  unfolding can_interrupt_paragraph
-  can_none l = can_first n attrs f ∙ ap (can_interrupt_paragraph n attrs) (ended sh ns parent li e (first_element f) h l)
-
   module _ (l : li < e) (t : get_or sh (place_at ns li) 0 ≡ 1) where
     can-at :
         can_interrupt_paragraph n attrs f

@@ -1,10 +1,14 @@
 -- Loops from sibling to sibling. Assumes nothing.
 use Prim.Native.Nat.{ℕ, ◌+◌, ◌≤◌, ◌<◌}
-use mathlib.Core.Path.{◌≡◌, refl, ap, ◌∙◌, sym, subst}
+use native.Mathlib.Omega.{arith}
+use mathlib.Core.Path.{◌≡◌, refl, ap, ap₂, ◌∙◌, sym, subst}
+use Rattle.std.specs.Prelude.{Some}
 use Rattle.spec.specs.Bytes.{Bytes}
 use Rattle.spec.specs.Tree.{Forest, nothing, kids_of}
 use Rattle.tree.specs.Memory.{end_at}
 use Rattle.tree.specs.Represents.{Rep, head_of, rest_of}
+use Rattle.tree.specs.Siblings.{Over, GivesSibling}
+use Rattle.tree.specs.declared.nodes.Siblings as iter
 use Rattle.tree.proofs.Firsts.{First, first, ended}
 use Rattle.nodes.proofs.Numbers.{node_first}
 use Rattle.nodes.specs.Stands.{Siblings, NodeAt}
@@ -40,6 +44,39 @@ module _ {M : Type 0} {v : Forest → M} {sh ns : Bytes} {from to i : ℕ} (p : 
 
   pub left_none : (r : M) → to ≤ i → v nothing ≡ r → (parent : ℕ) (f : Forest) → Rep sh ns parent from to f → r ≡ v f
   left_none r l e = left_at r (λ parent g h. ap v (ended sh ns parent i to g h l) ∙ e)
+
+-- ---- the same in a `for` over them: those from the next of the iterator s on are left
+
+pub record Walks {M : Type 0} (v : Forest → M) (sh ns : Bytes) (from to : ℕ) (s : iter.Siblings) : Type 0 where
+  pub over : Over sh ns s.next to s
+  pub left : Left v sh ns from to s.next
+
+pub walks_all : {M : Type 0} (v : Forest → M) {sh ns : Bytes} {from to : ℕ} {s : iter.Siblings} → Siblings sh ns from to → Over sh ns from to s
+    → Walks v sh ns from to s
+walks_all v {sh} {ns} {from} {to} n o =
+    record {
+      over = record { sheet_is = o.sheet_is; nodes_are = o.nodes_are; next_is = refl; end_is = o.end_is };
+      left = subst (Left v sh ns from to) (sym o.next_is) (left_all v sh ns from to n);
+    }
+
+module _ {M : Type 0} {v : Forest → M} {sh ns : Bytes} {from to : ℕ} {s t : iter.Siblings} (p : Walks v sh ns from to s) {i : ℕ} (g : GivesSibling s (Some i) t) where
+  pub turn_before : i < to
+  turn_before = omega (arith, g.0, g.1, p.over.end_is)
+
+  pub turn_left : Left v sh ns from to i
+  turn_left = subst (Left v sh ns from to) (sym g.0) p.left
+
+  -- the next turn
+  pub turn_on : Left v sh ns from to (end_at ns i) → Walks v sh ns from to t
+  turn_on q =
+      record {
+        over = record { sheet_is = g.3.sheet_is ∙ p.over.sheet_is; nodes_are = g.3.nodes_are ∙ p.over.nodes_are; next_is = refl; end_is = g.3.end_is ∙ p.over.end_is };
+        left = subst (Left v sh ns from to) (ap₂ end_at (sym p.over.nodes_are) g.0 ∙ sym g.2) q;
+      }
+
+module _ {M : Type 0} {v : Forest → M} {sh ns : Bytes} {from to : ℕ} {s : iter.Siblings} (p : Walks v sh ns from to s) where
+  pub turn_none : s.end ≤ s.next → to ≤ s.next
+  turn_none g = omega (arith, g, p.over.end_is)
 
 -- ---- the node at hand, and what stands in it; its end is d
 

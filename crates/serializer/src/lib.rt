@@ -30,13 +30,14 @@ ghost use Rattle.serializer.specs.Options as def;
 ghost use Rattle.serializer.specs.Writers.{self_at, Ready, Fits, FitsIn, WritesForest, WritesElement, progress_of, GoesForest, GoesElement};
 
 use elements::by_len::{push_link, push_text_link, write_code, write_pre};
-use elements::item_steps::{
-    child_opts, due_line, end_flow, end_list, push_heading_prefix, renumbered,
+use elements::by_len_steps::{
+    closed, due_line, end_flow, end_list, opened, push_emphasis_by, push_heading_prefix,
 };
+use elements::item_steps::{child_opts, renumbered};
 use elements::list_nodes::{
     has_blocks, is_list, kind_of, node_is_block_wrapper, node_is_list_item_block,
 };
-use elements::steps::{closed, emphasis_opts, has_writer, opened, push_emphasis_by};
+use elements::steps::{emphasis_opts, has_writer};
 use list_items::{write_list_item, write_list_item_blocks};
 use lists_links::by_len::{end_item, push_block_lead, push_indented, push_inline_lead, write_img};
 use lists_links::list::{Item, item_from};
@@ -330,7 +331,14 @@ fn link(
         );
     }
     let plain = fresh.include_node().skip_escape();
-    let n = write_text(&Tree { sheet, nodes }, &mut text[len..], 0, at + 1, end, plain)?;
+    let n = write_text(
+        &Tree { sheet, nodes },
+        &mut text[len..],
+        0,
+        at + 1,
+        end,
+        plain,
+    )?;
     if n == 0 {
         body(sheet, skip, nodes, text, len, at, dest, fresh, levels)
     } else {
@@ -358,16 +366,7 @@ fn body(
 {
     let place = Tree { sheet, nodes }.node_place(at);
     let bits = packed(opts);
-    let n = kids(
-        sheet,
-        skip,
-        nodes,
-        &mut text[len..],
-        0,
-        at,
-        bits,
-        levels,
-    )?;
+    let n = kids(sheet, skip, nodes, &mut text[len..], 0, at, bits, levels)?;
     push_link(sheet, text, len, n, place, dest, false, opts)
 }
 
@@ -448,17 +447,7 @@ fn item(
     let opts = ctx.opts;
     if !li {
         let inner = opts.fresh().include_node();
-        return write(
-            sheet,
-            skip,
-            nodes,
-            text,
-            len,
-            c,
-            to,
-            packed(inner),
-            levels,
-        );
+        return write(sheet, skip, nodes, text, len, c, to, packed(inner), levels);
     }
     if has_blocks(&Tree { sheet, nodes }, c + 1, to) {
         return blocks(sheet, skip, nodes, text, len, c, ctx, levels);
@@ -574,17 +563,7 @@ fn child(
     }
     if node_is_block_wrapper(&Tree { sheet, nodes }, c) {
         let end = Tree { sheet, nodes }.node_end(c);
-        return children(
-            sheet,
-            skip,
-            nodes,
-            text,
-            c + 1,
-            end,
-            item,
-            before,
-            levels,
-        );
+        return children(sheet, skip, nodes, text, c + 1, end, item, before, levels);
     }
     let blank = is_blank_text(sheet, place);
     alone(sheet, skip, nodes, text, c, blank, item, before, levels)
@@ -618,9 +597,7 @@ fn alone(
     if node_is_list_item_block(name) {
         return block(sheet, skip, nodes, text, c, name, item, going, levels);
     }
-    let m = inline(
-        sheet, skip, nodes, text, n, c, name, blank, item, levels,
-    )?;
+    let m = inline(sheet, skip, nodes, text, n, c, name, blank, item, levels)?;
     Ok(Going { len: m, ..going })
 }
 
@@ -646,17 +623,7 @@ fn inline(
     let opts = item.ctx.opts;
     let inner = child_opts(name, opts);
     let n = push_inline_lead(text, len, item, blank)?;
-    write(
-        sheet,
-        skip,
-        nodes,
-        text,
-        n,
-        c,
-        to,
-        packed(inner),
-        levels,
-    )
+    write(sheet, skip, nodes, text, n, c, to, packed(inner), levels)
 }
 
 // A block of an item.

@@ -12,6 +12,7 @@ pub mod Building
 pub mod Stages
 pub mod Firsts
 pub mod Kin
+pub mod Walking
 pub mod Ranges
 pub mod Frames
 pub mod Ancestry

@@ -5,4 +5,5 @@ pub mod Represents
 pub mod Accepted
 pub mod Attributes
 pub mod Nodes
+pub mod Siblings
 pub mod Names

@@ -35,6 +35,10 @@ Rep sh ns parent i e (element name attrs kids rest) =
     (i * 24 + 24 ≤ length ns) × FieldAt sh (entry_at ns i) 1 name × (attrs ≡ attrs_behind sh (place_at ns i))
     × (parent_at ns i ≡ parent) × Rep sh ns i (i + 1) (end_at ns i) kids × Rep sh ns parent (end_at ns i) e rest
 
+-- they are some forest
+abbrev pub Nodes : Bytes → Bytes → ℕ → ℕ → Type 0
+Nodes sh ns i e = (parent : ℕ) × (f : Forest) × Rep sh ns parent i e f
+
 -- they are some forest, of at most so many levels
 abbrev pub Stands : Bytes → Bytes → ℕ → ℕ → ℕ → ℕ → Type 0
 Stands sh ns parent i e levels = (f : Forest) × Rep sh ns parent i e f × height f ≤ levels

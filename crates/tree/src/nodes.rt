@@ -1,7 +1,8 @@
 // The nodes in node memory, by their numbers: node 0 is the fragment, and a node and its descendants are a range.
-ghost use Rattle.std.specs.Prelude.{◌≡◌, ◌+◌, ◌*◌, ◌≤◌, ◌<◌, length, get_or};
+ghost use Rattle.std.specs.Prelude.{◌≡◌, ◌+◌, ◌-◌, ◌*◌, ◌≤◌, ◌<◌, length, get_or};
 ghost use Rattle.tree.specs.Memory.{place_at, number_at, end_at, parent_at};
 ghost use Rattle.tree.specs.Nodes.{text_at, PartIs, first_child, next_sibling};
+ghost use Rattle.tree.specs.Represents.{Nodes};
 
 use crate::memory::read;
 use crate::tags::TEXT;
@@ -16,6 +17,8 @@ pub struct Tree<'s, 'n> {
 }
 
 impl<'s, 'n> Tree<'s, 'n> {
+    ghost use Rattle.tree.specs.Siblings.{Over};
+
     // Where in the sheet the field of node i stands.
     #[tactic(auto, using(crate::proofs::Numbers::quad_is))]
     pub fn node_place(&self, i: usize) -> usize
@@ -70,6 +73,47 @@ impl<'s, 'n> Tree<'s, 'n> {
         let next = self.node_end(i);
         let up = self.node_parent(i);
         (next < self.node_end(up)).then_some(next)
+    }
+
+    // The nodes from number `from` up to `to`, which are siblings, without their descendants.
+    pub fn siblings(&self, from: usize, to: usize) -> Siblings<'s, 'n>
+        requires { Nodes self.now.sheet.now self.now.nodes.now from to }
+        ensures { Over self.now.sheet.now self.now.nodes.now from to result }
+    {
+        Siblings {
+            tree: *self,
+            next: from,
+            end: to,
+        }
+    }
+}
+
+// Siblings from number `next` up to `end`.
+#[derive(Drop)]
+pub struct Siblings<'s, 'n> {
+    tree: Tree<'s, 'n>,
+    next: usize,
+    end: usize,
+    ghost stand: { ∥ Nodes tree.sheet.now tree.nodes.now next end ∥₁ },
+}
+
+impl<'s, 'n> Iterator for Siblings<'s, 'n> {
+    ghost use Rattle.std.specs.Iterator.{at_most};
+    ghost use Rattle.tree.specs.Siblings.{GivesSibling};
+
+    type Item = usize;
+
+    ghost next_gives = { GivesSibling };
+
+    ghost remaining = { λ s. at_most (s.end - s.next) };
+
+    fn next(&mut self) -> Option<usize> {
+        if self.end <= self.next {
+            return None;
+        }
+        let i = self.next;
+        self.next = self.tree.node_end(i);
+        Some(i)
     }
 }
 

@@ -4,14 +4,8 @@ use Rattle.spec.specs.Tree.{attr}
 use Rattle.spec.specs.Md.Elements.List.{number_of, renumbered}
 use Rattle.spec.specs.declared.ctx.ListKind.{ListKind}
 use Rattle.tree.specs.Represents.{attrs_behind}
-use Rattle.text.proofs.Writing.{yes, no}
+use Rattle.text.proofs.Writing.{yes}
 use Rattle.elements.proofs.item_steps.renumbered.Goals as goal
-
-pub returns-then-not-li : goal.returns-then-not-li
-returns-then-not-li c =
-    let a = c.args in
-    let o = number_of (attr (ascii "value") (attrs_behind a.sheet.now a.place)) in
-    sym (no (renumbered a.ctx.kind o a.ctx) a.ctx (c.if-not-li.true))
 
 pub returns-in-Ul : goal.returns-in-Ul
 unfolding renumbered
@@ -19,10 +13,3 @@ returns-in-Ul c =
     let a = c.args in
     let o = number_of (attr (ascii "value") (attrs_behind a.sheet.now a.place)) in
     sym (yes (renumbered a.ctx.kind o a.ctx) a.ctx (c.if-not-li.false) ∙ ap (λ (k : ListKind). renumbered k o a.ctx) c.in-Ul.is)
-
-pub returns-in-Ol : goal.returns-in-Ol
-returns-in-Ol c =
-    let a = c.args in
-    let o = number_of (attr (ascii "value") (attrs_behind a.sheet.now a.place)) in
-    c.with_number.ensures c.in-Ol.field-0 o c.number_of-number.ensures
-    ∙ sym (yes (renumbered a.ctx.kind o a.ctx) a.ctx (c.if-not-li.false) ∙ ap (λ (k : ListKind). renumbered k o a.ctx) c.in-Ol.is)

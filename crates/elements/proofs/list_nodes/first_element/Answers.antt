@@ -4,51 +4,47 @@ use lib.ListN.{get_or}
 use Rattle.spec.specs.Tree.{Forest}
 use Rattle.tree.specs.Memory.{place_at}
 use Rattle.tree.specs.Represents.{Rep}
+use Rattle.tree.proofs.Firsts.{ended}
 use Rattle.nodes.specs.FirstElement.{first_element}
-use Rattle.nodes.proofs.Siblings.{Left, left_all, left_first, left_node, left_on}
-use Rattle.nodes.proofs.Interrupts.{element_first, element_on, element_none}
+use Rattle.nodes.proofs.Siblings.{Walks, left_on, left_node, walks_all, turn_before, turn_left, turn_on, turn_none}
+use Rattle.nodes.proofs.Interrupts.{element_first, element_on}
 use native.Mathlib.Omega.{arith}
 use Rattle.elements.proofs.list_nodes.first_element.Goals as goal
 
 pub loop-i-init : goal.loop-i-init
 loop-i-init c =
-    left_all first_element c.args.tree.now.sheet.now c.args.tree.now.nodes.now c.args.from c.args.to c.requires
+    subst (Walks first_element c.args.tree.now.sheet.now c.args.tree.now.nodes.now c.args.from c.args.to) (sym c.into_iter-i-iterator.ensures.into_iter_gives)
+    (walks_all first_element c.requires c.siblings-i-items.ensures)
 
-pub node_place-place-requires : goal.node_place-place-requires
-node_place-place-requires c =
-    (left_node c.loop-i.invariant c.loop-i-test.true).inside
-
-pub node_end-i-requires : goal.node_end-i-requires
-node_end-i-requires c =
-    (left_node c.loop-i.invariant c.loop-i-test.true).inside
+pub node_place-requires : goal.node_place-requires
+node_place-requires c =
+    let w = c.loop-i.invariant in let s = c.in-Some.ensures.steps in (left_node (turn_left w s) (turn_before w s)).inside
 
 pub tag_at-requires : goal.tag_at-requires
 tag_at-requires c =
-    omega (arith, (left_node c.loop-i.invariant c.loop-i-test.true).placed, c.node_place-place.ensures)
+    let w = c.loop-i.invariant in let s = c.in-Some.ensures.steps in
+    omega (arith, (left_node (turn_left w s) (turn_before w s)).placed, c.node_place.ensures)
 
-pub returns-then-tag_at-eq1 : goal.returns-then-tag_at-eq1
-returns-then-tag_at-eq1 c =
-    let t : get_or c.args.tree.now.sheet.now (place_at c.args.tree.now.nodes.now c.loop-i.i) 0 ≡ 1 = sym (c.tag_at.ensures ∙ ap (λ (p : ℕ). get_or c.args.tree.now.sheet.now p 0) c.node_place-place.ensures) ∙ c.if-tag_at-eq1.true in record {
-      elements = λ parent f h. let q = c.loop-i.invariant.goes parent f h in
-          subst (λ (g : Forest). Rep c.args.tree.now.sheet.now c.args.tree.now.nodes.now parent c.loop-i.i c.args.to g)
-          (sym (q.2 ∙ element_first c.args.tree.now.sheet.now c.args.tree.now.nodes.now parent c.loop-i.i c.args.to q.0 q.1 c.loop-i-test.true t)) q.1;
-      tagged = λ l. t;
-    }
-
-pub loop-i-smaller : goal.loop-i-smaller
-loop-i-smaller c =
-    omega (arith, (left_first c.loop-i.invariant c.loop-i-test.true).later, c.node_end-i.ensures)
+pub returns-then-tag_at-eq-OPEN : goal.returns-then-tag_at-eq-OPEN
+returns-then-tag_at-eq-OPEN c =
+    let w = c.loop-i.invariant in let s = c.in-Some.ensures.steps in
+    let sh = c.args.tree.now.sheet.now in let ns = c.args.tree.now.nodes.now in
+    let t : get_or sh (place_at ns c.in-Some.i) 0 ≡ 1 = sym (c.tag_at.ensures ∙ ap (λ (p : ℕ). get_or sh p 0) c.node_place.ensures) ∙ c.if-tag_at-eq-OPEN.true in (
+      turn_before w s,
+      t,
+      λ parent f h. let q = (turn_left w s).goes parent f h in
+          subst (λ (g : Forest). Rep sh ns parent c.in-Some.i c.args.to g) (sym (q.2 ∙ element_first sh ns parent c.in-Some.i c.args.to q.0 q.1 (turn_before w s) t)) q.1,
+    )
 
 pub loop-i-preserved : goal.loop-i-preserved
 loop-i-preserved c =
-    subst (λ (j : ℕ). Left first_element c.args.tree.now.sheet.now c.args.tree.now.nodes.now c.args.from c.args.to j) (sym c.node_end-i.ensures)
-    (left_on c.loop-i.invariant c.loop-i-test.true (λ parent g h. element_on c.args.tree.now.sheet.now c.args.tree.now.nodes.now parent c.loop-i.i c.args.to g h
-    (λ q. c.if-tag_at-eq1.false (c.tag_at.ensures ∙ (ap (λ (p : ℕ). get_or c.args.tree.now.sheet.now p 0) c.node_place-place.ensures ∙ q)))))
+    let w = c.loop-i.invariant in let s = c.in-Some.ensures.steps in
+    let sh = c.args.tree.now.sheet.now in let ns = c.args.tree.now.nodes.now in
+    turn_on w s (left_on (turn_left w s) (turn_before w s) (λ parent g h. element_on sh ns parent c.in-Some.i c.args.to g h
+    (λ q. c.if-tag_at-eq-OPEN.false (c.tag_at.ensures ∙ (ap (λ (p : ℕ). get_or sh p 0) c.node_place.ensures ∙ q)))))
 
 pub returns : goal.returns
+unfolding first_element
 returns c =
-    record {
-      elements = λ parent f h. let q = c.loop-i.invariant.goes parent f h in
-          element_none c.args.tree.now.sheet.now c.args.tree.now.nodes.now parent c.loop-i.i c.args.to f q.0 q.1 q.2 c.loop-i-test.false;
-      tagged = λ l. absurd (omega arith);
-    }
+    λ parent f h. let q = c.loop-i.invariant.left.goes parent f h in
+    q.2 ∙ ap first_element (ended c.args.tree.now.sheet.now c.args.tree.now.nodes.now parent _ c.args.to q.0 q.1 (turn_none c.loop-i.invariant c.in-None.ensures.steps.0))

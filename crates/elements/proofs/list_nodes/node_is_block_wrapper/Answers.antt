@@ -21,8 +21,8 @@ pub overflow_add-i : goal.overflow_add-i
 overflow_add-i c =
     omega (arith, (first c.args.tree.now.sheet.now c.args.tree.now.nodes.now c.requires.2.0 c.args.i c.requires.0 c.requires.2.1 c.requires.2.2 c.requires.1).later, c.node_end-to.ensures)
 
-pub overflow_add-i-2 : goal.overflow_add-i-2
-overflow_add-i-2 c =
+pub overflow_add-i-then-has_blocks : goal.overflow_add-i-then-has_blocks
+overflow_add-i-then-has_blocks c =
     omega (arith, (first c.args.tree.now.sheet.now c.args.tree.now.nodes.now c.requires.2.0 c.args.i c.requires.0 c.requires.2.1 c.requires.2.2 c.requires.1).later, c.node_end-to.ensures)
 
 pub has_blocks-requires : goal.has_blocks-requires
@@ -40,19 +40,20 @@ returns-then-not-name c =
     let w : is_block_wrapper (name_of f) ≡ false = sym (wrapper_range _ ∙ ap is_block_wrapper (c.node_name-name.ensures ∙ first_name c.args.tree.now.sheet.now c.args.tree.now.nodes.now parent c.args.i e f h l)) ∙ c.if-not-name.true in
     rw w
 
-pub returns-then-not-has_blocks : goal.returns-then-not-has_blocks
+pub returns-else-has_blocks : goal.returns-else-has_blocks
 unfolding node_is_block_wrapper
-returns-then-not-has_blocks c =
+returns-else-has_blocks c =
     λ parent e f h l.
     let w : is_block_wrapper (name_of f) ≡ true = sym (wrapper_range _ ∙ ap is_block_wrapper (c.node_name-name.ensures ∙ first_name c.args.tree.now.sheet.now c.args.tree.now.nodes.now parent c.args.i e f h l)) ∙ c.if-not-name.false in
-    let b : has_blocks (kids_of f) ≡ false = sym (c.has_blocks.ensures c.args.i (kids_of f) (its_kids c.args.tree.now.sheet.now c.args.tree.now.nodes.now parent c.args.i e f h l c.node_end-to.ensures)) ∙ c.if-not-has_blocks.true in
-    rw (w, b)
+    let b : has_blocks (kids_of f) ≡ false = sym (c.has_blocks.ensures c.args.i (kids_of f) (its_kids c.args.tree.now.sheet.now c.args.tree.now.nodes.now parent c.args.i e f h l c.node_end-to.ensures)) ∙ c.if-has_blocks.false in
+    let z : false ≡ node_is_block_wrapper (name_of f) (kids_of f) = rw (w, b) in
+    c.if-has_blocks.false ∙ z
 
-pub returns : goal.returns
+pub returns-then-has_blocks : goal.returns-then-has_blocks
 unfolding node_is_block_wrapper
-returns c =
+returns-then-has_blocks c =
     λ parent e f h l.
     let k = its_kids c.args.tree.now.sheet.now c.args.tree.now.nodes.now parent c.args.i e f h l c.node_end-to.ensures in
     let w : is_block_wrapper (name_of f) ≡ true = sym (wrapper_range _ ∙ ap is_block_wrapper (c.node_name-name.ensures ∙ first_name c.args.tree.now.sheet.now c.args.tree.now.nodes.now parent c.args.i e f h l)) ∙ c.if-not-name.false in
-    let b : has_blocks (kids_of f) ≡ true = sym (c.has_blocks.ensures c.args.i (kids_of f) k) ∙ c.if-not-has_blocks.false in
+    let b : has_blocks (kids_of f) ≡ true = sym (c.has_blocks.ensures c.args.i (kids_of f) k) ∙ c.if-has_blocks.true in
     rw (w, b) (c.only_blocks.ensures c.args.i (kids_of f) k)

@@ -1,12 +1,12 @@
 use mathlib.Core.Path.{refl, ◌∙◌}
 use mathlib.Core.Bool.{cond}
 use mathlib.Core.List.{[]}
-use lib.ListN.{take}
 use Rattle.spec.specs.Names.{tag_of}
-use Rattle.spec.specs.Out.{push}
+use Rattle.spec.specs.Out.{keep, push}
 use Rattle.spec.specs.Md.Heading.{md_prefix}
-use Rattle.spec.specs.Md.Serializer.{open_break, opened}
-use Rattle.text.proofs.Writing.{keeps, done, reaches, owes_all, owes_step, owes_stop, owes_last, stops}
+use Rattle.spec.specs.Md.Serializer.{opened}
+use Rattle.text.specs.Texts.{bytes}
+use Rattle.text.proofs.Texts.{as_step, kept, next, stop}
 use Rattle.nodes.proofs.Interrupts.{element_name}
 use Rattle.elements.proofs.Openings.{opened_on}
 use Rattle.elements.proofs.steps.opened.Goals as goal
@@ -14,25 +14,16 @@ use Rattle.elements.proofs.steps.opened.Goals as goal
 pub returns-then-opts : goal.returns-then-opts
 unfolding opened
 returns-then-opts c =
-    λ name attrs kids x. rw c.if-opts.true (record { says = keeps c.args.text.now c.args.len c.requires.1 })
-
-pub push_opening-requires : goal.push_opening-requires
-push_opening-requires c =
-    reaches (done c.in_ok-n.was (c.open_break.ensures c.requires.0.0 c.requires.0.1 c.requires.0.2 c.requires.0.3))
+    λ name attrs kids x. as_step {f = keep} (rw c.if-opts.true refl) (kept _)
 
 pub returns : goal.returns
 returns c =
     λ name attrs kids x.
-    let a = c.args in
-    owes_last
-    (owes_step (owes_all a.text.now a.len (opened a.opts (tag_of name) attrs kids) c.requires.1 refl) (open_break a.opts (tag_of name) attrs kids)
-    (push (cond a.opts.link_body [] (md_prefix c.node_name-name.result))) (opened_on a.opts (tag_of name) attrs kids (take a.len a.text.now) c.if-opts.false (c.node_name-name.ensures ∙ element_name x))
-    c.in_ok-n.was (c.open_break.ensures name attrs kids x))
-    c.push_opening.ensures
+    as_step (opened_on c.args.opts (tag_of name) attrs kids (bytes c.args.text.now) c.if-opts.false (c.node_name-name.ensures ∙ element_name x))
+    (next c.in_ok-open_break.was (c.open_break.ensures name attrs kids x) c.push_opening.ensures)
 
-pub returns-in_err-n : goal.returns-in_err-n
-returns-in_err-n c =
-    λ name attrs kids x. stops c.from_residual.ensures.0 (let a = c.args in
-    owes_stop (owes_all a.text.now a.len (opened a.opts (tag_of name) attrs kids) c.requires.1 refl) (open_break a.opts (tag_of name) attrs kids)
-    (push (cond a.opts.link_body [] (md_prefix c.node_name-name.result))) (opened_on a.opts (tag_of name) attrs kids (take a.len a.text.now) c.if-opts.false (c.node_name-name.ensures ∙ element_name x))
-    c.in_err-n.was (c.open_break.ensures name attrs kids x))
+pub returns-in_err-open_break : goal.returns-in_err-open_break
+returns-in_err-open_break c =
+    λ name attrs kids x.
+    as_step (opened_on c.args.opts (tag_of name) attrs kids (bytes c.args.text.now) c.if-opts.false (c.node_name-name.ensures ∙ element_name x))
+    (stop (push (cond c.args.opts.link_body [] (md_prefix c.node_name-name.result))) c.in_err-open_break.was (c.open_break.ensures name attrs kids x) c.from_residual.ensures.0)
