@@ -13,11 +13,8 @@ use nodes::nodes::node_name;
 use text::buffer::starts_with;
 use text::class::{ByteClass, White};
 use tree::attributes::{attribute, language_attribute};
-use tree::names::Name;
+use tree::element::CODE;
 use tree::nodes::Tree;
-
-// The number of the name `code`.
-const CODE: usize = Name::Code as usize;
 
 // What begins a word of a class that says a language.
 const PREFIX: &[u8] = b"language-";
@@ -61,18 +58,15 @@ fn class_of(sheet: &[u8], place: usize) -> Option<&[u8]>
     class_language(attribute(sheet, place, b"class")?)
 }
 
-// Of the first `code` among the siblings. A `while`: the next sibling is where this one ends.
+// Of the first `code` among the siblings.
 fn find_code_language_css_class<'a>(tree: &Tree<'a, '_>, from: usize, to: usize) -> Option<&'a [u8]>
     requires { Siblings tree.now.sheet.now tree.now.nodes.now from to }
     ensures { (parent : ℕ) (f : Forest) → Rep tree.now.sheet.now tree.now.nodes.now parent from to f → Language tree.now.sheet.now result (def.find_code_language_css_class f) }
 {
-    let mut i = from;
-    while i < to {
+    for i in tree.siblings(from, to) {
         if node_name(tree, i) == CODE {
-            let place = tree.node_place(i);
-            return class_of(tree.sheet, place);
+            return class_of(tree.sheet, tree.node_place(i));
         }
-        i = tree.node_end(i);
     }
     None
 }
