@@ -15,6 +15,7 @@ use text::class::White;
 use text::text::Text;
 
 // The opening bracket.
+#[tactic(auto, unfolding(crate::specs::LinkStep::bracket), using(text::proofs::Texts::next, text::proofs::Texts::stop))]
 fn push_bracket(text: &mut Text) -> Result<(), Full>
     ensures { WritesTo text.old text.new result bracket }
 {
@@ -33,6 +34,7 @@ fn push_bracket_in(room: &mut [u8], len: usize) -> Wrote
 }
 
 // The words of what stands from base on, escaped.
+#[tactic(auto, unfolding(crate::specs::LinkStep::plain_step), using(crate::proofs::Links::before_temp))]
 fn push_plain(text: &mut Text, base: usize, opts: FormatOpts) -> Result<(), Full>
     requires { (text.old.len ≤ base) × (base ≤ length text.old.room.now) }
     ensures { WritesTo text.old text.new result (plain_step opts (drop base text.old.room.now)) }
@@ -61,6 +63,7 @@ fn push_link_text(text: &mut Text, base: usize, plain: bool, opts: FormatOpts) -
 }
 
 // The link whose text stands from base on.
+#[tactic(auto, unfolding(crate::specs::LinkStep::link_shown), using(text::proofs::Texts::next, text::proofs::Texts::stop))]
 fn push_shown(
     sheet: &[u8],
     text: &mut Text,
