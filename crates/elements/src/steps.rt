@@ -35,6 +35,7 @@ use tree::element::{
 };
 use tree::nodes::Tree;
 
+#[tactic(auto, unfolding(spec::specs::Md::Elements::Blocks::is_link_block, spec::specs::Bytes::isin))]
 fn is_link_block(name: usize) -> bool
     ensures { result ≡ blocks.is_link_block name }
 {
@@ -42,6 +43,7 @@ fn is_link_block(name: usize) -> bool
 }
 
 // The elements that a writer of their own takes up.
+#[tactic(auto, unfolding(spec::specs::Md::Serializer::has_writer, spec::specs::Bytes::isin))]
 pub fn has_writer(name: usize, opts: FormatOpts) -> bool
     ensures { result ≡ def.has_writer opts name }
 {
@@ -121,6 +123,7 @@ pub fn opened(tree: &Tree, text: &mut Text, i: usize, opts: FormatOpts) -> Resul
     push_opening(text, name, opts)
 }
 
+#[tactic(auto, using(text::proofs::Texts::as_step), unfolding(spec::specs::Md::Serializer::close_block))]
 fn close_block(text: &mut Text, opts: FormatOpts) -> Result<(), Full>
     ensures { WritesTo text.old text.new result (def.close_block opts) }
 {
@@ -191,12 +194,14 @@ pub fn closed(text: &mut Text, name: usize, opts: FormatOpts) -> Result<(), Full
     close_md(text, name, opts)
 }
 
+#[tactic(auto, unfolding(spec::specs::Md::Elements::Emphasis::md_emphasis, spec::specs::Bytes::isin))]
 fn is_strong(name: usize) -> bool
     ensures { emphasis.md_emphasis name ≡ cond result (ascii "**") (ascii "*") }
 {
     (name == STRONG) | (name == B)
 }
 
+#[tactic(auto, unfolding(spec::specs::Bytes::same))]
 fn scope_of(name: usize) -> EmphasisScope
     ensures { result ≡ ctx.scope_of (emphasis.md_emphasis name) }
 {
