@@ -40,7 +40,7 @@ fn white_width(s: &[u8]) -> usize
     }
 }
 
-// s without the White_Space at its front.
+// s without the White_Space at its front. A `loop`, since a character has one byte to three.
 fn trim_start(s: &[u8]) -> &[u8]
     ensures { result.now ≡ trim_from 0 s.now }
 {
