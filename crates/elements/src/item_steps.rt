@@ -85,6 +85,7 @@ pub fn due_line(text: &mut Text, line: bool, item: Item) -> Result<(), Full>
 }
 
 // What begins a block that is a heading.
+#[tactic(auto, using(text::proofs::Texts::as_step, text::proofs::Texts::pushes_nothing))]
 pub fn push_heading_prefix(text: &mut Text, name: usize) -> Result<(), Full>
     ensures { WritesTo text.old text.new result (push (flow_prefix name)) }
 {

@@ -93,6 +93,7 @@ fn is_only_block_name(name: usize) -> bool
 }
 
 // Whether node i is such an element, a comment or a blank text.
+#[tactic(auto, using(crate::proofs::ListTests::only_text, crate::proofs::ListTests::only_comment, crate::proofs::ListTests::only_element), unfolding(spec::specs::Bytes::is_blank))]
 fn is_only_block(tree: &Tree, i: usize) -> bool
     requires { NodeAt tree.now.sheet.now tree.now.nodes.now i }
     ensures { (parent e : ℕ) (f : Forest) → Rep tree.now.sheet.now tree.now.nodes.now parent i e f → i < e → def.only_blocks f ≡ (result && def.only_blocks (rest_of f)) }
@@ -160,6 +161,7 @@ fn first_element(tree: &Tree, from: usize, to: usize) -> Option<usize>
 }
 
 // Whether the item at node `li`, the first of the list at node i, begins with 1.
+#[tactic(auto, using(crate::proofs::ListTests::parsed_or))]
 fn begins_with_one(tree: &Tree, i: usize, li: usize) -> bool
     requires { NodeAt tree.now.sheet.now tree.now.nodes.now i × NodeAt tree.now.sheet.now tree.now.nodes.now li }
     ensures { result ≡ eqb (def.number_or (def.number_of (attr (ascii "value") (attrs_behind tree.now.sheet.now (place_at tree.now.nodes.now li)))) (def.start_of (attrs_behind tree.now.sheet.now (place_at tree.now.nodes.now i)))) 1 }

@@ -56,6 +56,7 @@ pub fn has_writer(name: usize, opts: FormatOpts) -> bool
 }
 
 // Whether node i is a list that one line break parts from the item text before it.
+#[tactic(auto, using(crate::proofs::Openings::tight_not, crate::proofs::Openings::tight_is, nodes::proofs::Interrupts::element_name))]
 fn is_tight(tree: &Tree, i: usize, name: usize, opts: FormatOpts) -> bool
     requires { SomeElement tree.now.sheet.now tree.now.nodes.now i × (name ≡ name_at tree.now.sheet.now (place_at tree.now.nodes.now i)) }
     ensures { (name : Bytes) (attrs : List Attr) (kids : Forest) → ElementAt tree.now.sheet.now tree.now.nodes.now i name attrs kids → result ≡ def.is_tight opts (tag_of name) attrs kids }
@@ -74,6 +75,7 @@ fn add_breaks(text: &mut Text, tight: bool) -> Result<(), Full>
 }
 
 // The break before a block.
+#[tactic(auto, using(text::proofs::Texts::as_step, text::proofs::Texts::kept, crate::proofs::Openings::open_space, crate::proofs::Openings::open_inline, crate::proofs::Openings::open_none, crate::proofs::Openings::open_cell, crate::proofs::Openings::open_lines, nodes::proofs::Interrupts::element_name))]
 fn open_break(
     tree: &Tree,
     text: &mut Text,
@@ -150,6 +152,7 @@ fn close_line(text: &mut Text, opts: FormatOpts) -> Result<(), Full>
     push_line_end(text, opts)
 }
 
+#[tactic(auto, using(text::proofs::Texts::as_step, text::proofs::Texts::kept), unfolding(crate::specs::CloseBy::close_by, spec::specs::Bytes::isin))]
 fn close_by(text: &mut Text, name: usize, opts: FormatOpts) -> Result<(), Full>
     ensures { WritesTo text.old text.new result (close_by opts name) }
 {
@@ -162,6 +165,7 @@ fn close_by(text: &mut Text, name: usize, opts: FormatOpts) -> Result<(), Full>
     Ok(())
 }
 
+#[tactic(auto, using(text::proofs::Texts::as_step, text::proofs::Texts::kept), unfolding(crate::specs::CloseBy::escape_heading))]
 fn escape_heading(text: &mut Text, name: usize) -> Result<(), Full>
     ensures { WritesTo text.old text.new result (escape_heading name) }
 {
@@ -179,6 +183,7 @@ fn close_md(text: &mut Text, name: usize, opts: FormatOpts) -> Result<(), Full>
 }
 
 // SerializeOp::Close.
+#[tactic(auto, using(text::proofs::Texts::as_step, text::proofs::Texts::kept), unfolding(spec::specs::Md::Serializer::closed))]
 pub fn closed(text: &mut Text, name: usize, opts: FormatOpts) -> Result<(), Full>
     ensures { WritesTo text.old text.new result (def.closed opts name) }
 {
@@ -220,6 +225,7 @@ pub fn emphasis_opts(name: usize, opts: FormatOpts) -> FormatOpts
 }
 
 // The emphasis text is the n bytes behind the text.
+#[tactic(auto, using(text::proofs::Texts::as_step, text::proofs::Texts::kept, crate::proofs::Links::emphasis_none, crate::proofs::Links::emphasis_inside, crate::proofs::Links::emphasis_marked))]
 pub fn push_emphasis_by(
     text: &mut Text,
     n: usize,
