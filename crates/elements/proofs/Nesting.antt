@@ -19,7 +19,7 @@ module _ (xs : List ℕ) (len : ℕ) (h : len ≤ length xs) (o : Out) {ys : Lis
   abbrev behind : List ℕ
   behind = drop (length xs - len) (drop len xs)
 
-  back_text : take len (back xs len ys) ≡ take len xs
+  pub back_text : take len (back xs len ys) ≡ take len xs
   back_text = take_at (take len xs) (ys ++ behind) len (length-take-le len xs h)
 
   back_temp : take n (drop len (back xs len ys)) ≡ o.text
@@ -27,7 +27,7 @@ module _ (xs : List ℕ) (len : ℕ) (h : len ≤ length xs) (o : Out) {ys : Lis
       ap (take n) (drop_at (take len xs) (ys ++ behind) len (length-take-le len xs h)) ∙ (take-append-le n ys behind (reaches w) ∙ w.text_is)
 
   -- g of the temporary text follows
-  nest_writes : (g : List ℕ → Step) {final : List ℕ} {r : Wrote} → Writes (length (back xs len ys)) final r (g (take n (drop len (back xs len ys))) (take len (back xs len ys)))
+  pub nest_writes : (g : List ℕ → Step) {final : List ℕ} {r : Wrote} → Writes (length (back xs len ys)) final r (g (take n (drop len (back xs len ys))) (take len (back xs len ys)))
       → Writes (length xs) final r (nested o (g o.text) (take len xs))
   unfolding nested inside
   nest_writes g {final} {r} v =

@@ -29,6 +29,7 @@ use text::white_space::{is_white_space_1, is_white_space_2, is_white_space_3, tr
 use tree::nodes::{Tree, text_at};
 
 // How many bytes the White_Space character has that begins s; 0 where none does.
+#[tactic(auto, using(crate::proofs::WhiteStarts::width_one, crate::proofs::WhiteStarts::width_two, crate::proofs::WhiteStarts::width_three, crate::proofs::WhiteStarts::width_none))]
 fn white_width(s: &[u8]) -> usize
     ensures { result ≡ white_width s.now }
 {
@@ -40,7 +41,7 @@ fn white_width(s: &[u8]) -> usize
     }
 }
 
-// s without the White_Space at its front.
+// s without the White_Space at its front. A `loop`, since a character has one byte to three.
 fn trim_start(s: &[u8]) -> &[u8]
     ensures { result.now ≡ trim_from 0 s.now }
 {
@@ -55,6 +56,7 @@ fn trim_start(s: &[u8]) -> &[u8]
 }
 
 // Whether s holds LF between other characters than White_Space.
+#[tactic(auto, unfolding(spec::specs::Bytes::trim))]
 fn is_multiline_text(s: &[u8]) -> bool
     ensures { result ≡ isin 10 (trim s.now) }
 {
@@ -91,6 +93,7 @@ fn begins_line(tree: &Tree, from: usize, to: usize) -> bool
 }
 
 // Whether a text that ends with s ends with LF, but for tabs and blanks; `before` says it of what stands before s.
+#[tactic(auto, using(crate::proofs::Edges::ended_nothing, crate::proofs::Edges::ended_here))]
 fn ended_by(s: &[u8], before: bool) -> bool
     ensures { result ≡ ended_by before s.now }
 {
@@ -115,6 +118,7 @@ fn ends_line(tree: &Tree, from: usize, to: usize) -> bool
 }
 
 // How long the code is without the blanks at its end, if they are no content.
+#[tactic(auto, unfolding(spec::specs::Md::TextUtils::trim_blanks))]
 fn code_end(s: &[u8], ended: bool) -> usize
     ensures { Trimmed s.now result (cond ended (trim_blanks s.now) s.now) }
 {

@@ -13,10 +13,11 @@ use nodes::nodes::node_name;
 use text::buffer::starts_with;
 use text::class::{ByteClass, White};
 use tree::attributes::{attribute, language_attribute};
+use tree::element::CODE;
 use tree::nodes::Tree;
 
-// The number of the name `code`.
-const CODE: usize = 24;
+// What begins a word of a class that says a language.
+const PREFIX: &[u8] = b"language-";
 
 // A language is looked for in an element and three around it.
 const NEAREST: usize = 4;
@@ -40,9 +41,6 @@ fn nearest_language<'a>(tree: &Tree<'a, '_>, i: usize) -> Option<&'a [u8]>
     None
 }
 
-// What begins a word of a class that says a language.
-const PREFIX: &[u8] = b"language-";
-
 // The language in the words of a class.
 fn class_language(class: &[u8]) -> Option<&[u8]>
     ensures { Language class.now result (def.language_class (words class.now)) }
@@ -57,24 +55,18 @@ fn class_of(sheet: &[u8], place: usize) -> Option<&[u8]>
     requires { place + 3 ≤ length sheet.now }
     ensures { Language sheet.now result (def.class_language (attr (ascii "class") (attrs_behind sheet.now place))) }
 {
-    match attribute(sheet, place, b"class") {
-        Some(class) => class_language(class),
-        None => None,
-    }
+    class_language(attribute(sheet, place, b"class")?)
 }
 
-// Of the first `code` among the siblings. A `while`: the next sibling is where this one ends.
+// Of the first `code` among the siblings.
 fn find_code_language_css_class<'a>(tree: &Tree<'a, '_>, from: usize, to: usize) -> Option<&'a [u8]>
     requires { Siblings tree.now.sheet.now tree.now.nodes.now from to }
     ensures { (parent : ℕ) (f : Forest) → Rep tree.now.sheet.now tree.now.nodes.now parent from to f → Language tree.now.sheet.now result (def.find_code_language_css_class f) }
 {
-    let mut i = from;
-    while i < to {
+    for i in tree.siblings(from, to) {
         if node_name(tree, i) == CODE {
-            let place = tree.node_place(i);
-            return class_of(tree.sheet, place);
+            return class_of(tree.sheet, tree.node_place(i));
         }
-        i = tree.node_end(i);
     }
     None
 }
@@ -85,9 +77,6 @@ pub fn find_code_language<'a>(tree: &Tree<'a, '_>, i: usize) -> Option<&'a [u8]>
 {
     match nearest_language(tree, i) {
         Some(language) => Some(language),
-        None => {
-            let to = tree.node_end(i);
-            find_code_language_css_class(tree, i + 1, to)
-        }
+        None => find_code_language_css_class(tree, i + 1, tree.node_end(i)),
     }
 }

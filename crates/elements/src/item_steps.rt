@@ -21,6 +21,7 @@ use text::buffer::Full;
 use text::text::Text;
 
 // A blank line behind a list.
+#[tactic(auto, using(text::proofs::Texts::as_step, text::proofs::Texts::kept))]
 pub fn end_list(text: &mut Text, opts: FormatOpts) -> Result<(), Full>
     ensures { WritesTo text.old text.new result (ended_list opts) }
 {
@@ -30,6 +31,7 @@ pub fn end_list(text: &mut Text, opts: FormatOpts) -> Result<(), Full>
     add_linebreaks(text, b"\n", b"\n\n")
 }
 
+#[tactic(auto, unfolding(spec::specs::Md::Ctx::with_kind))]
 fn with_kind(ctx: ListContext, kind: ListKind) -> ListContext
     ensures { result ≡ with_kind kind ctx }
 {
@@ -37,6 +39,7 @@ fn with_kind(ctx: ListContext, kind: ListKind) -> ListContext
 }
 
 // The context of an ordered list at an item with that number.
+#[tactic(auto, using(crate::proofs::Renumbering::with_number, crate::proofs::Renumbering::without_number))]
 fn with_number(ctx: ListContext, number: Option<u32>) -> ListContext
     ensures { (m : ℕ) (o : Option ℕ) → number ≡ parsed_of o → result ≡ def.renumbered (kinds.Ol m) o ctx }
 {
@@ -71,6 +74,7 @@ pub fn child_opts(name: usize, opts: FormatOpts) -> FormatOpts
 }
 
 // A line break that is due.
+#[tactic(auto, using(text::proofs::Texts::as_step, text::proofs::Texts::kept))]
 pub fn due_line(text: &mut Text, line: bool, item: Item) -> Result<(), Full>
     ensures { WritesTo text.old text.new result (line_if line item.ctx) }
 {
@@ -81,6 +85,7 @@ pub fn due_line(text: &mut Text, line: bool, item: Item) -> Result<(), Full>
 }
 
 // What begins a block that is a heading.
+#[tactic(auto, using(text::proofs::Texts::as_step, text::proofs::Texts::pushes_nothing))]
 pub fn push_heading_prefix(text: &mut Text, name: usize) -> Result<(), Full>
     ensures { WritesTo text.old text.new result (push (flow_prefix name)) }
 {

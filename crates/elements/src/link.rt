@@ -15,6 +15,7 @@ use text::class::White;
 use text::text::Text;
 
 // The opening bracket.
+#[tactic(auto, unfolding(crate::specs::LinkStep::bracket), using(text::proofs::Texts::next, text::proofs::Texts::stop))]
 fn push_bracket(text: &mut Text) -> Result<(), Full>
     ensures { WritesTo text.old text.new result bracket }
 {
@@ -33,6 +34,7 @@ fn push_bracket_in(room: &mut [u8], len: usize) -> Wrote
 }
 
 // The words of what stands from base on, escaped.
+#[tactic(auto, unfolding(crate::specs::LinkStep::plain_step), using(crate::proofs::Links::before_temp))]
 fn push_plain(text: &mut Text, base: usize, opts: FormatOpts) -> Result<(), Full>
     requires { (text.old.len ≤ base) × (base ≤ length text.old.room.now) }
     ensures { WritesTo text.old text.new result (plain_step opts (drop base text.old.room.now)) }
@@ -41,6 +43,7 @@ fn push_plain(text: &mut Text, base: usize, opts: FormatOpts) -> Result<(), Full
 }
 
 // What stands from base on, by its words or as it stands.
+#[tactic(auto, unfolding(crate::specs::LinkStep::plain_step), using(text::proofs::Texts::as_step))]
 fn push_by(text: &mut Text, base: usize, plain: bool, opts: FormatOpts) -> Result<(), Full>
     requires { (text.old.len ≤ base) × (base ≤ length text.old.room.now) }
     ensures { WritesTo text.old text.new result (λ t. beside (length (drop base text.old.room.now)) (append_by plain opts (drop base text.old.room.now) t)) }
@@ -61,6 +64,7 @@ fn push_link_text(text: &mut Text, base: usize, plain: bool, opts: FormatOpts) -
 }
 
 // The link whose text stands from base on.
+#[tactic(auto, unfolding(crate::specs::LinkStep::link_shown), using(text::proofs::Texts::next, text::proofs::Texts::stop))]
 fn push_shown(
     sheet: &[u8],
     text: &mut Text,
@@ -110,6 +114,7 @@ fn push_blank_link(text: &mut Text, n: usize, opts: FormatOpts) -> Result<(), Fu
 }
 
 // A link that shows its texts, the n bytes behind the text.
+#[tactic(auto, unfolding(spec::specs::Bytes::is_blank), using(text::proofs::Texts::as_step, crate::proofs::Links::text_blank, crate::proofs::Links::text_shown))]
 pub fn push_text_link(
     sheet: &[u8],
     text: &mut Text,

@@ -23,6 +23,7 @@ use tree::element::{ARTICLE, DIV, HR, LI, OL, PRE, TABLE, UL};
 use tree::nodes::{Tree, tag_at, text_at};
 
 // The number of the attribute of that name of the element at `place`.
+#[tactic(auto, unfolding(spec::specs::Md::Elements::List::number_of))]
 pub fn number_of(sheet: &[u8], place: usize, name: &[u8]) -> Option<u32>
     requires { place + 3 ≤ length sheet.now }
     ensures { result ≡ parsed_of (def.number_of (attr name.now (attrs_behind sheet.now place))) }
@@ -30,6 +31,7 @@ pub fn number_of(sheet: &[u8], place: usize, name: &[u8]) -> Option<u32>
     parse_list_number(attribute(sheet, place, name)?)
 }
 
+#[tactic(auto, using(crate::proofs::ListTests::parsed_or), unfolding(spec::specs::Md::Elements::List::start_of))]
 fn start_of(sheet: &[u8], place: usize) -> u32
     requires { place + 3 ≤ length sheet.now }
     ensures { result ≡ def.start_of (attrs_behind sheet.now place) }
@@ -37,12 +39,14 @@ fn start_of(sheet: &[u8], place: usize) -> u32
     number_of(sheet, place, b"start").unwrap_or(1)
 }
 
+#[tactic(auto, unfolding(spec::specs::Md::Elements::Blocks::is_list, spec::specs::Bytes::isin))]
 pub fn is_list(name: usize) -> bool
     ensures { result ≡ blocks.is_list name }
 {
     (name == UL) | (name == OL)
 }
 
+#[tactic(auto, unfolding(spec::specs::Md::Elements::List::kind_of))]
 pub fn kind_of(sheet: &[u8], place: usize, name: usize) -> ListKind
     requires { place + 3 ≤ length sheet.now }
     ensures { result ≡ def.kind_of name (attrs_behind sheet.now place) }
@@ -54,12 +58,14 @@ pub fn kind_of(sheet: &[u8], place: usize, name: usize) -> ListKind
     }
 }
 
+#[tactic(auto, using(nodes::proofs::Tests::md_block_range))]
 pub fn is_md_block(name: usize) -> bool
     ensures { result ≡ blocks.is_md_block name }
 {
     (ARTICLE <= name) & (name <= HR)
 }
 
+#[tactic(auto, unfolding(spec::specs::Md::Elements::List::node_is_list_item_block))]
 pub fn node_is_list_item_block(name: usize) -> bool
     ensures { result ≡ def.node_is_list_item_block name }
 {
@@ -87,6 +93,7 @@ fn is_only_block_name(name: usize) -> bool
 }
 
 // Whether node i is such an element, a comment or a blank text.
+#[tactic(auto, using(crate::proofs::ListTests::only_text, crate::proofs::ListTests::only_comment, crate::proofs::ListTests::only_element), unfolding(spec::specs::Bytes::is_blank))]
 fn is_only_block(tree: &Tree, i: usize) -> bool
     requires { NodeAt tree.now.sheet.now tree.now.nodes.now i }
     ensures { (parent e : ℕ) (f : Forest) → Rep tree.now.sheet.now tree.now.nodes.now parent i e f → i < e → def.only_blocks f ≡ (result && def.only_blocks (rest_of f)) }
@@ -154,6 +161,7 @@ fn first_element(tree: &Tree, from: usize, to: usize) -> Option<usize>
 }
 
 // Whether the item at node `li`, the first of the list at node i, begins with 1.
+#[tactic(auto, using(crate::proofs::ListTests::parsed_or))]
 fn begins_with_one(tree: &Tree, i: usize, li: usize) -> bool
     requires { NodeAt tree.now.sheet.now tree.now.nodes.now i × NodeAt tree.now.sheet.now tree.now.nodes.now li }
     ensures { result ≡ eqb (def.number_or (def.number_of (attr (ascii "value") (attrs_behind tree.now.sheet.now (place_at tree.now.nodes.now li)))) (def.start_of (attrs_behind tree.now.sheet.now (place_at tree.now.nodes.now i)))) 1 }

@@ -35,6 +35,7 @@ use tree::element::{
 };
 use tree::nodes::Tree;
 
+#[tactic(auto, unfolding(spec::specs::Md::Elements::Blocks::is_link_block, spec::specs::Bytes::isin))]
 fn is_link_block(name: usize) -> bool
     ensures { result ≡ blocks.is_link_block name }
 {
@@ -42,6 +43,7 @@ fn is_link_block(name: usize) -> bool
 }
 
 // The elements that a writer of their own takes up.
+#[tactic(auto, unfolding(spec::specs::Md::Serializer::has_writer, spec::specs::Bytes::isin))]
 pub fn has_writer(name: usize, opts: FormatOpts) -> bool
     ensures { result ≡ def.has_writer opts name }
 {
@@ -54,6 +56,7 @@ pub fn has_writer(name: usize, opts: FormatOpts) -> bool
 }
 
 // Whether node i is a list that one line break parts from the item text before it.
+#[tactic(auto, using(crate::proofs::Openings::tight_not, crate::proofs::Openings::tight_is, nodes::proofs::Interrupts::element_name))]
 fn is_tight(tree: &Tree, i: usize, name: usize, opts: FormatOpts) -> bool
     requires { SomeElement tree.now.sheet.now tree.now.nodes.now i × (name ≡ name_at tree.now.sheet.now (place_at tree.now.nodes.now i)) }
     ensures { (name : Bytes) (attrs : List Attr) (kids : Forest) → ElementAt tree.now.sheet.now tree.now.nodes.now i name attrs kids → result ≡ def.is_tight opts (tag_of name) attrs kids }
@@ -72,6 +75,7 @@ fn add_breaks(text: &mut Text, tight: bool) -> Result<(), Full>
 }
 
 // The break before a block.
+#[tactic(auto, using(text::proofs::Texts::as_step, text::proofs::Texts::kept, crate::proofs::Openings::open_space, crate::proofs::Openings::open_inline, crate::proofs::Openings::open_none, crate::proofs::Openings::open_cell, crate::proofs::Openings::open_lines, nodes::proofs::Interrupts::element_name))]
 fn open_break(
     tree: &Tree,
     text: &mut Text,
@@ -121,6 +125,7 @@ pub fn opened(tree: &Tree, text: &mut Text, i: usize, opts: FormatOpts) -> Resul
     push_opening(text, name, opts)
 }
 
+#[tactic(auto, using(text::proofs::Texts::as_step), unfolding(spec::specs::Md::Serializer::close_block))]
 fn close_block(text: &mut Text, opts: FormatOpts) -> Result<(), Full>
     ensures { WritesTo text.old text.new result (def.close_block opts) }
 {
@@ -147,6 +152,7 @@ fn close_line(text: &mut Text, opts: FormatOpts) -> Result<(), Full>
     push_line_end(text, opts)
 }
 
+#[tactic(auto, using(text::proofs::Texts::as_step, text::proofs::Texts::kept), unfolding(crate::specs::CloseBy::close_by, spec::specs::Bytes::isin))]
 fn close_by(text: &mut Text, name: usize, opts: FormatOpts) -> Result<(), Full>
     ensures { WritesTo text.old text.new result (close_by opts name) }
 {
@@ -159,6 +165,7 @@ fn close_by(text: &mut Text, name: usize, opts: FormatOpts) -> Result<(), Full>
     Ok(())
 }
 
+#[tactic(auto, using(text::proofs::Texts::as_step, text::proofs::Texts::kept), unfolding(crate::specs::CloseBy::escape_heading))]
 fn escape_heading(text: &mut Text, name: usize) -> Result<(), Full>
     ensures { WritesTo text.old text.new result (escape_heading name) }
 {
@@ -176,6 +183,7 @@ fn close_md(text: &mut Text, name: usize, opts: FormatOpts) -> Result<(), Full>
 }
 
 // SerializeOp::Close.
+#[tactic(auto, using(text::proofs::Texts::as_step, text::proofs::Texts::kept), unfolding(spec::specs::Md::Serializer::closed))]
 pub fn closed(text: &mut Text, name: usize, opts: FormatOpts) -> Result<(), Full>
     ensures { WritesTo text.old text.new result (def.closed opts name) }
 {
@@ -191,12 +199,14 @@ pub fn closed(text: &mut Text, name: usize, opts: FormatOpts) -> Result<(), Full
     close_md(text, name, opts)
 }
 
+#[tactic(auto, unfolding(spec::specs::Md::Elements::Emphasis::md_emphasis, spec::specs::Bytes::isin))]
 fn is_strong(name: usize) -> bool
     ensures { emphasis.md_emphasis name ≡ cond result (ascii "**") (ascii "*") }
 {
     (name == STRONG) | (name == B)
 }
 
+#[tactic(auto, unfolding(spec::specs::Bytes::same))]
 fn scope_of(name: usize) -> EmphasisScope
     ensures { result ≡ ctx.scope_of (emphasis.md_emphasis name) }
 {
@@ -215,6 +225,7 @@ pub fn emphasis_opts(name: usize, opts: FormatOpts) -> FormatOpts
 }
 
 // The emphasis text is the n bytes behind the text.
+#[tactic(auto, using(text::proofs::Texts::as_step, text::proofs::Texts::kept, crate::proofs::Links::emphasis_none, crate::proofs::Links::emphasis_inside, crate::proofs::Links::emphasis_marked))]
 pub fn push_emphasis_by(
     text: &mut Text,
     n: usize,

@@ -2,11 +2,15 @@
 use Prim.Native.Nat.{ℕ, zero, suc, ◌+◌, ◌-◌, ◌≤◌, ◌<◌}
 use mathlib.Core.Path.{◌≡◌, refl, sym, ap, subst, ◌∙◌}
 use mathlib.Core.Bool.{Bool, true, false, cond, not, ◌&&◌}
-use mathlib.Core.List.{List, [], ◌∷◌, ◌++◌, append_assoc}
+use mathlib.Core.List.{List, [], ◌∷◌, ◌++◌, append_assoc, map-id}
 use native.Mathlib.Omega.{arith}
+use native.Mathlib.Numerals.{add-one}
 use lib.ListN.{length, take, drop, get_or, length-append}
 use lib.Seq.{length-take-le, take-take, take_at, get_or-take}
 use lib.Dec.{eqb}
+use Rattle.std.proofs.lemmas.List.FromFn.{filter_of_map_range_with_len_more}
+use Rattle.std.specs.List.{range_with_len}
+use Rattle.std.specs.Prelude.{filter}
 use Rattle.spec.specs.Bytes.{ascii, same, ends_with}
 use Rattle.spec.specs.Out.{replace}
 use Rattle.spec.specs.Md.Elements.Emphasis.{drop_end}
@@ -68,10 +72,33 @@ wide : (t : Bool) (b : ℕ) → length (escaped_byte t b) ≡ cond t 2 1
 wide true b = refl
 wide false b = refl
 
-pub pipes_more : (s : List ℕ) (i j : ℕ) (t : Bool) → i ≡ suc j → i ≤ length s → bare_pipe (take i s) ≡ t → length (pipes_escaped false (take i s)) ≡ length (pipes_escaped false (take j s)) + cond t 2 1
+pipes_more : (s : List ℕ) (i j : ℕ) (t : Bool) → i ≡ suc j → i ≤ length s → bare_pipe (take i s) ≡ t → length (pipes_escaped false (take i s)) ≡ length (pipes_escaped false (take j s)) + cond t 2 1
 pipes_more s i j t e h q =
     ap length (pipes_on s i j e h) ∙ length-append (pipes_escaped false (take j s)) (escaped_byte (bare_pipe (take i s)) (get_or s j 0))
     ∙ ap (λ (k : ℕ). length (pipes_escaped false (take j s)) + k) (wide (bare_pipe (take i s)) (get_or s j 0) ∙ ap (λ (z : Bool). cond z 2 1) q)
+
+range_more : (p : ℕ → Bool) (n : ℕ) → filter p (range_with_len 0 (suc n)) ≡ filter p (range_with_len 0 n) ++ cond (p n) (n ∷ []) []
+range_more p n =
+    ap (λ (k : ℕ). filter p (range_with_len 0 k)) (sym (add-one n)) ∙ ap (filter p) (sym (map-id (range_with_len 0 (n + 1)))) ∙ filter_of_map_range_with_len_more p (λ x. x) 0 n n (omega arith)
+    ∙ ap (λ (xs : List ℕ). filter p xs ++ cond (p n) (n ∷ []) []) (map-id (range_with_len 0 n))
+
+pub bare_count : (s : List ℕ) (n : ℕ) → n ≤ length s → n + length (filter (λ i. bare_pipe (take (i + 1) s)) (range_with_len 0 n)) ≡ length (pipes_escaped false (take n s))
+unfolding pipes_escaped
+bare_count s zero h = refl
+bare_count s (suc n) h =
+    let p : ℕ → Bool = λ i. bare_pipe (take (i + 1) s) in
+    omega (
+      arith,
+      bare_count s n (omega arith),
+      pipes_more s (suc n) n (p n) refl h (ap (λ (k : ℕ). bare_pipe (take k s)) (sym (add-one n))),
+      ap length (range_more p n),
+      length-append (filter p (range_with_len 0 n)) (cond (p n) (n ∷ []) []),
+      one_more (p n),
+    )
+  where
+    one_more : (t : Bool) → length (cond t (n ∷ []) []) + 1 ≡ cond t 2 1
+    one_more true = refl
+    one_more false = refl
 
 -- ---- the bytes from the i-th on are moved
 

@@ -16,6 +16,7 @@ use text::text::Text;
 use text::white_space::trim_end;
 
 // How many backslashes s ends with.
+#[tactic(auto, using(crate::proofs::Leaves::backslashes_is))]
 pub fn backslashes(s: &[u8]) -> usize
     ensures { result ≡ def.backslashes s.now }
 {

@@ -60,13 +60,9 @@ fn ends_with_bare_pipe(s: &[u8]) -> bool
 fn count_bare_pipes(s: &[u8]) -> usize
     ensures { length s.now + result ≡ length (def.pipes_escaped false s.now) }
 {
-    let mut count = 0;
-    for i in 0..s.len() {
-        if ends_with_bare_pipe(&s[..i + 1]) {
-            count += 1;
-        }
-    }
-    count
+    (0..s.len())
+        .filter(|i| ends_with_bare_pipe(&s[..*i + 1]))
+        .count()
 }
 
 // Puts b before `at`, behind a backslash if it is escaped; answers with where they begin.

@@ -5,7 +5,7 @@ use native.Mathlib.Nat.{add-mul, mul-le-mul_right}
 use mathlib.Core.Path.{◌≡◌, refl, ap, ◌∙◌, sym, subst}
 use mathlib.Core.Bool.{Bool, true, false, and-false}
 use mathlib.Core.List.{List, [], ◌∷◌}
-use lib.ListN.{length, take, get_or}
+use lib.ListN.{get_or}
 use lib.Dec.{eqb, ltb}
 use borrow.Author.Tests.{eq-eqb, ne_eqb, lt-ltb, le-ltb, ltb-true, ltb-false}
 use Rattle.spec.specs.Bytes.{Bytes, among, ends_with}

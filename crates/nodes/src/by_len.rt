@@ -13,8 +13,7 @@ ghost use Rattle.text.specs.Writes.{Writes};
 ghost use Rattle.nodes.specs.Stands.{Siblings, NodeAt, ElementAt, SomeElement};
 ghost use Rattle.nodes.specs.TextStep.{text_step};
 
-use crate::nodes as on_text;
-use crate::skip_md;
+use crate::{nodes as on_text, skip_md};
 use spec::ctx::FormatOpts;
 use text::buffer::Wrote;
 use text::text::Text;

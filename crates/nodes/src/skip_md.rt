@@ -89,13 +89,7 @@ fn below_spot(tree: &Tree, skip: Option<&[u8]>, open: usize, at: usize) -> Spot
 }
 
 // The next place. Behind the end of node `top` no element is open, which is node 0.
-fn next_spot(
-    tree: &Tree,
-    skip: Option<&[u8]>,
-    top: usize,
-    open: usize,
-    at: usize,
-) -> Spot
+fn next_spot(tree: &Tree, skip: Option<&[u8]>, top: usize, open: usize, at: usize) -> Spot
     requires { NodeAt tree.now.sheet.now tree.now.nodes.now «open» × (at < end_at tree.now.nodes.now «open» → NodeAt tree.now.sheet.now tree.now.nodes.now at) }
     ensures { result ≡ next_spot (tags_to_skip (skip_of skip.entry)) tree.now.sheet.now tree.now.nodes.now top «open» at }
 {

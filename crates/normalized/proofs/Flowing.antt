@@ -5,7 +5,8 @@ use mathlib.Core.Bool.{Bool, true, false, cond, not, ◌&&◌, ◌||◌, false�
 use mathlib.Core.Logic.{⊎_elim}
 use mathlib.Core.List.{List, [], ◌∷◌, ◌++◌, append_assoc}
 use native.Mathlib.Omega.{arith}
-use lib.ListN.{length, take, drop, get_or, drop_of_length-le}
+use lib.ListN.{length, take, drop, get_or, drop_of_length-le, length-take, length-drop}
+use lib.Seq.{get_or-drop, get_or-take}
 use lib.Seq.{drop-cons, take-suc, take_all, length-take-le, slice, length-slice}
 use lib.Dec.{eqb, leb}
 use borrow.Author.Tests.{eqb-true, eqb-false, ne_eqb, not-true}
@@ -19,7 +20,8 @@ use Rattle.text.specs.Marks.{marks}
 use Rattle.normalized.specs.Verbatim.{Whole}
 use Rattle.spec.proofs.Order.{le_or_lt}
 use Rattle.text.proofs.Reading.{same_self, not_long}
-use Rattle.text.proofs.Sourcing.{part_byte}
+use Rattle.text.proofs.Sourcing.{part_byte, part_is}
+use Rattle.normalized.proofs.Wording.{slice_front}
 use Rattle.text.proofs.Trimming.{trim_less, trim_whole, trim_long}
 use Rattle.text.proofs.Ordinary.{ordinary_parts, not_escaped, inner_chunk, bare_chunk}
 
@@ -84,9 +86,6 @@ less_or_not i k f g = ⊎_elim g f (le_or_lt k i)
 pub flows_short : {signs : Bool} {s : Bytes} {n : ℕ} → Flows signs s n → 0 < length s → n < length s
 flows_short {signs} {s} {n} f h = less_or_not n (length s) (λ k. k) (λ k. absurd (omega (arith, (f.each (length s - 1) (omega arith)).followed)))
 
-pub flows_none : (signs : Bool) (s : Bytes) → Flows signs s 0
-flows_none signs s = record { within = omega arith; each = λ i h. absurd (omega arith) }
-
 -- further bytes
 pub flows_on : {signs : Bool} {s : Bytes} {m n : ℕ} → Flows signs s m → n ≤ length s → ((i : ℕ) → m ≤ i → i < n → Plain signs s i) → Flows signs s n
 flows_on {signs} {s} {m} {n} f h more = record { within = h; each = λ i k. less_or_not i m (f.each i) (λ l. more i l k) }
@@ -94,28 +93,56 @@ flows_on {signs} {s} {m} {n} f h more = record { within = h; each = λ i k. less
 pub flows_next : {signs : Bool} {s : Bytes} {i : ℕ} → Flows signs s i → Plain signs s i → Flows signs s (i + 1)
 flows_next {signs} {s} f p = flows_on f (omega (arith, p.followed)) (λ j h k. subst (Plain signs s) (omega arith) p)
 
+-- `&s[1..]` holds the byte behind each
+pub next_byte : (s : Bytes) (i k : ℕ) → i < k → get_or (take k (drop 1 s)) i 0 ≡ get_or s (i + 1) 0
+next_byte s i k h = get_or-take k (drop 1 s) i 0 h ∙ get_or-drop 1 s i 0 ∙ ap (λ (j : ℕ). get_or s j 0) (omega arith)
+
+-- one byte more of a block, `one` said with that byte
+pub block_next : {signs : Bool} {s : Bytes} {all one : Bool} (i k : ℕ) → i + 1 < length s → i < k → (all ≡ true → (j : ℕ) → j < i → Plain signs s j)
+    → (one ≡ true → plain signs (get_or s i 0) (get_or (take k (drop 1 s)) i 0) ≡ true) → all && one ≡ true → (j : ℕ) → j < i + 1 → Plain signs s j
+block_next {signs} {s} {all} {one} i k h l before here e j m =
+    let q = (and-eq-true_iff all one).0 e in
+    less_or_not j i (before q.0 j)
+    (λ b. subst (Plain signs s) (omega arith) (record { followed = h; adds_itself = subst (λ (x : ℕ). plain signs (get_or s i 0) x ≡ true) (next_byte s i k l) (here q.1) }))
+
 -- one byte more of a block of which the first n bytes count: `all` says that those before it are plain, `past` that it is none of
 -- them, and `one` that it is plain
-pub front_next : {signs : Bool} {s : Bytes} {all past one : Bool} (at i n : ℕ) → at + i + 1 < length s → (all ≡ true → (j : ℕ) → at ≤ j → j < at + i → j < at + n → Plain signs s j)
-    → (past ≡ true → n ≤ i) → (one ≡ true → plain signs (get_or s (at + i) 0) (get_or s (at + i + 1) 0) ≡ true) → all && (past || one) ≡ true
-    → (j : ℕ) → at ≤ j → j < at + (i + 1) → j < at + n → Plain signs s j
-front_next {signs} {s} {all} {past} {one} at i n h before gone here e j l m k =
+pub front_next : {signs : Bool} {s : Bytes} {all past one : Bool} (i n w : ℕ) → i + 1 < length s → i < w → (all ≡ true → (j : ℕ) → j < i → j < n → Plain signs s j)
+    → (past ≡ true → n ≤ i) → (one ≡ true → plain signs (get_or s i 0) (get_or (take w (drop 1 s)) i 0) ≡ true) → all && (past || one) ≡ true
+    → (j : ℕ) → j < i + 1 → j < n → Plain signs s j
+front_next {signs} {s} {all} {past} {one} i n w h l before gone here e j m k =
     let q = (and-eq-true_iff all (past || one)).0 e in
-    less_or_not j (at + i) (λ b. before q.0 j l b k) (λ b. subst (Plain signs s) (omega arith) (record { followed = h; adds_itself = here (on past one gone (omega arith) q.1) }))
+    less_or_not j i (λ b. before q.0 j b k) (λ b. subst (Plain signs s) (omega arith) (record { followed = h; adds_itself = subst (λ (x : ℕ). plain signs (get_or s i 0) x ≡ true) (next_byte s i w l) (here (on past one gone (omega arith) q.1)) }))
   where
     on : (p o : Bool) → (p ≡ true → n ≤ i) → i < n → p || o ≡ true → o ≡ true
     on true o g less t = absurd (omega (arith, g refl))
     on false o g less t = t
 
--- a plain byte of a part
-pub plain_part : {signs : Bool} (s : Bytes) (from to i : ℕ) → to ≤ length s → from + i + 1 < to → Plain signs s (from + i) → Plain signs (slice from to s) i
-plain_part {signs} s from to i h k p =
-    let z : from + (i + 1) ≡ from + i + 1 = omega arith in
-    record {
-      followed = omega (arith, length-slice from to s h);
-      adds_itself =
-          ap₂ (λ (x y : ℕ). plain signs x y) (part_byte s from to i (omega arith)) (part_byte s from to (i + 1) (omega arith) ∙ ap (λ (j : ℕ). get_or s j 0) z) ∙ p.adds_itself;
-    }
+module _ (signs : Bool) (s : Bytes) (from to i : ℕ) (h : to ≤ length s) where
+  bytes_here : from + i + 1 < to → plain signs (get_or (slice from to s) i 0) (get_or (slice from to s) (i + 1) 0) ≡ plain signs (get_or s (from + i) 0) (get_or s (from + i + 1) 0)
+  bytes_here k =
+      let z : from + (i + 1) ≡ from + i + 1 = omega arith in
+      ap₂ (λ (x y : ℕ). plain signs x y) (part_byte s from to i (omega arith)) (part_byte s from to (i + 1) (omega arith) ∙ ap (λ (j : ℕ). get_or s j 0) z)
+
+  -- a plain byte of a part
+  pub plain_part : from + i + 1 < to → Plain signs s (from + i) → Plain signs (slice from to s) i
+  plain_part k p = record { followed = omega (arith, length-slice from to s h); adds_itself = bytes_here k ∙ p.adds_itself }
+
+  pub plain_here : Plain signs (slice from to s) i → Plain signs s (from + i)
+  plain_here p =
+      let k : from + i + 1 < to = omega (arith, length-slice from to s h, p.followed) in
+      record { followed = omega arith; adds_itself = sym (bytes_here k) ∙ p.adds_itself }
+
+-- the plain bytes of a block
+pub block_plain : {signs : Bool} (s b : Bytes) (at : ℕ) → at + 17 ≤ length s → b ≡ slice at (at + 17) s → ((i : ℕ) → i < 16 → Plain signs b i) → (j : ℕ) → at ≤ j → j < at + 16 → Plain signs s j
+block_plain {signs} s b at h e f j l m =
+    subst (Plain signs s) (omega arith) (plain_here signs s at (at + 17) (j - at) h (subst (λ (x : Bytes). Plain signs x (j - at)) e (f (j - at) (omega arith))))
+
+-- `&s[at..]` begins with it
+pub block_first : (s b : Bytes) (at : ℕ) → 17 ≤ length (take (length s - at) (drop at s)) → b ≡ take 17 (take (length s - at) (drop at s)) → (at + 17 ≤ length s) × (b ≡ slice at (at + 17) s)
+block_first s b at h e =
+    let k : at + 17 ≤ length s = omega (arith, length-take (length s - at) (drop at s), length-drop at s) in
+    (k, e ∙ ap (take 17) (part_is at (length s) s) ∙ slice_front s at (length s) 17 k)
 
 pub flow_split : (escape : Bool) (part rest : Bytes) → flow escape (part ++ rest) ≡ flow_before escape part rest ++ flow escape rest
 unfolding flow flow_before

@@ -1,7 +1,10 @@
-// Text that is tested and copied 16 bytes at a time. The loops over 16 bytes count by hand: whether `for` gives code
-// as fast is not measured.
-ghost use Rattle.std.specs.Prelude.{◌≡◌, true, false, not, List, ℕ, ◌+◌, ◌≤◌, ◌<◌, length, take, get_or, eqb};
-ghost use Rattle.std.proofs.Math.Seq.{slice, paste};
+// Text that is tested and copied 16 bytes at a time. A loop over a block has no early exit and reads the bytes behind from a slice of
+// their own, so that LLVM makes it a few instructions over 16 bytes: with `s[i + 1]` it carries the byte on from turn to turn, and
+// the call takes 2 (escapes) to 5 (long texts) in a hundred more instructions. With `for` in `copy_blocks`, which LLVM unrolls though
+// most parts are one block, and `i as u8` for the count in `is_plain_front`, which it compares in lanes of 64 bits, it takes together
+// 4 in a hundred more on a sheet of short texts.
+ghost use Rattle.std.specs.Prelude.{◌≡◌, true, false, not, List, ℕ, ◌++◌, ◌+◌, ◌≤◌, ◌<◌, length, take, get_or, eqb};
+ghost use Rattle.std.proofs.Math.Seq.{slice};
 ghost use Rattle.spec.specs.Bytes.{ascii, starts_with, isin};
 ghost use Rattle.spec.specs.Out.{push};
 ghost use Rattle.spec.specs.Md.Constants.{ALWAYS_ESCAPED};
@@ -9,7 +12,7 @@ ghost use Rattle.spec.specs.Md.TextUtils as def;
 ghost use Rattle.spec.specs.declared.ctx.FormatOpts as Opts;
 ghost use Rattle.text.specs.Flow.{plain, Plain, Flows};
 ghost use Rattle.text.specs.Texts.{WritesTo};
-ghost use Rattle.normalized.specs.Blocks.{signed, BlockAt, Appends};
+ghost use Rattle.normalized.specs.Blocks.{signed, BlockOf, Appends};
 ghost use Rattle.normalized.specs.Verbatim.{Whole};
 
 use crate::line_start::begins_bare;
@@ -28,31 +31,27 @@ fn is_plain(escape: bool, b: u8, next: u8) -> bool
     !((b < 14) | (((b == b' ') & (next <= b' ')) | (escape & sign)))
 }
 
-// The same for the 16 bytes at `at`, without an early exit, so that they can be tested at once.
-fn is_plain_block(s: &[u8], at: usize, escape: bool) -> bool
-    requires { at + 17 ≤ length s.now }
-    ensures { result ≡ true → (i : ℕ) → at ≤ i → i < at + 16 → Plain escape s.now i }
+// The same for 16 bytes, behind which one more stands, without an early exit, so that they can be tested at once.
+fn is_plain_block(s: &[u8; 17], escape: bool) -> bool
+    ensures { result ≡ true → (i : ℕ) → i < 16 → Plain escape s.now i }
 {
+    let next = &s[1..];
     let mut all = true;
-    let mut i = 0;
-    while i < 16 {
-        all = all & is_plain(escape, s[at + i], s[at + i + 1]);
-        i += 1;
+    for i in 0..16 {
+        all = all & is_plain(escape, s[i], next[i]);
     }
     all
 }
 
-// The same for the first n of the 16 bytes. The count is a byte, so that it is compared with 16 places at once.
-fn is_plain_front(s: &[u8], at: usize, n: u8, escape: bool) -> bool
-    requires { at + 17 ≤ length s.now }
-    ensures { result ≡ true → (i : ℕ) → at ≤ i → i < at + 16 → i < at + n → Plain escape s.now i }
+// The same for the first n of the 16 bytes. The count is a byte of its own, so that it is compared with 16 places at once.
+fn is_plain_front(s: &[u8; 17], n: u8, escape: bool) -> bool
+    ensures { result ≡ true → (i : ℕ) → i < 16 → i < n → Plain escape s.now i }
 {
+    let next = &s[1..];
     let mut all = true;
-    let mut i = 0;
     let mut k = 0u8;
-    while i < 16 {
-        all = all & ((n <= k) | is_plain(escape, s[at + i], s[at + i + 1]));
-        i += 1;
+    for i in 0..16 {
+        all = all & ((n <= k) | is_plain(escape, s[i], next[i]));
         k += 1;
     }
     all
@@ -63,9 +62,9 @@ pub fn plain_blocks(s: &[u8], escape: bool) -> usize
     ensures { Flows escape s.now result }
 {
     let mut at = 0;
-    while 16 < s.len() - at {
-        if !is_plain_block(s, at, escape) {
-            return at;
+    while let Some(block) = s[at..].first_chunk::<17>() {
+        if !is_plain_block(block, escape) {
+            break;
         }
         at += 16;
     }
@@ -78,11 +77,11 @@ fn is_plain_text(s: &[u8], escape: bool) -> bool
     ensures { result ≡ true → (n : ℕ) → length s.now ≡ n + 1 → Flows escape s.now n }
 {
     let last = s.len() - 1;
-    if 16 <= last {
+    if let Some(block) = s.last_chunk::<17>() {
         if 16 <= last - plain_blocks(s, escape) {
             return false;
         }
-        return is_plain_block(s, last - 16, escape);
+        return is_plain_block(block, escape);
     }
     for i in 0..last {
         if !is_plain(escape, s[i], s[i + 1]) {
@@ -98,10 +97,10 @@ fn is_plain_part(src: &[u8], from: usize, to: usize, escape: bool) -> bool
     ensures { result ≡ true → (n : ℕ) → to ≡ from + n + 1 → Flows escape (slice from to src.now) n }
 {
     let n = to - from;
-    if (16 < n) | (src.len() - from < 17) {
-        return is_plain_text(&src[from..to], escape);
+    match src[from..].first_chunk::<17>() {
+        Some(block) if n <= 16 => is_plain_front(block, (n - 1) as u8, escape),
+        _ => is_plain_text(&src[from..to], escape),
     }
-    is_plain_front(src, from, (n - 1) as u8, escape)
 }
 
 // Whether b is plain at the end of a part, as if a word stood behind it. With a constant flag in each call the compiler drops the
@@ -145,7 +144,7 @@ fn may_begin(text: &[u8], s: &[u8], escape: bool, list_item: bool) -> bool
 }
 
 // Whether a part is known to be appended as it is behind the text. Long parts are not looked at where signs are escaped: most
-// hold one.
+// hold one. Takes the slice around the part, since a short part is tested with the bytes behind it.
 pub fn is_verbatim(
     text: &[u8],
     src: &[u8],
@@ -173,28 +172,25 @@ fn bytes_at(s: &[u8], at: usize) -> [u8; 16]
     ensures { result ≡ slice at (at + 16) s.now }
 {
     let mut b = [0u8; 16];
-    let mut i = 0;
-    while i < 16 {
-        b[i] = s[at + i];
-        i += 1;
-    }
+    b.copy_from_slice(&s[at..at + 16]);
     b
 }
 
-// Stores 16 bytes behind a text of len bytes.
-fn put_bytes(text: &mut [u8], len: usize, b: [u8; 16])
-    requires { len + 16 ≤ length text.old }
-    ensures { text.new ≡ paste text.old len b 16 }
+// Copies n bytes in blocks of 16, the last of which may reach behind them on both sides. A block is read whole before it is
+// stored: without a copy of its own, LLVM tests whether the slices overlap.
+fn copy_blocks(room: &mut [u8], at: usize, src: &[u8], from: usize, n: usize)
+    requires { (at + n + 15 ≤ length room.old) × (from + n + 15 ≤ length src.now) }
+    ensures { (length room.new ≡ length room.old) × (take (at + n) room.new ≡ take at room.old ++ slice from (from + n) src.now) }
 {
     let mut i = 0;
-    while i < 16 {
-        text[len + i] = b[i];
-        i += 1;
+    while i < n {
+        room[at + i..at + i + 16].copy_from_slice(&bytes_at(src, from + i));
+        i += 16;
     }
 }
 
 // Appends a part as it is, in blocks of 16 bytes, the last of which may reach behind it: bytes behind the text are left to the
-// program. A block is read whole before it is stored, so that both are one step.
+// program.
 pub fn push_part(text: &mut Text, src: &[u8], from: usize, to: usize) -> Result<(), Full>
     requires { (from ≤ to) × (to ≤ length src.now) }
     ensures { WritesTo text.old text.new result (push (slice from to src.now)) }
@@ -207,12 +203,7 @@ pub fn push_part(text: &mut Text, src: &[u8], from: usize, to: usize) -> Result<
     if (left - n < 16) | (src.len() - to < 16) {
         return text.push_all(&src[from..to]);
     }
-    let mut i = 0;
-    while i < n {
-        let b = bytes_at(src, from + i);
-        put_bytes(text.room, text.len + i, b);
-        i += 16;
-    }
+    copy_blocks(text.room, text.len, src, from, n);
     text.len += n;
     Ok(())
 }
@@ -240,44 +231,38 @@ pub fn is_sign(b: u8, next: u8) -> bool
     is_always_escaped(b) | ((b == b'!') & (next == b'['))
 }
 
-// What 16 bytes add: for each 1 if a backslash stands before it, else 0, and whether each adds itself.
+// What 16 bytes add: for each whether a backslash stands before it, and whether each adds itself.
 #[derive(Clone, Copy)]
 pub struct Block {
-    pub signs: [u8; 16],
+    pub signs: [bool; 16],
     pub even: bool,
 }
 
-// The same for the 16 bytes at `at`, without a branch, so that it is found for all at once.
-pub fn block_at(s: &[u8], at: usize, escape: bool) -> Block
-    requires { at + 17 ≤ length s.now }
-    ensures { BlockAt escape s.now at result }
+// The same for 16 bytes, behind which one more stands, without a branch, so that it is found for all at once.
+pub fn block_of(s: &[u8; 17], escape: bool) -> Block
+    ensures { BlockOf escape s.now result }
 {
-    let mut signs = [0u8; 16];
+    let next = &s[1..];
+    let mut signs = [false; 16];
     let mut even = true;
-    let mut i = 0;
-    while i < 16 {
-        let b = s[at + i];
-        let next = s[at + i + 1];
-        signs[i] = (escape & is_sign(b, next)) as u8;
-        even = even & is_plain(false, b, next);
-        i += 1;
+    for i in 0..16 {
+        signs[i] = escape & is_sign(s[i], next[i]);
+        even = even & is_plain(false, s[i], next[i]);
     }
     Block { signs, even }
 }
 
-// Appends 16 bytes, behind a backslash where one is escaped: where none is, the byte takes the backslash's place.
-pub fn push_block(src: &[u8], text: &mut [u8], at: usize, len: usize, signs: [u8; 16]) -> usize
-    requires { (at + 16 ≤ length src.now) × (len + 32 ≤ length text.old) × ((i : ℕ) → i < 16 → get_or signs i 0 ≤ 1) }
-    ensures { Appends text.old text.new len result 32 (signed signs src.now at 16) }
+// Appends 16 bytes to the first `len`, behind a backslash where one is escaped: where none is, the byte takes the backslash's place.
+pub fn push_block(s: &[u8; 17], room: &mut [u8], len: usize, signs: [bool; 16]) -> usize
+    requires { len + 32 ≤ length room.old }
+    ensures { Appends room.old room.new len result 32 (signed signs s.now 16) }
 {
     let mut n = len;
-    let mut i = 0;
-    while i < 16 {
-        text[n] = b'\\';
+    for i in 0..16 {
+        room[n] = b'\\';
         n += signs[i] as usize;
-        text[n] = src[at + i];
+        room[n] = s[i];
         n += 1;
-        i += 1;
     }
     n
 }

@@ -12,7 +12,7 @@ ghost use Rattle.text.specs.Texts.{WritesTo};
 ghost use Rattle.normalized.specs.Layout.{Behind, front};
 
 use crate::fast_copy::{
-    Block, block_at, is_sign, is_verbatim, plain_blocks, push_block, push_part,
+    Block, block_of, is_sign, is_verbatim, plain_blocks, push_block, push_part,
 };
 use crate::layout::{Layout, lay_out};
 use spec::ctx::FormatOpts;
@@ -65,10 +65,13 @@ fn push_stretch(text: &mut Text, s: &[u8], n: usize, escape: bool) -> Result<(),
     requires { n ≤ length s.now }
     ensures { WritesTo text.old text.new result (push (flow_before escape (take n s.now) (drop n s.now))) }
 {
-    if (n == 16) & ((16 < s.len()) & (32 <= text.room.len() - text.len)) {
-        let Block { signs, even } = block_at(s, 0, escape);
+    if let Some(block) = s.first_chunk::<17>()
+        && n == 16
+        && 32 <= text.room.len() - text.len
+    {
+        let Block { signs, even } = block_of(block, escape);
         if even {
-            text.len = push_block(s, text.room, 0, text.len, signs);
+            text.len = push_block(block, text.room, text.len, signs);
             return Ok(());
         }
     }
@@ -119,8 +122,8 @@ pub fn push_words(text: &mut Text, s: &[u8], opts: FormatOpts) -> Result<(), Ful
     text.push_byte_if(b' ', l.last)
 }
 
-// The same for a part of a slice, whose bytes behind the part may be read too, with the options that matter one by one: a record
-// would be copied through memory.
+// The same for a part of a slice: a short part is tested and copied with the bytes behind it, as one block. The options that matter
+// are passed one by one: a record would be copied through memory.
 pub fn push_text_part(
     text: &mut Text,
     src: &[u8],

@@ -10,7 +10,8 @@ use spec::ctx::FormatOpts;
 use text::buffer::{Full, Wrote};
 use text::text::Text;
 
-// Appends s to the text in this room.
+// Appends s to the first `len` bytes of `room`. A function of its own: of a part of a slice that a `Text` borrows, the check knows
+// only the length afterwards.
 fn push_words_in(room: &mut [u8], len: usize, s: &[u8], opts: FormatOpts) -> Wrote
     requires { len ≤ length room.old }
     ensures { Writes (length room.old) room.new result (def.push_normalized_text s.now opts (take len room.old)) }
@@ -20,8 +21,8 @@ fn push_words_in(room: &mut [u8], len: usize, s: &[u8], opts: FormatOpts) -> Wro
     Ok(text.len)
 }
 
-// Appends what stands from `base` on to the first `len` bytes. The room is lent in two parts, so that it is a slice of its own: of
-// the end of a field that is parted no more is known than how long it is.
+// Appends what stands from `base` on to the first `len` bytes. A function of its own: of a field that is split, the check knows only
+// the length afterwards.
 fn push_own(room: &mut [u8], base: usize, len: usize, opts: FormatOpts) -> Wrote
     requires { (len ≤ base) × (base ≤ length room.old) }
     ensures { WritesIn base room.old room.new result (def.push_normalized_text (drop base room.old) opts (take len room.old)) }

@@ -25,7 +25,7 @@ use Rattle.text.proofs.Writing.{done, full, reaches}
 -- ---- f is written to the text in the room before `base`; ys is that room then, and c the whole text
 
 module _ (a : Text) (base : ℕ) (h : a.len ≤ base) (g : base ≤ length a.room.now) (f : Step) {ys : List ℕ} {r : Wrote} (l : length ys ≡ length (take base a.room.now))
-  (w : Writes (length (take base a.room.now)) ys r (f (take a.len (take base a.room.now)))) where
+    (w : Writes (length (take base a.room.now)) ys r (f (take a.len (take base a.room.now)))) where
   front_writes : WritesIn base a.room.now (ys ++ drop base a.room.now) r (f (bytes a))
   front_writes = lent_front base a.len a.room.now ys f h g l w
 
@@ -86,7 +86,7 @@ module _ (a : Text) (from : ℕ) (h : a.len ≤ from) (g : from ≤ length a.roo
 -- ---- the n bytes at `from` are lifted
 
 module _ {a b : Text} {from n base : ℕ} (h : a.len ≤ from) (k : from + n ≤ length a.room.now) (q : base ≡ length a.room.now - n) (l : Lifted a.room.now b.room.now from n base) (m : b.len ≡ a.len)
-  (o : b.room.ghost_name ≡ a.room.ghost_name) where
+    (o : b.room.ghost_name ≡ a.room.ghost_name) where
   pub lifted_to : (f : List ℕ → Step) {e : Text} {r : Answer} → WritesTo b e r (f (drop base b.room.now)) → WritesTo a e r (f (take n (drop from a.room.now)))
   lifted_to f {e} {r} w =
       record {

@@ -106,24 +106,12 @@ module _ {room : ℕ} {text mid : List ℕ} {n : ℕ} {rest : Step} {whole : Out
   pub owed_nothing : rest (take n mid) ≡ push [] (take n mid) → WritesIn room text mid (Ok n) whole
   owed_nothing e = record { long = p.still.long; behind = p.still.behind; writes = owes_nothing p.owes (at_front rest ∙ e ∙ sym (at_front (push []))) }
 
--- the rest in other words
-pub owed_as : {room : ℕ} {text mid : List ℕ} {n : ℕ} {x y : List ℕ} {whole : Out} → x ≡ y → OwesIn room text mid n (push x) whole → OwesIn room text mid n (push y) whole
-owed_as {room} {text} {mid} {n} {x} {y} {whole} e p = subst (λ (z : List ℕ). OwesIn room text mid n (push z) whole) e p
-
 -- where `?` returns early
 pub stops_in : {room : ℕ} {before after : List ℕ} {s : Wrote} {o : Out} → IsErr s → WritesIn room before after (Err (record {})) o → WritesIn room before after s o
 stops_in h w = record { long = w.long; writes = stops h w.writes; behind = w.behind }
 
 pub alike_in : {room : ℕ} {before after : List ℕ} {r : Wrote} {o p : Out} → o ≡ p → WritesIn room before after r p → WritesIn room before after r o
 alike_in {room} {before} {after} {r} {o} {p} e w = subst (λ (x : Out). WritesIn room before after r x) (sym e) w
-
--- two appends
-module _ {room len : ℕ} {d mid : List ℕ} {r : Wrote} (h : len ≤ room) (k : room ≤ length d) (x y : List ℕ) (w : WritesIn room d mid r (push x (take len d))) where
-  pub pair_go : {n : ℕ} → r ≡ Ok n → OwesIn room d mid n (push y) (push (x ++ y) (take len d))
-  pair_go q = owed_step (owed_all room d len (push (x ++ y)) h k refl) (push x) (push y) (push_both x y (take len d)) q w
-
-  pub pair_stop : {f g : Full} → r ≡ Err f → WritesIn room d mid (Err g) (push (x ++ y) (take len d))
-  pair_stop q = owed_stop (owed_all room d len (push (x ++ y)) h k refl) (push x) (push y) (push_both x y (take len d)) q w
 
 -- the front of the memory is lent, and comes back as ys
 pub lent_front : (room len : ℕ) (d ys : List ℕ) {r : Wrote} (f : Step) → len ≤ room → room ≤ length d → length ys ≡ length (take room d) → Writes (length (take room d)) ys r (f (take len (take room d)))

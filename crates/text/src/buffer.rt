@@ -133,4 +133,3 @@ pub fn lift(text: &mut [u8], from: usize, n: usize, to: usize)
 {
     text.copy_within(from..from + n, to);
 }
-

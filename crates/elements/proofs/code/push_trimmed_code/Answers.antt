@@ -8,12 +8,6 @@ use Rattle.nodes.proofs.Interrupts.{element_kids}
 use Rattle.elements.proofs.Edges.{code_is, code_size, code_reach}
 use Rattle.elements.proofs.code.push_trimmed_code.Goals as goal
 
-pub ends_line-ended-requires : goal.ends_line-ended-requires
-ends_line-ended-requires c = (c.args.i, c.requires.0.2, element_kids c.requires.0.3 c.node_end-to.ensures)
-
-pub begins_line-begun-requires : goal.begins_line-begun-requires
-begins_line-begun-requires c = (c.args.i, c.requires.0.2, element_kids c.requires.0.3 c.node_end-to.ensures)
-
 pub push_code_text-requires : goal.push_code_text-requires
 push_code_text-requires c =
     let t = c.args.text.now in

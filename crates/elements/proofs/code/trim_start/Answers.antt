@@ -1,11 +1,8 @@
-use Rattle.std.proofs.Common.{refl, sym, ap, ◌∙◌, arith, length, length-drop}
+use Rattle.std.proofs.Common.{sym, ap, ◌∙◌, arith, length, length-drop}
 use Rattle.spec.specs.Bytes.{trim_from}
 use Rattle.text.proofs.Reading.{rest_part}
 use Rattle.elements.proofs.WhiteStarts.{width_fits, start_here, start_goes}
 use Rattle.elements.proofs.code.trim_start.Goals as goal
-
-pub loop-rest-init : goal.loop-rest-init
-loop-rest-init c = refl
 
 pub returns-then-n-eq0 : goal.returns-then-n-eq0
 returns-then-n-eq0 c = let r = c.loop-rest.rest.now in sym (c.loop-rest.invariant ∙ start_here r (sym c.white_width-n.ensures ∙ c.if-n-eq0.true))

@@ -8,12 +8,6 @@ use Rattle.nodes.proofs.Interrupts.{element_kids}
 use Rattle.elements.proofs.Multilines.{code_block, code_line}
 use Rattle.elements.proofs.code.write_code.Goals as goal
 
-pub is_multiline-requires : goal.is_multiline-requires
-is_multiline-requires c = let x = c.requires.0 in (c.args.i, x.2, element_kids x.3 c.node_end-to.ensures)
-
-pub inline_code-requires : goal.inline_code-requires
-inline_code-requires c = c.requires.0
-
 pub returns-then-is_multiline : goal.returns-then-is_multiline
 returns-then-is_multiline c =
     λ levels name attrs kids anc x a. as_step

@@ -1,10 +1,19 @@
+use Rattle.std.proofs.Common.{sym, subst}
+use Rattle.std.specs.Prelude.{Option}
+use Rattle.std.specs.Borrow.{Bor}
+use Rattle.spec.specs.Bytes.{Bytes, ascii}
+use Rattle.spec.specs.Tree.{attr}
+use Rattle.spec.specs.Md.Elements.Code.{class_language}
+use Rattle.tree.specs.Represents.{attrs_behind}
+use Rattle.elements.specs.Languages.{Language}
 use Rattle.elements.proofs.Languages.{class_value, class_missing}
 use Rattle.elements.proofs.code_language.class_of.Goals as goal
 
-pub returns-in-Some : goal.returns-in-Some
-returns-in-Some c =
-    class_value c.in-Some.ensures c.class_language.ensures
+pub returns : goal.returns
+returns c = class_value c.in_ok-attribute.ensures c.class_language.ensures
 
-pub returns-in-None : goal.returns-in-None
-returns-in-None c =
-    class_missing c.in-None.ensures
+pub returns-in_err-attribute : goal.returns-in_err-attribute
+returns-in_err-attribute c =
+    let a = c.args in
+    subst (λ (r : Option (Bor Bytes)). Language a.sheet.now r (class_language (attr (ascii "class") (attrs_behind a.sheet.now a.place)))) (sym c.from_residual.ensures)
+    (class_missing c.in_err-attribute.ensures)

@@ -9,15 +9,6 @@ nearest_language-requires c =
     let p = c.requires in
     (p.0.1 ∷ p.1.0, around_it p.1.0 p.0.3 p.1.1)
 
-pub node_end-to-requires : goal.node_end-to-requires
-node_end-to-requires c =
-    c.requires.0.3.inside
-
-pub find_code_language_css_class-requires : goal.find_code_language_css_class-requires
-find_code_language_css_class-requires c =
-    let p = c.requires in
-    (c.args.i, p.0.2, element_kids p.0.3 c.node_end-to.ensures)
-
 pub returns-in-Some : goal.returns-in-Some
 unfolding find_code_language
 returns-in-Some c =
@@ -27,4 +18,4 @@ pub returns-in-None : goal.returns-in-None
 unfolding find_code_language
 returns-in-None c =
     λ name attrs kids anc x y. language_second (c.in-None.ensures (attrs ∷ anc) (around_it anc x y))
-    (c.find_code_language_css_class.ensures c.args.i kids (element_kids x c.node_end-to.ensures))
+    (c.find_code_language_css_class.ensures c.args.i kids (element_kids x c.node_end.ensures))

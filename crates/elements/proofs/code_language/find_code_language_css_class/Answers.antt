@@ -1,56 +1,45 @@
-use Prim.Native.Nat.{ℕ}
-use mathlib.Core.Path.{refl, sym, ap, subst, ◌∙◌}
+use mathlib.Core.Path.{refl, sym, ap, ◌∙◌, subst}
 use mathlib.Core.Option.{none}
+use native.Mathlib.Omega.{arith}
+use Prim.Native.Nat.{ℕ}
 use Rattle.spec.specs.Bytes.{ascii}
 use Rattle.spec.specs.Tree.{attr}
 use Rattle.spec.specs.Md.Elements.Code.{class_language, find_code_language_css_class}
 use Rattle.tree.specs.Represents.{attrs_behind}
-use Rattle.nodes.proofs.Siblings.{Left, left_all, left_first, left_node, left_on, left_at, left_none}
+use Rattle.nodes.proofs.Siblings.{Walks, left_on, left_at, left_node, left_none, walks_all, turn_before, turn_left, turn_on, turn_none}
 use Rattle.elements.proofs.Languages.{language_of, css_here, css_on}
-use native.Mathlib.Omega.{arith}
 use Rattle.elements.proofs.code_language.find_code_language_css_class.Goals as goal
 
 pub loop-i-init : goal.loop-i-init
 loop-i-init c =
-    let a = c.args in
-    left_all find_code_language_css_class a.tree.now.sheet.now a.tree.now.nodes.now a.from a.to c.requires
+    let a = c.args in let t = a.tree.now in
+    subst (Walks find_code_language_css_class t.sheet.now t.nodes.now a.from a.to) (sym c.into_iter-i-iterator.ensures.into_iter_gives) (walks_all find_code_language_css_class c.requires c.siblings-i-items.ensures)
 
 pub node_name-requires : goal.node_name-requires
-node_name-requires c =
-    left_node c.loop-i.invariant c.loop-i-test.true
+node_name-requires c = let w = c.loop-i.invariant in let s = c.in-Some.ensures.steps in left_node (turn_left w s) (turn_before w s)
 
-pub node_place-place-requires : goal.node_place-place-requires
-node_place-place-requires c =
-    (left_node c.loop-i.invariant c.loop-i-test.true).inside
-
-pub node_end-i-requires : goal.node_end-i-requires
-node_end-i-requires c =
-    (left_node c.loop-i.invariant c.loop-i-test.true).inside
+pub node_place-requires : goal.node_place-requires
+node_place-requires c = let w = c.loop-i.invariant in let s = c.in-Some.ensures.steps in (left_node (turn_left w s) (turn_before w s)).inside
 
 pub class_of-requires : goal.class_of-requires
 class_of-requires c =
-    omega (arith, (left_node c.loop-i.invariant c.loop-i-test.true).placed, c.node_place-place.ensures)
+    let w = c.loop-i.invariant in let s = c.in-Some.ensures.steps in
+    omega (arith, (left_node (turn_left w s) (turn_before w s)).placed, c.node_place.ensures)
 
 pub returns-then-node_name-eq-CODE : goal.returns-then-node_name-eq-CODE
 returns-then-node_name-eq-CODE c =
-    let a = c.args in
+    let t = c.args.tree.now in let w = c.loop-i.invariant in let s = c.in-Some.ensures.steps in
     λ parent f h. language_of
-    (sym (left_at c.loop-i.invariant (class_language (attr (ascii "class") (attrs_behind a.tree.now.sheet.now c.node_place-place.result)))
-    (λ parent g h. css_here a.tree.now.sheet.now a.tree.now.nodes.now parent c.loop-i.i a.to g h c.loop-i-test.true (sym c.node_name.ensures ∙ c.if-node_name-eq-CODE.true)
-    ∙ ap (λ (p : ℕ). class_language (attr (ascii "class") (attrs_behind a.tree.now.sheet.now p))) (sym c.node_place-place.ensures)) parent f h))
+    (sym (left_at (turn_left w s) (class_language (attr (ascii "class") (attrs_behind t.sheet.now c.node_place.result)))
+    (λ parent g h. css_here t.sheet.now t.nodes.now parent _ c.args.to g h (turn_before w s) (sym c.node_name.ensures ∙ c.if-node_name-eq-CODE.true)
+    ∙ ap (λ (p : ℕ). class_language (attr (ascii "class") (attrs_behind t.sheet.now p))) (sym c.node_place.ensures)) parent f h))
     c.class_of.ensures
-
-pub loop-i-smaller : goal.loop-i-smaller
-loop-i-smaller c =
-    omega (arith, (left_first c.loop-i.invariant c.loop-i-test.true).later, c.node_end-i.ensures)
 
 pub loop-i-preserved : goal.loop-i-preserved
 loop-i-preserved c =
-    let a = c.args in
-    subst (λ (j : ℕ). Left find_code_language_css_class a.tree.now.sheet.now a.tree.now.nodes.now a.from a.to j) (sym c.node_end-i.ensures)
-    (left_on c.loop-i.invariant c.loop-i-test.true (λ parent g h. css_on a.tree.now.sheet.now a.tree.now.nodes.now parent c.loop-i.i a.to g h c.loop-i-test.true (λ q. c.if-node_name-eq-CODE.false (c.node_name.ensures ∙ q))))
+    let t = c.args.tree.now in let w = c.loop-i.invariant in let s = c.in-Some.ensures.steps in
+    turn_on w s (left_on (turn_left w s) (turn_before w s) (λ parent g h. css_on t.sheet.now t.nodes.now parent _ c.args.to g h (turn_before w s) (λ q. c.if-node_name-eq-CODE.false (c.node_name.ensures ∙ q))))
 
 pub returns : goal.returns
 unfolding find_code_language_css_class
-returns c =
-    λ parent f h. record { inside = tt; language_is = sym (left_none c.loop-i.invariant none c.loop-i-test.false refl parent f h) }
+returns c = λ parent f h. record { inside = tt; language_is = sym (left_none c.loop-i.invariant.left none (turn_none c.loop-i.invariant c.in-None.ensures.steps.0) refl parent f h) }

@@ -2,11 +2,8 @@ use Rattle.std.proofs.Common.{◌≡◌, ℕ, ◌+◌, ◌-◌, sym, subst, arit
 use Rattle.std.specs.Prelude.{Some, None}
 use Rattle.tree.specs.Attributes.{Valued, language_attr}
 use Rattle.tree.specs.Represents.{attrs_behind}
-use Rattle.elements.proofs.Languages.{Up, up_all, up_node, up_on, up_found, up_root, up_none}
+use Rattle.elements.proofs.Languages.{Up, up_node, up_on, up_found, up_root, up_none}
 use Rattle.elements.proofs.code_language.nearest_language.Goals as goal
-
-pub loop-init : goal.loop-init
-loop-init c = up_all c.args.tree.now.sheet.now c.args.tree.now.nodes.now c.args.i c.requires
 
 pub returns-then-at-eq0 : goal.returns-then-at-eq0
 returns-then-at-eq0 c = up_root c.loop.invariant c.if-at-eq0.true

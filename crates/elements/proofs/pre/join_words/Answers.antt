@@ -1,15 +1,10 @@
 use Rattle.std.proofs.Common.{◌+◌, not, ◌||◌, refl, sym, ◌∙◌, drop}
 use Rattle.spec.specs.Out.{push}
 use Rattle.text.specs.Texts.{bytes}
-use Rattle.text.proofs.Texts.{owes_all, owes_step, owes_stop, owes_last, pushes_nothing}
+use Rattle.text.proofs.Texts.{owes_step, owes_stop, owes_last, pushes_nothing}
 use Rattle.elements.specs.JoinedWords.{words_on}
 use Rattle.elements.proofs.Joining.{joins_not, byte_turn, some_turn, gap_turn, bytes_end, some_end, gap_end}
 use Rattle.elements.proofs.pre.join_words.Goals as goal
-
-pub loop-b-init : goal.loop-b-init
-loop-b-init c =
-    let a = c.args in
-    record { owes = owes_all a.text.now (push (words_on a.from.some a.from.gap a.s.now)); some = refl; gap = refl }
 
 pub returns-in_err-push_word_byte : goal.returns-in_err-push_word_byte
 returns-in_err-push_word_byte c =

@@ -7,17 +7,12 @@ use Rattle.spec.specs.Md.Elements.Code.{find_code_language}
 use Rattle.text.specs.Texts.{bytes}
 use Rattle.nodes.proofs.Interrupts.{element_kids}
 use Rattle.elements.specs.PreStep.{pre_step}
-use Rattle.elements.proofs.Behind.{behind_from, behind_fits, behind_writes, block_over, stop_as}
+use Rattle.elements.proofs.Behind.{behind_from, behind_writes, block_over, stop_as}
 use Rattle.elements.proofs.pre.pre_block.Goals as goal
 
 pub overflow_sub-n : goal.overflow_sub-n
 overflow_sub-n c =
     let p = c.requires.0 in behind_from _ c.in_ok-push_text_of.was (c.push_text_of.ensures c.args.i p.2 (element_kids p.3 c.node_end.ensures))
-
-pub push_pre-requires : goal.push_pre-requires
-push_pre-requires c =
-    let p = c.requires.0 in
-    (c.requires, behind_fits _ c.in_ok-push_text_of.was (c.push_text_of.ensures c.args.i p.2 (element_kids p.3 c.node_end.ensures)))
 
 pub returns : goal.returns
 returns c =

@@ -1,22 +1,14 @@
 use mathlib.Core.Path.{refl, ap, ap₂}
-use mathlib.Core.Bool.{Bool, false}
+use mathlib.Core.Bool.{Bool}
 use native.Mathlib.Omega.{arith}
 use Rattle.text.proofs.Texts.{as_step}
 use Rattle.elements.specs.JoinedWords.{answer_of}
-use Rattle.nodes.proofs.Appending.{appends_all, appends_node, appends_on, appends_stop, appends_end}
-use Rattle.elements.proofs.Joining.{words_in, words_spell, words_all}
+use Rattle.nodes.proofs.Appending.{appends_node, appends_on, appends_stop, appends_end}
+use Rattle.elements.proofs.Joining.{words_spell, words_all}
 use Rattle.elements.proofs.pre.push_words.Goals as goal
-
-pub loop-i-init : goal.loop-i-init
-loop-i-init c =
-    let a = c.args in
-    appends_all words_in a.tree.now.sheet.now a.tree.now.nodes.now a.from a.to (false, false) a.text.now
 
 pub node_place-place-requires : goal.node_place-place-requires
 node_place-place-requires c = (appends_node c.loop-i.invariant c.requires c.loop-i-test.true).inside
-
-pub text_at-requires : goal.text_at-requires
-text_at-requires c = omega (arith, (appends_node c.loop-i.invariant c.requires c.loop-i-test.true).placed, c.node_place-place.ensures)
 
 pub returns-in_err-state : goal.returns-in_err-state
 returns-in_err-state c =
@@ -30,3 +22,6 @@ loop-i-preserved c =
 
 pub returns : goal.returns
 returns c = λ parent f h. as_step (words_all f _) (appends_end c.loop-i.invariant words_spell c.loop-i-test.false parent f h)
+
+pub text_at-requires : goal.text_at-requires
+text_at-requires c = omega (arith, (appends_node c.loop-i.invariant c.requires c.loop-i-test.true).placed, c.node_place-place.ensures)

@@ -1,18 +1,16 @@
-use Rattle.std.proofs.Common.{◌+◌, Bool, sym, ◌∙◌, true, false, arith}
+use Rattle.std.proofs.Common.{false, ◌+◌, take, length, ap, arith, rules}
+use borrow.Author.Tests.{tests}
+use Rattle.std.proofs.Math.Seq.{take-length}
+use Rattle.std.proofs.lemmas.Iterator.{YieldsList-from_range}
+use Rattle.std.proofs.lemmas.Iterator.Consumers.{YieldsList-from_filter, count_from_yields_List}
 use Rattle.spec.specs.Md.Elements.Table.{pipes_escaped}
-use Rattle.marks.proofs.Pipes.{pipes_more}
+use Rattle.marks.specs.Pipes.{bare_pipe}
+use Rattle.marks.proofs.Pipes.{bare_count}
 use Rattle.marks.proofs.table.count_bare_pipes.Goals as goal
-use Rattle.marks.proofs.table.count_bare_pipes.Goals.{then-ends_with_bare_pipe, else-ends_with_bare_pipe}
 
-pub loop-i-init : goal.loop-i-init
-unfolding pipes_escaped
-loop-i-init c = record { few = omega arith; counted = omega arith }
-
-pub loop-i-preserved : goal.loop-i-preserved
-loop-i-preserved c =
-    let i = c.loop-i.i in
-    let more = λ (t : Bool). pipes_more c.args.s.now (i + 1) i t (omega arith) (omega arith) in
-    elim c.if-ends_with_bare_pipe.branch [
-      | then-ends_with_bare_pipe w ↦ record { few = omega (arith, w.count-is); counted = omega (arith, w.count-is, more true (sym c.ends_with_bare_pipe.ensures ∙ w.if-ends_with_bare_pipe.true)) }
-      | else-ends_with_bare_pipe w ↦ record { few = omega (arith, w.count-is); counted = omega (arith, w.count-is, more false (sym c.ends_with_bare_pipe.ensures ∙ w.if-ends_with_bare_pipe.false)) }
-    ]
+pub returns : goal.returns
+returns c =
+    let s = c.args.s.now in
+    let count = count_from_yields_List c.filter.result c.count.result c.count.ensures.ran
+    (YieldsList-from_filter _ (λ i. bare_pipe (take (i + 1) s)) (YieldsList-from_range 0 (length s) (length s) c.filter.ensures.source (omega arith)) c.filter.ensures.closure (λ x r q k. search (rules, tests))) in
+    omega (arith, count, bare_count s (length s) (omega arith), ap (λ t. length (pipes_escaped false t)) (take-length s))

@@ -1,11 +1,6 @@
-use Prim.Native.Nat.{ℕ, ◌+◌, ◌-◌, ◌≤◌, ◌<◌}
-use mathlib.Core.Path.{◌≡◌}
-use mathlib.Core.Bool.{true}
+use Rattle.std.proofs.Common.{◌≡◌, ℕ, ◌<◌, true}
 use Rattle.text.specs.Flow.{Plain}
 use Rattle.normalized.proofs.fast_copy.is_plain_block.Given as goal
 
 abbrev pub invariant-loop-i : goal.invariant-loop-i
-invariant-loop-i l = (l.i ≤ 16) × (l.all ≡ true → (j : ℕ) → l.at ≤ j → j < l.at + l.i → Plain l.escape l.s j)
-
-abbrev pub decreases-loop-i : goal.decreases-loop-i
-decreases-loop-i l = 16 - l.i
+invariant-loop-i l = l.all ≡ true → (j : ℕ) → j < l.i → Plain l.escape l.s j
