@@ -32,8 +32,9 @@ abbrev pub Short : Bytes → Type 0
 Short sh = length sh ≤ 1048576
 
 -- a text keeps its room
-abbrev pub SameRoom : Text → Text → Type 0
-SameRoom before after = (after.room.ghost_name ≡ before.room.ghost_name) × (length after.room.now ≡ length before.room.now)
+pub record SameRoom (before after : Text) : Type 0 where
+  pub room_is : after.room.ghost_name ≡ before.room.ghost_name
+  pub long : length after.room.now ≡ length before.room.now
 
 -- the offsets of lists within so many levels fit beside the flags in a machine word: each list steps 12 at most
 abbrev pub Fits : FormatOpts → ℕ → Type 0

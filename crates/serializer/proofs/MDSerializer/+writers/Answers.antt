@@ -10,7 +10,7 @@ use Rattle.tree.proofs.Values.{part_short}
 use Rattle.lists_links.specs.Items.{item_of, ended_item}
 use Rattle.nodes.proofs.Interrupts.{element_kids, element_name}
 use Rattle.nodes.specs.Stands.{Placeds, ElementAt, NodeAt, Placed, PlacedNode}
-use Rattle.serializer.proofs.Rooms.{leaf_room, room_on, room_behind}
+use Rattle.serializer.proofs.Rooms.{room_same, leaf_room, room_on, room_behind, wrote_err, gone_err, going_ok, going_err}
 use Rattle.serializer.proofs.Answers.{stops_element, stops_forest, stops_row, stops_rows, both-full, nest-done, nest-full, nest-fits, written-reaches, forest-reaches, below-wrote, both-done, forest-long}
 use Rattle.serializer.proofs.Dispatch.{by_list, by_link, by_img, by_pre, by_table, by_code, by_emphasis}
 use Rattle.serializer.proofs.Falls.{falls_in, falls_out}
@@ -55,7 +55,8 @@ use Rattle.tables.specs.Spans.{table_lengths}
 use Rattle.tables.specs.TableSteps.{rows_texts, RowsWrites}
 use Rattle.text.proofs.Spaces.{cut_done}
 use Rattle.text.proofs.Temporary.{lent, back, back_length, temp_fits}
-use Rattle.text.proofs.Writing.{done, reaches, Owes, owes_all, owes_step, owes_on, owes_over, owes_last, alike, owes_stop, then_assoc, full, keeps, stops}
+use Rattle.text.specs.Trimmed.{Trimmed}
+use Rattle.text.proofs.Writing.{alike_answer, done, reaches, Owes, owes_all, owes_step, owes_on, owes_over, owes_last, alike, owes_stop, then_assoc, full, keeps, stops}
 use Rattle.text.specs.Writes.{Writes}
 use Rattle.tree.proofs.Firsts.{rep_le}
 use Rattle.tree.proofs.Frames.{kept_none, kept_in, kept_then, end_kept, place_kept, rep_kept}
@@ -71,15 +72,12 @@ use mathlib.Core.Bool.{true, false, Bool, not, ◌&&◌, cond}
 use mathlib.Core.List.{List, ◌∷◌, []}
 use mathlib.Core.Path.{◌≡◌, refl, ap, sym, subst, ◌∙◌, subst₂}
 use native.Mathlib.Omega.{arith}
+use Rattle.std.proofs.Common.{rules, Ok}
 use Rattle.serializer.proofs.MDSerializer.+writers.Goals as goal
 
 pub alone-node_name-name-requires : goal.alone-node_name-name-requires
 alone-node_name-name-requires t c =
     placeds_at c.requires.0.alone c.requires.0.later
-
-pub alone-due_line-requires : goal.alone-due_line-requires
-alone-due_line-requires t c =
-    c.args.text.now.fits
 
 pub alone-block-requires : goal.alone-block-requires
 alone-block-requires t c = (
@@ -111,7 +109,7 @@ alone-returns t c =
     record {
       room = room_on (leaf_room c.due_line.ensures) (c.inline.ensures.room);
       kept = c.inline.ensures.kept;
-      goes_forest = alone_inline c.args.self.now.sheet.now c.args.nodes.now c.args.c c.node_name-name.ensures c.requires.0.later (self_at c.args.self.now.skip c.args.levels) (item_of c.args.item) c.args.before.first c.args.before.due c.args.blank c.args.text.now.room.now c.args.text.now.len c.due_line.ensures.writes (ap (wrote c.due_line.new.text) c.in_ok-due_line.was) c.node_is_list_item_block.ensures c.if-node_is_list_item_block.false refl c.inline.ensures.writes_forest;
+      goes_forest = alone_inline c.args.self.now.sheet.now c.args.nodes.now c.args.c c.node_name-name.ensures c.requires.0.later (self_at c.args.self.now.skip c.args.levels) (item_of c.args.item) c.args.before.first c.args.before.due c.args.blank c.args.text.now.room.now c.args.text.now.len c.due_line.ensures.writes (ap (wrote c.due_line.new.text) c.in_ok-due_line.was) c.node_is_list_item_block.ensures c.if-node_is_list_item_block.false (going_ok c.inline.new.text _ _ c.in_ok-inline.was) c.inline.ensures.writes_forest;
     }
 
 pub alone-returns-in_err-inline : goal.alone-returns-in_err-inline
@@ -119,7 +117,7 @@ alone-returns-in_err-inline t c =
     record {
       room = room_on (leaf_room c.due_line.ensures) (c.inline.ensures.room);
       kept = c.inline.ensures.kept;
-      goes_forest = alone_inline c.args.self.now.sheet.now c.args.nodes.now c.args.c c.node_name-name.ensures c.requires.0.later (self_at c.args.self.now.skip c.args.levels) (item_of c.args.item) c.args.before.first c.args.before.due c.args.blank c.args.text.now.room.now c.args.text.now.len c.due_line.ensures.writes (ap (wrote c.due_line.new.text) c.in_ok-due_line.was) c.node_is_list_item_block.ensures c.if-node_is_list_item_block.false (err_is c.from_residual-in_err-inline.ensures.0) c.inline.ensures.writes_forest;
+      goes_forest = alone_inline c.args.self.now.sheet.now c.args.nodes.now c.args.c c.node_name-name.ensures c.requires.0.later (self_at c.args.self.now.skip c.args.levels) (item_of c.args.item) c.args.before.first c.args.before.due c.args.blank c.args.text.now.room.now c.args.text.now.len c.due_line.ensures.writes (ap (wrote c.due_line.new.text) c.in_ok-due_line.was) c.node_is_list_item_block.ensures c.if-node_is_list_item_block.false (going_err _ _ _ _ _ c.from_residual-in_err-inline.ensures.0 c.in_err-inline.was) c.inline.ensures.writes_forest;
     }
 
 pub alone-returns-in_err-due_line : goal.alone-returns-in_err-due_line
@@ -127,7 +125,7 @@ alone-returns-in_err-due_line t c =
     record {
       room = leaf_room c.due_line.ensures;
       kept = kept_none c.args.nodes.now;
-      goes_forest = stops_going c.from_residual.ensures.0 (alone_none c.args.self.now.sheet.now c.args.nodes.now c.args.c c.node_name-name.ensures c.requires.0.later (self_at c.args.self.now.skip c.args.levels) (item_of c.args.item) c.args.before.first c.args.before.due c.args.blank c.args.text.now.room.now c.args.text.now.len c.due_line.ensures.writes (ap (wrote c.due_line.new.text) c.in_err-due_line.was));
+      goes_forest = stops_going (gone_err _ _ c.from_residual.ensures.0) (alone_none c.args.self.now.sheet.now c.args.nodes.now c.args.c c.node_name-name.ensures c.requires.0.later (self_at c.args.self.now.skip c.args.levels) (item_of c.args.item) c.args.before.first c.args.before.due c.args.blank c.args.text.now.room.now c.args.text.now.len c.due_line.ensures.writes (ap (wrote c.due_line.new.text) c.in_err-due_line.was));
     }
 
 pub block-led-requires : goal.block-led-requires
@@ -139,7 +137,7 @@ block-returns-then-name-eq-HR t c =
     record {
       room = c.rule_block.ensures.room;
       kept = kept_none c.args.nodes.now;
-      goes_element = block_rule c.args.self.now.sheet.now c.args.nodes.now c.args.c c.requires.1 (self_at c.args.self.now.skip c.args.levels) (item_of c.args.item) c.args.before.first c.args.before.due (take c.args.text.now.len c.args.text.now.room.now) c.if-name-eq-HR.true c.rule_block.ensures;
+      goes_element = block_rule c.args.self.now.sheet.now c.args.nodes.now c.args.c c.requires.1 (self_at c.args.self.now.skip c.args.levels) (item_of c.args.item) c.args.before.first c.args.before.due (take c.args.text.now.len c.args.text.now.room.now) c.if-name-eq-HR.true c.rule_block.ensures.goes;
     }
 
 pub block-returns : goal.block-returns
@@ -147,7 +145,7 @@ block-returns t c =
     record {
       room = c.led.ensures.room;
       kept = c.led.ensures.kept;
-      goes_element = block_led c.args.self.now.sheet.now c.args.nodes.now c.args.c c.requires.1 (self_at c.args.self.now.skip c.args.levels) (item_of c.args.item) c.args.before.first c.args.before.due (take c.args.text.now.len c.args.text.now.room.now) c.if-name-eq-HR.false refl c.led.ensures.writes_element;
+      goes_element = block_led c.args.self.now.sheet.now c.args.nodes.now c.args.c c.requires.1 (self_at c.args.self.now.skip c.args.levels) (item_of c.args.item) c.args.before.first c.args.before.due (take c.args.text.now.len c.args.text.now.room.now) c.if-name-eq-HR.false (going_ok c.led.new.text _ _ c.in_ok-led.was) c.led.ensures.writes_element;
     }
 
 pub block-returns-in_err-led : goal.block-returns-in_err-led
@@ -155,7 +153,7 @@ block-returns-in_err-led t c =
     record {
       room = c.led.ensures.room;
       kept = c.led.ensures.kept;
-      goes_element = block_led c.args.self.now.sheet.now c.args.nodes.now c.args.c c.requires.1 (self_at c.args.self.now.skip c.args.levels) (item_of c.args.item) c.args.before.first c.args.before.due (take c.args.text.now.len c.args.text.now.room.now) c.if-name-eq-HR.false (err_is c.from_residual.ensures.0) c.led.ensures.writes_element;
+      goes_element = block_led c.args.self.now.sheet.now c.args.nodes.now c.args.c c.requires.1 (self_at c.args.self.now.skip c.args.levels) (item_of c.args.item) c.args.before.first c.args.before.due (take c.args.text.now.len c.args.text.now.room.now) c.if-name-eq-HR.false (going_err _ _ _ _ _ c.from_residual.ensures.0 c.in_err-led.was) c.led.ensures.writes_element;
     }
 
 pub blocks-returns-in_err-start_item : goal.blocks-returns-in_err-start_item
@@ -164,7 +162,7 @@ blocks-returns-in_err-start_item t c =
     let item = item_from c.args.ctx.now (begin_item true c.args.ctx.now (take c.args.text.now.len c.args.text.now.room.now)) in record {
       room = leaf_room c.start_item.ensures.0;
       kept = kept_none c.args.nodes.now;
-      writes_element = stops_element c.from_residual.ensures.0 (record {
+      writes_element = stops_element (wrote_err _ _ c.from_residual.ensures.0) (record {
         for = λ name attrs kids anc x a.
             both-full c.args.text.now.room.now c.args.text.now.len c.args.text.now.fits (write_list_item_blocks self anc attrs kids c.args.ctx.now) (begin_item true c.args.ctx.now)
             (λ u. and_then (item_children self (attrs ∷ anc) kids item (progress_at true false u)).out (ended_item item))
@@ -179,7 +177,7 @@ blocks-node_end-to-requires t c =
 
 pub blocks-start_item-requires : goal.blocks-start_item-requires
 blocks-start_item-requires t c =
-    (c.args.text.now.fits, fits_in c.args.levels c.args.ctx.now c.requires.2)
+    fits_in c.args.levels c.args.ctx.now c.requires.2
 
 pub blocks-item_from-item-requires : goal.blocks-item_from-item-requires
 blocks-item_from-item-requires t c =
@@ -200,12 +198,6 @@ blocks-children-requires t c =
         fits_blocks c.args.levels c.args.ctx.now c.item_from-item.result (begin_item true c.args.ctx.now (take c.args.text.now.len c.args.text.now.room.now)) (item_is_here) c.requires.2,
       ),
     )
-
-pub blocks-end_item-requires : goal.blocks-end_item-requires
-blocks-end_item-requires t c =
-    let kids_at_here : Placeds c.args.self.now.sheet.now c.args.nodes.now (c.args.c + 1) c.node_end-to.result = placed_kids c.args.self.now.sheet.now c.args.nodes.now c.args.c c.requires.0 c.node_end-to.ensures in
-    let k = kids_at_here in
-    reaches (went (ap (gone c.children.new.text) c.in_ok-children.was) (c.children.ensures.goes_forest.for k.parent k.forest k.anc k.rep k.around)).0
 
 pub blocks-returns : goal.blocks-returns
 blocks-returns t c =
@@ -231,7 +223,7 @@ blocks-returns-in_err-children t c =
     let item = item_of c.item_from-item.result in record {
       room = room_on (leaf_room c.start_item.ensures.0) (c.children.ensures.room);
       kept = kept_in (omega arith) (omega (arith, c.node_end-to.ensures)) c.children.ensures.kept;
-      writes_element = stops_element c.from_residual-in_err-children.ensures.0 (record {
+      writes_element = stops_element (wrote_err _ _ c.from_residual-in_err-children.ensures.0) (record {
         for = λ name attrs kids anc x a.
             owes_over (begun_here anc attrs kids) (λ u. (item_children self (attrs ∷ anc) kids item (progress_at true false u)).out) (ended_item item) refl
             (went_full (ap (gone c.children.new.text) c.in_err-children.was) (c.children.ensures.goes_forest.for c.args.c kids (attrs ∷ anc) (element_kids x c.node_end-to.ensures) (around_it anc x a)));
@@ -263,13 +255,13 @@ pub body-returns : goal.body-returns
 body-returns t c =
     let a = c.args in
     let href = a.dest.now in record {
-      room = room_on (room_behind c.args.text.now c.kids_behind.auto.room) (leaf_room c.push_link.ensures);
+      room = room_on (room_behind _ refl refl c.kids_behind.auto.room) (leaf_room c.push_link.ensures);
       kept = c.kids_behind.ensures.kept;
       writes_element = record {
         for = λ name attrs kids anc x h. let link = write_kids (self_at a.self.now.skip a.levels) anc a.opts (element name attrs kids nothing) [] in
             alike (ap (λ (f : Step). f (take a.text.now.len a.text.now.room.now)) (link_is attrs href link push))
             (nest-done a.text.now.room.now a.text.now.len c.args.text.now.fits (subst (λ (o : FormatOpts). Writes (length (lent a.text.now.room.now a.text.now.len)) c.kids_behind.new.room c.kids_behind.result (write_kids (self_at a.self.now.skip a.levels) anc o (element name attrs kids nothing) [])) c.packed-bits.ensures (c.kids_behind.ensures.writes_element.for name attrs kids anc x h)) (λ z. link_step attrs href z push) c.in_ok-n.was
-            (subst (λ (l : List Attr). Writes (length (back a.text.now.room.now a.text.now.len c.kids_behind.new.text)) c.push_link.new.text.room.now c.push_link.result (link_step l href (take c.in_ok-n.n (drop a.text.now.len (back a.text.now.room.now a.text.now.len c.kids_behind.new.text))) push (take a.text.now.len (back a.text.now.room.now a.text.now.len c.kids_behind.new.text)))) (ap (attrs_behind a.self.now.sheet.now) c.node_place-place.ensures ∙ sym x.attrs_are) c.push_link.ensures.writes));
+            (subst (λ (l : List Attr). Writes (length (back a.text.now.room.now a.text.now.len c.kids_behind.new.room)) c.push_link.new.text.room.now (wrote c.push_link.new.text c.push_link.result) (link_step l href (take c.in_ok-n.n (drop a.text.now.len (back a.text.now.room.now a.text.now.len c.kids_behind.new.room))) push (take a.text.now.len (back a.text.now.room.now a.text.now.len c.kids_behind.new.room)))) (ap (attrs_behind a.self.now.sheet.now) c.node_place-place.ensures ∙ sym x.attrs_are) c.push_link.ensures.writes));
       };
     }
 
@@ -277,9 +269,9 @@ pub body-returns-in_err-n : goal.body-returns-in_err-n
 body-returns-in_err-n t c =
     let a = c.args in
     let href = a.dest.now in record {
-      room = room_behind c.args.text.now c.kids_behind.auto.room;
+      room = room_behind _ refl refl c.kids_behind.auto.room;
       kept = c.kids_behind.ensures.kept;
-      writes_element = stops_element c.from_residual.ensures.0 (record {
+      writes_element = stops_element (wrote_err _ _ c.from_residual.ensures.0) (record {
         for = λ name attrs kids anc x h. let link = write_kids (self_at a.self.now.skip a.levels) anc a.opts (element name attrs kids nothing) [] in
             alike (ap (λ (f : Step). f (take a.text.now.len a.text.now.room.now)) (link_is attrs href link push))
             (nest-full a.text.now.room.now a.text.now.len c.args.text.now.fits (subst (λ (o : FormatOpts). Writes (length (lent a.text.now.room.now a.text.now.len)) c.kids_behind.new.room c.kids_behind.result (write_kids (self_at a.self.now.skip a.levels) anc o (element name attrs kids nothing) [])) c.packed-bits.ensures (c.kids_behind.ensures.writes_element.for name attrs kids anc x h)) (link_step attrs href link.text push) c.in_err-n.was);
@@ -288,41 +280,48 @@ body-returns-in_err-n t c =
 
 pub cell-packed-bits-requires : goal.cell-packed-bits-requires
 cell-packed-bits-requires t c =
-    omega (arith, subst (λ (o : FormatOpts). Fits o c.args.levels) (sym (c.table_cell-inner.ensures ∙ ap table_cell c.fresh.ensures)) (omega (arith, c.requires.2)))
+    omega (arith, subst (λ (o : FormatOpts). Fits o c.args.levels) (sym (c.table_cell.ensures ∙ ap table_cell c.fresh.ensures)) (omega (arith, c.requires.2)))
 
 pub cell-kids-requires : goal.cell-kids-requires
 cell-kids-requires t c =
-    (falls_in c.args.levels c.decreases (lit< tt), (c.requires.0, c.requires.1, subst (λ (o : FormatOpts). Fits o c.args.levels) (sym (c.packed-bits.ensures ∙ c.table_cell-inner.ensures ∙ ap table_cell c.fresh.ensures)) (omega (arith, c.requires.2))))
-
-pub cell-slice_bounds-trim_trailing_cell_break-end : goal.cell-slice_bounds-trim_trailing_cell_break-end
-cell-slice_bounds-trim_trailing_cell_break-end t c =
-    written-reaches c.kids.ensures.writes_element c.requires.0 (ap (wrote c.kids.new.text) c.in_ok-kids.was)
-
-pub cell-slice_bounds-trim_trailing_cell_break-end-2 : goal.cell-slice_bounds-trim_trailing_cell_break-end-2
-cell-slice_bounds-trim_trailing_cell_break-end-2 t c =
-    sym (length-take-le c.kids.new.text.len c.kids.new.text.room.now (written-reaches c.kids.ensures.writes_element c.requires.0 (ap (wrote c.kids.new.text) c.in_ok-kids.was)))
-
-pub cell-escape_table_cell_inplace-requires : goal.cell-escape_table_cell_inplace-requires
-cell-escape_table_cell_inplace-requires t c =
-    let r = written-reaches c.kids.ensures.writes_element c.requires.0 (ap (wrote c.kids.new.text) c.in_ok-kids.was) in
-    omega (arith, r, c.trim_trailing_cell_break-k.ensures.within, length-take-le c.kids.new.text.len c.kids.new.text.room.now r)
+    (falls_in c.args.levels c.decreases (lit< tt), (c.requires.0, c.requires.1, subst (λ (o : FormatOpts). Fits o c.args.levels) (sym (c.packed-bits.ensures ∙ c.table_cell.ensures ∙ ap table_cell c.fresh.ensures)) (omega (arith, c.requires.2))))
 
 pub cell-returns : goal.cell-returns
 unfolding cell_text trim_trailing_cell_break
 cell-returns t c =
-    let wrote_here : (name : Bytes) (attrs : List Attr) (kids : Forest) (anc : Ancestors) → ElementAt c.args.self.now.sheet.now c.args.nodes.now c.args.c name attrs kids → Around c.args.self.now.sheet.now c.args.nodes.now (parent_at c.args.nodes.now c.args.c) anc → Writes (length c.args.room.now) c.kids.new.text.room.now c.kids.result (write_kids (self_at c.args.self.now.skip c.args.levels) anc (table_cell (fresh c.args.opts)) (element name attrs kids nothing) (take 0 c.args.room.now)) = λ name attrs kids anc x h. let a = c.args in subst (λ (o : FormatOpts). Writes (length a.room.now) c.kids.new.text.room.now c.kids.result (write_kids (self_at a.self.now.skip a.levels) anc o (element name attrs kids nothing) (take 0 a.room.now))) (c.packed-bits.ensures ∙ c.table_cell-inner.ensures ∙ ap table_cell c.fresh.ensures) (c.kids.ensures.writes_element.for name attrs kids anc x h) in
+    let wrote_here : (name : Bytes) (attrs : List Attr) (kids : Forest) (anc : Ancestors) → ElementAt c.args.self.now.sheet.now c.args.nodes.now c.args.c name attrs kids → Around c.args.self.now.sheet.now c.args.nodes.now (parent_at c.args.nodes.now c.args.c) anc → Writes (length c.args.room.now) c.kids.new.text.room.now (wrote c.kids.new.text c.kids.result) (write_kids (self_at c.args.self.now.skip c.args.levels) anc (table_cell (fresh c.args.opts)) (element name attrs kids nothing) (take 0 c.args.room.now)) = λ name attrs kids anc x h. let a = c.args in subst (λ (o : FormatOpts). Writes (length a.room.now) c.kids.new.text.room.now (wrote c.kids.new.text c.kids.result) (write_kids (self_at a.self.now.skip a.levels) anc o (element name attrs kids nothing) (take 0 a.room.now))) (c.packed-bits.ensures ∙ c.table_cell.ensures ∙ ap table_cell c.fresh.ensures) (c.kids.ensures.writes_element.for name attrs kids anc x h) in
     let a = c.args in record {
       kept = c.kids.ensures.kept;
       writes = λ name attrs kids anc th x h.
           let f = write_kids (self_at a.self.now.skip a.levels) anc (table_cell (fresh a.opts)) (element name attrs kids nothing) in
           let p = owes_step (owes_all a.room.now 0 (λ u. and_then (and_then (f u) trim_trailing_cell_break) escape_table_cell_inplace) (omega arith) refl) f (λ u. and_then (trim_trailing_cell_break u) escape_table_cell_inplace) (then_assoc (f (take 0 a.room.now)) trim_trailing_cell_break escape_table_cell_inplace) (ap (wrote c.kids.new.text) c.in_ok-kids.was) (wrote_here _ _ _ anc x h) in
-          owes_last (owes_on p trim_trailing_cell_break escape_table_cell_inplace refl (cut_done (λ z. without_breaks (length z) z) c.kids.new.text.room.now c.kids.new.text.len c.trim_trailing_cell_break-k.result p.reach c.trim_trailing_cell_break-k.ensures)) c.escape_table_cell_inplace.ensures;
+          let k = c.trim_trailing_cell_break in
+          let s = subst (λ (u : Bytes). Trimmed u k.result (without_breaks (length u) u)) c.bytes.ensures k.ensures in
+          let w = alike_answer (sym (ap (wrote c.escape_table_cell_inplace.new.text) c.in_ok-escape_table_cell_inplace.was))
+          (owes_last (owes_on p trim_trailing_cell_break escape_table_cell_inplace refl (cut_done (λ z. without_breaks (length z) z) c.kids.new.text.room.now c.kids.new.text.len k.result p.reach s)) c.escape_table_cell_inplace.ensures.writes) in
+          subst (λ (d : Bytes). Writes (length a.room.now) d (Ok c.escape_table_cell_inplace.new.text.len) (cell_text (self_at a.self.now.skip a.levels) a.opts (record { ancestors = anc; is_th = th; node = element name attrs kids nothing }))) (search rules) w;
+    }
+
+pub cell-returns-in_err-escape_table_cell_inplace : goal.cell-returns-in_err-escape_table_cell_inplace
+unfolding cell_text trim_trailing_cell_break
+cell-returns-in_err-escape_table_cell_inplace t c =
+    let wrote_here : (name : Bytes) (attrs : List Attr) (kids : Forest) (anc : Ancestors) → ElementAt c.args.self.now.sheet.now c.args.nodes.now c.args.c name attrs kids → Around c.args.self.now.sheet.now c.args.nodes.now (parent_at c.args.nodes.now c.args.c) anc → Writes (length c.args.room.now) c.kids.new.text.room.now (wrote c.kids.new.text c.kids.result) (write_kids (self_at c.args.self.now.skip c.args.levels) anc (table_cell (fresh c.args.opts)) (element name attrs kids nothing) (take 0 c.args.room.now)) = λ name attrs kids anc x h. let a = c.args in subst (λ (o : FormatOpts). Writes (length a.room.now) c.kids.new.text.room.now (wrote c.kids.new.text c.kids.result) (write_kids (self_at a.self.now.skip a.levels) anc o (element name attrs kids nothing) (take 0 a.room.now))) (c.packed-bits.ensures ∙ c.table_cell.ensures ∙ ap table_cell c.fresh.ensures) (c.kids.ensures.writes_element.for name attrs kids anc x h) in
+    let a = c.args in record {
+      kept = c.kids.ensures.kept;
+      writes = λ name attrs kids anc th x h.
+          let f = write_kids (self_at a.self.now.skip a.levels) anc (table_cell (fresh a.opts)) (element name attrs kids nothing) in
+          let p = owes_step (owes_all a.room.now 0 (λ u. and_then (and_then (f u) trim_trailing_cell_break) escape_table_cell_inplace) (omega arith) refl) f (λ u. and_then (trim_trailing_cell_break u) escape_table_cell_inplace) (then_assoc (f (take 0 a.room.now)) trim_trailing_cell_break escape_table_cell_inplace) (ap (wrote c.kids.new.text) c.in_ok-kids.was) (wrote_here _ _ _ anc x h) in
+          let k = c.trim_trailing_cell_break in
+          let s = subst (λ (u : Bytes). Trimmed u k.result (without_breaks (length u) u)) c.bytes.ensures k.ensures in
+          let w = stops c.from_residual-in_err-escape_table_cell_inplace.ensures.0 (alike_answer (sym (ap (wrote c.escape_table_cell_inplace.new.text) c.in_err-escape_table_cell_inplace.was))
+          (owes_last (owes_on p trim_trailing_cell_break escape_table_cell_inplace refl (cut_done (λ z. without_breaks (length z) z) c.kids.new.text.room.now c.kids.new.text.len k.result p.reach s)) c.escape_table_cell_inplace.ensures.writes)) in
+          subst (λ (d : Bytes). Writes (length a.room.now) d c.from_residual-in_err-escape_table_cell_inplace.result (cell_text (self_at a.self.now.skip a.levels) a.opts (record { ancestors = anc; is_th = th; node = element name attrs kids nothing }))) (search rules) w;
     }
 
 pub cell-returns-in_err-kids : goal.cell-returns-in_err-kids
 unfolding cell_text
 cell-returns-in_err-kids t c =
-    let wrote_here : (name : Bytes) (attrs : List Attr) (kids : Forest) (anc : Ancestors) → ElementAt c.args.self.now.sheet.now c.args.nodes.now c.args.c name attrs kids → Around c.args.self.now.sheet.now c.args.nodes.now (parent_at c.args.nodes.now c.args.c) anc → Writes (length c.args.room.now) c.kids.new.text.room.now c.kids.result (write_kids (self_at c.args.self.now.skip c.args.levels) anc (table_cell (fresh c.args.opts)) (element name attrs kids nothing) (take 0 c.args.room.now)) = λ name attrs kids anc x h. let a = c.args in subst (λ (o : FormatOpts). Writes (length a.room.now) c.kids.new.text.room.now c.kids.result (write_kids (self_at a.self.now.skip a.levels) anc o (element name attrs kids nothing) (take 0 a.room.now))) (c.packed-bits.ensures ∙ c.table_cell-inner.ensures ∙ ap table_cell c.fresh.ensures) (c.kids.ensures.writes_element.for name attrs kids anc x h) in
+    let wrote_here : (name : Bytes) (attrs : List Attr) (kids : Forest) (anc : Ancestors) → ElementAt c.args.self.now.sheet.now c.args.nodes.now c.args.c name attrs kids → Around c.args.self.now.sheet.now c.args.nodes.now (parent_at c.args.nodes.now c.args.c) anc → Writes (length c.args.room.now) c.kids.new.text.room.now (wrote c.kids.new.text c.kids.result) (write_kids (self_at c.args.self.now.skip c.args.levels) anc (table_cell (fresh c.args.opts)) (element name attrs kids nothing) (take 0 c.args.room.now)) = λ name attrs kids anc x h. let a = c.args in subst (λ (o : FormatOpts). Writes (length a.room.now) c.kids.new.text.room.now (wrote c.kids.new.text c.kids.result) (write_kids (self_at a.self.now.skip a.levels) anc o (element name attrs kids nothing) (take 0 a.room.now))) (c.packed-bits.ensures ∙ c.table_cell.ensures ∙ ap table_cell c.fresh.ensures) (c.kids.ensures.writes_element.for name attrs kids anc x h) in
     let a = c.args in record {
       kept = c.kids.ensures.kept;
       writes = λ name attrs kids anc th x h.
@@ -337,24 +336,24 @@ cells-next_row-r-requires t c =
 pub cells-loop-r-init : goal.cells-loop-r-init
 cells-loop-r-init t c =
     let a = c.args in
-    rows_start (serializer (tags_to_skip (skip_of a.self.now.skip)) a.levels) a.opts c.requires.0 c.requires.1 c.next_row-r.ensures.later c.next_row-r.ensures.rows a.text.now.room.now a.text.now.len c.args.text.now.fits
+    (room_same a.text.now, rows_start (serializer (tags_to_skip (skip_of a.self.now.skip)) a.levels) a.opts c.requires.0 c.requires.1 c.next_row-r.ensures.later c.next_row-r.ensures.rows a.text.now.room.now a.text.now.len c.args.text.now.fits)
 
 pub cells-row-requires : goal.cells-row-requires
 cells-row-requires t c =
-    (falls_in c.args.levels c.decreases (lit< tt), (rows_row c.loop-r.invariant c.loop-r-test.true, (rows_reach c.loop-r.invariant, c.requires.2), c.requires.3))
+    (falls_in c.args.levels c.decreases (lit< tt), (rows_row c.loop-r.invariant.1 c.loop-r-test.true, c.requires.2, c.requires.3))
 
 pub cells-returns-in_err-row : goal.cells-returns-in_err-row
 cells-returns-in_err-row t c =
-    let p = c.loop-r.invariant in
+    let p = c.loop-r.invariant.1 in
     record {
       room = room_on (c.loop-r.invariant.0) (c.row.ensures.room);
       kept = rows_keep p c.loop-r-test.true c.row.ensures.kept;
-      rows_writes = λ rows x. stops_rows c.from_residual.ensures.0 (rows_stop p c.loop-r-test.true _ c.row.ensures.row_writes (ap (wrote c.row.new.text) c.in_err-row.was) _ _ rows x);
+      rows_writes = λ rows x. stops_rows (wrote_err _ _ c.from_residual.ensures.0) (rows_stop p c.loop-r-test.true _ c.row.ensures.row_writes (ap (wrote c.row.new.text) c.in_err-row.was) _ _ rows x);
     }
 
 pub cells-next_row-r-requires-in-loop-r : goal.cells-next_row-r-requires-in-loop-r
 cells-next_row-r-requires-in-loop-r t c =
-    rows_behind c.loop-r.invariant c.loop-r-test.true c.row.ensures.kept
+    rows_behind c.loop-r.invariant.1 c.loop-r-test.true c.row.ensures.kept
 
 pub cells-loop-r-smaller : goal.cells-loop-r-smaller
 cells-loop-r-smaller t c =
@@ -362,22 +361,18 @@ cells-loop-r-smaller t c =
 
 pub cells-loop-r-preserved : goal.cells-loop-r-preserved
 cells-loop-r-preserved t c =
-    rows_on c.loop-r.invariant c.loop-r-test.true _ c.row.ensures.row_writes (ap (wrote c.row.new.text) c.in_ok-row.was) c.row.ensures.kept _ c.next_row-r-in-loop-r.ensures.later c.next_row-r-in-loop-r.ensures.rows
+    (room_on c.loop-r.invariant.0 c.row.ensures.room, rows_on c.loop-r.invariant.1 c.loop-r-test.true _ c.row.ensures.row_writes (ap (wrote c.row.new.text) c.in_ok-row.was) c.row.ensures.kept _ c.next_row-r-in-loop-r.ensures.later c.next_row-r-in-loop-r.ensures.rows)
 
 pub cells-shape_of-nodes : goal.cells-shape_of-nodes
 cells-shape_of-nodes t c =
-    c.loop-r.invariant.kept.long
-
-pub cells-shape_of-text : goal.cells-shape_of-text
-cells-shape_of-text t c =
-    rows_long c.loop-r.invariant
+    c.loop-r.invariant.1.kept.long
 
 pub cells-returns : goal.cells-returns
 cells-returns t c =
     record {
       room = c.loop-r.invariant.0;
-      kept = c.loop-r.invariant.kept;
-      rows_writes = rows_end c.loop-r.invariant c.loop-r-test.false;
+      kept = c.loop-r.invariant.1.kept;
+      rows_writes = rows_end c.loop-r.invariant.1 c.loop-r-test.false;
     }
 
 pub child-node_place-place-requires : goal.child-node_place-place-requires
@@ -427,7 +422,7 @@ child-alone-requires t c =
 pub child-returns-then-tag : goal.child-returns-then-tag
 child-returns-then-tag t c =
     record {
-      room = (refl, refl);
+      room = room_same c.args.text.now;
       kept = kept_none c.args.nodes.now;
       goes_forest = child_comment c.args.self.now.sheet.now c.args.nodes.now c.args.c c.node_place-place.ensures (tags_to_skip (skip_of c.args.self.now.skip)) c.args.levels (item_of c.args.item) c.args.before.first c.args.before.due c.args.text.now.room.now c.args.text.now.len c.args.text.now.fits c.tag_at-tag.ensures c.if-tag.true;
     }
@@ -435,7 +430,7 @@ child-returns-then-tag t c =
 pub child-returns-then-node_is_skipped : goal.child-returns-then-node_is_skipped
 child-returns-then-node_is_skipped t c =
     record {
-      room = (refl, refl);
+      room = room_same c.args.text.now;
       kept = kept_none c.args.nodes.now;
       goes_forest = child_skipped c.args.self.now.sheet.now c.args.nodes.now c.args.c c.node_place-place.ensures (tags_to_skip (skip_of c.args.self.now.skip)) c.args.levels (item_of c.args.item) c.args.before.first c.args.before.due c.args.text.now.room.now c.args.text.now.len c.args.text.now.fits c.node_is_skipped.ensures c.if-node_is_skipped.true;
     }
@@ -458,87 +453,81 @@ child-returns t c =
 
 pub children-loop-c-init : goal.children-loop-c-init
 children-loop-c-init t c = (
-  c.args.text.now.fits,
-  refl,
+  room_same c.args.text.now,
   kept_none c.args.nodes.now,
   omega arith,
   c.requires.0,
-  going_first c.args.self.now.sheet.now c.args.nodes.now c.args.from c.args.to (self_at c.args.self.now.skip c.args.levels) (item_of c.args.item) c.args.text.now.room.now c.args.before c.args.text.now.fits,
+  going_first c.args.self.now.sheet.now c.args.nodes.now c.args.from c.args.to (self_at c.args.self.now.skip c.args.levels) (item_of c.args.item) c.args.text.now.room.now (at_text c.args.before c.args.text.now) c.args.text.now.fits,
 )
 
 pub children-child-requires : goal.children-child-requires
 children-child-requires t c =
     let l = c.loop-c in
     let lt = c.loop-c-test.true in (
-      child_falls c.args.levels c.decreases l.invariant.3 lt,
-      (node_kept l.invariant.2 (placeds_first l.invariant.4 lt), omega (arith, end_kept l.invariant.2 l.c, placeds_within l.invariant.4 lt), (l.invariant.0, c.requires.1), c.requires.2),
+      child_falls c.args.levels c.decreases l.invariant.2 lt,
+      (node_kept l.invariant.1 (placeds_first l.invariant.3 lt), omega (arith, end_kept l.invariant.1 l.c, placeds_within l.invariant.3 lt), c.requires.1, c.requires.2),
     )
 
 pub children-returns-in_err-going : goal.children-returns-in_err-going
 children-returns-in_err-going t c =
-    let kept_here : Kept c.args.from c.args.to c.args.nodes.now c.child.new.nodes = let l = c.loop-c in let lt = c.loop-c-test.true in kept_then l.invariant.2 (kept_in l.invariant.3 (omega (arith, end_kept l.invariant.2 l.c, placeds_within l.invariant.4 lt)) c.child.ensures.kept) in
-    let went_on_here : GoesForest c.args.self.now.sheet.now c.args.nodes.now c.loop-c.c (end_at c.args.nodes.now c.loop-c.c) (λ anc f. item_children (self_at c.args.self.now.skip c.args.levels) anc f (item_of c.args.item) (progress_of c.loop-c.going c.loop-c.text)) (length c.loop-c.text) c.child.new.text.room.now c.child.result = goes_before c.loop-c.invariant.2 c.child.ensures.goes_forest in
+    let kept_here : Kept c.args.from c.args.to c.args.nodes.now c.child.new.nodes = let l = c.loop-c in let lt = c.loop-c-test.true in kept_then l.invariant.1 (kept_in l.invariant.2 (omega (arith, end_kept l.invariant.1 l.c, placeds_within l.invariant.3 lt)) c.child.ensures.kept) in
+    let went_on_here : GoesForest c.args.self.now.sheet.now c.args.nodes.now c.loop-c.c (end_at c.args.nodes.now c.loop-c.c) (λ anc f. item_children (self_at c.args.self.now.skip c.args.levels) anc f (item_of c.args.item) (progress_on c.loop-c.going c.loop-c.text)) (length c.loop-c.text.room.now) c.child.new.text.room.now (gone c.child.new.text c.child.result) = goes_before c.loop-c.invariant.1 c.child.ensures.goes_forest in
     record {
       room = room_on (c.loop-c.invariant.0) (c.child.ensures.room);
       kept = kept_here;
-      goes_forest = stops_going c.from_residual.ensures.0 (record { for = λ parent f anc h a. going_stop c.loop-c.invariant.5 c.loop-c-test.true (went_on_here) c.in_err-going.was parent f anc h a });
+      goes_forest = stops_going (gone_err _ _ c.from_residual.ensures.0) (record { for = λ parent f anc h a. going_stop c.loop-c.invariant.4 c.loop-c-test.true (went_on_here) (ap (gone c.child.new.text) c.in_err-going.was) parent f anc h a });
     }
 
 pub children-node_end-c-requires : goal.children-node_end-c-requires
 children-node_end-c-requires t c =
-    let kept_here : Kept c.args.from c.args.to c.args.nodes.now c.child.new.nodes = let l = c.loop-c in let lt = c.loop-c-test.true in kept_then l.invariant.2 (kept_in l.invariant.3 (omega (arith, end_kept l.invariant.2 l.c, placeds_within l.invariant.4 lt)) c.child.ensures.kept) in
-    omega (arith, (placeds_at c.loop-c.invariant.4 c.loop-c-test.true).inside, (kept_here).long)
+    let kept_here : Kept c.args.from c.args.to c.args.nodes.now c.child.new.nodes = let l = c.loop-c in let lt = c.loop-c-test.true in kept_then l.invariant.1 (kept_in l.invariant.2 (omega (arith, end_kept l.invariant.1 l.c, placeds_within l.invariant.3 lt)) c.child.ensures.kept) in
+    omega (arith, (placeds_at c.loop-c.invariant.3 c.loop-c-test.true).inside, (kept_here).long)
 
 pub children-loop-c-smaller : goal.children-loop-c-smaller
 children-loop-c-smaller t c =
-    let kept_here : Kept c.args.from c.args.to c.args.nodes.now c.child.new.nodes = let l = c.loop-c in let lt = c.loop-c-test.true in kept_then l.invariant.2 (kept_in l.invariant.3 (omega (arith, end_kept l.invariant.2 l.c, placeds_within l.invariant.4 lt)) c.child.ensures.kept) in
-    omega (arith, placeds_later c.loop-c.invariant.4 c.loop-c-test.true, c.node_end-c.ensures, end_kept (kept_here) c.loop-c.c, c.loop-c-test.true)
+    let kept_here : Kept c.args.from c.args.to c.args.nodes.now c.child.new.nodes = let l = c.loop-c in let lt = c.loop-c-test.true in kept_then l.invariant.1 (kept_in l.invariant.2 (omega (arith, end_kept l.invariant.1 l.c, placeds_within l.invariant.3 lt)) c.child.ensures.kept) in
+    omega (arith, placeds_later c.loop-c.invariant.3 c.loop-c-test.true, c.node_end-c.ensures, end_kept (kept_here) c.loop-c.c, c.loop-c-test.true)
 
 pub children-loop-c-preserved : goal.children-loop-c-preserved
 children-loop-c-preserved t c =
-    let kept_here : Kept c.args.from c.args.to c.args.nodes.now c.child.new.nodes = let l = c.loop-c in let lt = c.loop-c-test.true in kept_then l.invariant.2 (kept_in l.invariant.3 (omega (arith, end_kept l.invariant.2 l.c, placeds_within l.invariant.4 lt)) c.child.ensures.kept) in
-    let went_on_here : GoesForest c.args.self.now.sheet.now c.args.nodes.now c.loop-c.c (end_at c.args.nodes.now c.loop-c.c) (λ anc f. item_children (self_at c.args.self.now.skip c.args.levels) anc f (item_of c.args.item) (progress_of c.loop-c.going c.loop-c.text)) (length c.loop-c.text) c.child.new.text.room.now c.child.result = goes_before c.loop-c.invariant.2 c.child.ensures.goes_forest in
+    let kept_here : Kept c.args.from c.args.to c.args.nodes.now c.child.new.nodes = let l = c.loop-c in let lt = c.loop-c-test.true in kept_then l.invariant.1 (kept_in l.invariant.2 (omega (arith, end_kept l.invariant.1 l.c, placeds_within l.invariant.3 lt)) c.child.ensures.kept) in
+    let went_on_here : GoesForest c.args.self.now.sheet.now c.args.nodes.now c.loop-c.c (end_at c.args.nodes.now c.loop-c.c) (λ anc f. item_children (self_at c.args.self.now.skip c.args.levels) anc f (item_of c.args.item) (progress_on c.loop-c.going c.loop-c.text)) (length c.loop-c.text.room.now) c.child.new.text.room.now (gone c.child.new.text c.child.result) = goes_before c.loop-c.invariant.1 c.child.ensures.goes_forest in
     let l = c.loop-c in
     let lt = c.loop-c-test.true in
     let K = kept_here in
     let q = c.node_end-c.ensures ∙ end_kept K l.c in
-    let a = (placeds_first l.invariant.4 lt).alone in
-    let d = (went c.in_ok-going.was ((went_on_here).for a.parent a.forest a.anc a.rep a.around)).0 in (
-      reaches d,
-      d.long ∙ l.invariant.1,
+    let a = (placeds_first l.invariant.3 lt).alone in
+    let d = (went (ap (gone c.child.new.text) c.in_ok-going.was) ((went_on_here).for a.parent a.forest a.anc a.rep a.around)).0 in (
+      room_on l.invariant.0 c.child.ensures.room,
       K,
-      omega (arith, placeds_later l.invariant.4 lt, l.invariant.3, q),
-      subst (λ (k : ℕ). Placeds c.args.self.now.sheet.now c.args.nodes.now k c.args.to) (sym q) (placeds_on l.invariant.4 lt),
-      going_on l.invariant.5 lt (went_on_here) q c.in_ok-going.was,
+      omega (arith, placeds_later l.invariant.3 lt, l.invariant.2, q),
+      subst (λ (k : ℕ). Placeds c.args.self.now.sheet.now c.args.nodes.now k c.args.to) (sym q) (placeds_on l.invariant.3 lt),
+      going_on l.invariant.4 lt (went_on_here) q (ap (gone c.child.new.text) c.in_ok-going.was),
     )
 
 pub children-returns : goal.children-returns
 children-returns t c =
     record {
       room = c.loop-c.invariant.0;
-      kept = c.loop-c.invariant.2;
-      goes_forest = record { for = λ parent f anc h a. going_last c.loop-c.invariant.5 c.loop-c-test.false parent f anc h a };
+      kept = c.loop-c.invariant.1;
+      goes_forest = record { for = λ parent f anc h a. going_last c.loop-c.invariant.4 c.loop-c-test.false parent f anc h a };
     }
 
 pub flat-start_item-requires : goal.flat-start_item-requires
 flat-start_item-requires t c =
-    (c.args.text.now.fits, fits_in c.args.levels c.args.ctx.now c.requires.2)
+    fits_in c.args.levels c.args.ctx.now c.requires.2
 
 pub flat-packed-bits-requires : goal.flat-packed-bits-requires
 flat-packed-bits-requires t c =
-    omega (arith, fits_item c.args.levels c.args.ctx.now c.start_item.new.ctx c.list_item-inner.result c.start_item.ensures.1 c.list_item-inner.ensures c.requires.2)
+    omega (arith, fits_item c.args.levels c.args.ctx.now c.start_item.new.ctx c.list_item.result c.start_item.ensures.1 c.list_item.ensures c.requires.2)
 
 pub flat-kids-requires : goal.flat-kids-requires
 flat-kids-requires t c =
-    (falls_in c.args.levels c.decreases (lit< tt), (c.requires.0, c.requires.1, fits_item c.args.levels c.args.ctx.now c.start_item.new.ctx (unpacked c.packed-bits.result) c.start_item.ensures.1 (c.packed-bits.ensures ∙ c.list_item-inner.ensures) c.requires.2))
-
-pub flat-push_linebreak-requires : goal.flat-push_linebreak-requires
-flat-push_linebreak-requires t c =
-    written-reaches c.kids.ensures.writes_element c.requires.0 (ap (wrote c.kids.new.text) c.in_ok-kids.was)
+    (falls_in c.args.levels c.decreases (lit< tt), (c.requires.0, c.requires.1, fits_item c.args.levels c.args.ctx.now c.start_item.new.ctx (unpacked c.packed-bits.result) c.start_item.ensures.1 (c.packed-bits.ensures ∙ c.list_item.ensures) c.requires.2))
 
 pub flat-returns : goal.flat-returns
 flat-returns t c =
-    let begun_here : (anc : Ancestors) (node : Forest) → let self = self_at c.args.self.now.skip c.args.levels in Owes (length c.args.text.now.room.now) c.start_item.new.text.room.now c.start_item.new.text.len (λ u. and_then (write_kids self anc (unpacked c.packed-bits.result) node u) (push (break_of c.start_item.new.ctx))) (write_list_item self anc node c.args.ctx.now (take c.args.text.now.len c.args.text.now.room.now)) = λ anc node. let self = self_at c.args.self.now.skip c.args.levels in owes_step (owes_all c.args.text.now.room.now c.args.text.now.len (write_list_item self anc node c.args.ctx.now) c.args.text.now.fits refl) (begin_item false c.args.ctx.now) (λ u. and_then (write_kids self anc (unpacked c.packed-bits.result) node u) (push (break_of c.start_item.new.ctx))) (item_parts self anc node c.args.ctx.now c.start_item.new.ctx (unpacked c.packed-bits.result) (take c.args.text.now.len c.args.text.now.room.now) c.start_item.ensures.1 (c.packed-bits.ensures ∙ c.list_item-inner.ensures)) (ap (wrote c.start_item.new.text) c.in_ok-start_item.was) c.start_item.ensures.0.writes in
+    let begun_here : (anc : Ancestors) (node : Forest) → let self = self_at c.args.self.now.skip c.args.levels in Owes (length c.args.text.now.room.now) c.start_item.new.text.room.now c.start_item.new.text.len (λ u. and_then (write_kids self anc (unpacked c.packed-bits.result) node u) (push (break_of c.start_item.new.ctx))) (write_list_item self anc node c.args.ctx.now (take c.args.text.now.len c.args.text.now.room.now)) = λ anc node. let self = self_at c.args.self.now.skip c.args.levels in owes_step (owes_all c.args.text.now.room.now c.args.text.now.len (write_list_item self anc node c.args.ctx.now) c.args.text.now.fits refl) (begin_item false c.args.ctx.now) (λ u. and_then (write_kids self anc (unpacked c.packed-bits.result) node u) (push (break_of c.start_item.new.ctx))) (item_parts self anc node c.args.ctx.now c.start_item.new.ctx (unpacked c.packed-bits.result) (take c.args.text.now.len c.args.text.now.room.now) c.start_item.ensures.1 (c.packed-bits.ensures ∙ c.list_item.ensures)) (ap (wrote c.start_item.new.text) c.in_ok-start_item.was) c.start_item.ensures.0.writes in
     let self = self_at c.args.self.now.skip c.args.levels in record {
       room = room_on (leaf_room c.start_item.ensures.0) (room_on (c.kids.ensures.room) (leaf_room c.push_linebreak.ensures));
       kept = c.kids.ensures.kept;
@@ -548,11 +537,11 @@ flat-returns t c =
 
 pub flat-returns-in_err-kids : goal.flat-returns-in_err-kids
 flat-returns-in_err-kids t c =
-    let begun_here : (anc : Ancestors) (node : Forest) → let self = self_at c.args.self.now.skip c.args.levels in Owes (length c.args.text.now.room.now) c.start_item.new.text.room.now c.start_item.new.text.len (λ u. and_then (write_kids self anc (unpacked c.packed-bits.result) node u) (push (break_of c.start_item.new.ctx))) (write_list_item self anc node c.args.ctx.now (take c.args.text.now.len c.args.text.now.room.now)) = λ anc node. let self = self_at c.args.self.now.skip c.args.levels in owes_step (owes_all c.args.text.now.room.now c.args.text.now.len (write_list_item self anc node c.args.ctx.now) c.args.text.now.fits refl) (begin_item false c.args.ctx.now) (λ u. and_then (write_kids self anc (unpacked c.packed-bits.result) node u) (push (break_of c.start_item.new.ctx))) (item_parts self anc node c.args.ctx.now c.start_item.new.ctx (unpacked c.packed-bits.result) (take c.args.text.now.len c.args.text.now.room.now) c.start_item.ensures.1 (c.packed-bits.ensures ∙ c.list_item-inner.ensures)) (ap (wrote c.start_item.new.text) c.in_ok-start_item.was) c.start_item.ensures.0.writes in
+    let begun_here : (anc : Ancestors) (node : Forest) → let self = self_at c.args.self.now.skip c.args.levels in Owes (length c.args.text.now.room.now) c.start_item.new.text.room.now c.start_item.new.text.len (λ u. and_then (write_kids self anc (unpacked c.packed-bits.result) node u) (push (break_of c.start_item.new.ctx))) (write_list_item self anc node c.args.ctx.now (take c.args.text.now.len c.args.text.now.room.now)) = λ anc node. let self = self_at c.args.self.now.skip c.args.levels in owes_step (owes_all c.args.text.now.room.now c.args.text.now.len (write_list_item self anc node c.args.ctx.now) c.args.text.now.fits refl) (begin_item false c.args.ctx.now) (λ u. and_then (write_kids self anc (unpacked c.packed-bits.result) node u) (push (break_of c.start_item.new.ctx))) (item_parts self anc node c.args.ctx.now c.start_item.new.ctx (unpacked c.packed-bits.result) (take c.args.text.now.len c.args.text.now.room.now) c.start_item.ensures.1 (c.packed-bits.ensures ∙ c.list_item.ensures)) (ap (wrote c.start_item.new.text) c.in_ok-start_item.was) c.start_item.ensures.0.writes in
     let self = self_at c.args.self.now.skip c.args.levels in record {
       room = room_on (leaf_room c.start_item.ensures.0) (c.kids.ensures.room);
       kept = c.kids.ensures.kept;
-      writes_element = stops_element c.from_residual-in_err-kids.ensures.0 (record { for = λ name attrs kids anc x a. owes_stop (begun_here anc (element name attrs kids nothing)) (write_kids self anc (unpacked c.packed-bits.result) (element name attrs kids nothing)) (push (break_of c.start_item.new.ctx)) refl (ap (wrote c.kids.new.text) c.in_err-kids.was) (c.kids.ensures.writes_element.for name attrs kids anc x a) });
+      writes_element = stops_element (wrote_err _ _ c.from_residual-in_err-kids.ensures.0) (record { for = λ name attrs kids anc x a. owes_stop (begun_here anc (element name attrs kids nothing)) (write_kids self anc (unpacked c.packed-bits.result) (element name attrs kids nothing)) (push (break_of c.start_item.new.ctx)) refl (ap (wrote c.kids.new.text) c.in_err-kids.was) (c.kids.ensures.writes_element.for name attrs kids anc x a) });
       ctx_value = c.start_item.ensures.1;
     }
 
@@ -561,7 +550,7 @@ flat-returns-in_err-start_item t c =
     let self = self_at c.args.self.now.skip c.args.levels in record {
       room = leaf_room c.start_item.ensures.0;
       kept = kept_none c.args.nodes.now;
-      writes_element = stops_element c.from_residual.ensures.0 (record {
+      writes_element = stops_element (wrote_err _ _ c.from_residual.ensures.0) (record {
         for = λ name attrs kids anc x a.
             both-full c.args.text.now.room.now c.args.text.now.len c.args.text.now.fits (write_list_item self anc (element name attrs kids nothing) c.args.ctx.now) (begin_item false c.args.ctx.now)
             (λ u. and_then (write_kids self anc (list_item c.start_item.new.ctx.opts) (element name attrs kids nothing) u) (push (break_of c.start_item.new.ctx)))
@@ -576,7 +565,7 @@ flow-indented-requires t c =
 
 pub flow-packed-bits-requires : goal.flow-packed-bits-requires
 flow-packed-bits-requires t c =
-    omega (arith, fits_alike c.list_item-inner.result c.args.item.ctx.opts c.args.levels (ap (λ (o : FormatOpts). o.offset) c.list_item-inner.ensures) c.requires.3.0)
+    omega (arith, fits_alike c.list_item.result c.args.item.ctx.opts c.args.levels (ap (λ (o : FormatOpts). o.offset) c.list_item.ensures) c.requires.3.0)
 
 pub flow-kids-requires : goal.flow-kids-requires
 flow-kids-requires t c = (
@@ -584,13 +573,9 @@ flow-kids-requires t c = (
   (
     c.requires.0,
     c.requires.2,
-    fits_alike (unpacked c.packed-bits.result) c.args.item.ctx.opts c.args.levels (ap (λ (o : FormatOpts). o.offset) (c.packed-bits.ensures ∙ c.list_item-inner.ensures)) c.requires.3.0,
+    fits_alike (unpacked c.packed-bits.result) c.args.item.ctx.opts c.args.levels (ap (λ (o : FormatOpts). o.offset) (c.packed-bits.ensures ∙ c.list_item.ensures)) c.requires.3.0,
   ),
 )
-
-pub flow-end_flow-requires : goal.flow-end_flow-requires
-flow-end_flow-requires t c =
-    element_reaches c.requires.0 c.kids.ensures.writes_element (ap (wrote c.kids.new.text) c.in_ok-kids.was)
 
 pub flow-returns-then-name-eq-PRE : goal.flow-returns-then-name-eq-PRE
 flow-returns-then-name-eq-PRE t c =
@@ -605,7 +590,7 @@ flow-returns t c =
     record {
       room = room_on (leaf_room c.push_heading_prefix.ensures) (room_on (c.kids.ensures.room) (leaf_room c.end_flow.ensures));
       kept = c.kids.ensures.kept;
-      writes_element = flow_done c.args.self.now.sheet.now c.args.nodes.now c.args.c c.requires.1 (self_at c.args.self.now.skip c.args.levels) (item_of c.args.item) c.if-name-eq-PRE.false c.args.text.now.room.now c.args.text.now.len c.args.text.now.fits c.push_heading_prefix.ensures.writes (ap (wrote c.push_heading_prefix.new.text) c.in_ok-push_heading_prefix.was) (c.packed-bits.ensures ∙ c.list_item-inner.ensures) c.kids.ensures.writes_element (ap (wrote c.kids.new.text) c.in_ok-kids.was) c.end_flow.ensures.writes;
+      writes_element = flow_done c.args.self.now.sheet.now c.args.nodes.now c.args.c c.requires.1 (self_at c.args.self.now.skip c.args.levels) (item_of c.args.item) c.if-name-eq-PRE.false c.args.text.now.room.now c.args.text.now.len c.args.text.now.fits c.push_heading_prefix.ensures.writes (ap (wrote c.push_heading_prefix.new.text) c.in_ok-push_heading_prefix.was) (c.packed-bits.ensures ∙ c.list_item.ensures) c.kids.ensures.writes_element (ap (wrote c.kids.new.text) c.in_ok-kids.was) c.end_flow.ensures.writes;
     }
 
 pub flow-returns-in_err-kids : goal.flow-returns-in_err-kids
@@ -613,7 +598,7 @@ flow-returns-in_err-kids t c =
     record {
       room = room_on (leaf_room c.push_heading_prefix.ensures) (c.kids.ensures.room);
       kept = c.kids.ensures.kept;
-      writes_element = stops_element c.from_residual-in_err-kids.ensures.0 (flow_full c.args.self.now.sheet.now c.args.nodes.now c.args.c c.requires.1 (self_at c.args.self.now.skip c.args.levels) (item_of c.args.item) c.if-name-eq-PRE.false c.args.text.now.room.now c.args.text.now.len c.args.text.now.fits c.push_heading_prefix.ensures.writes (ap (wrote c.push_heading_prefix.new.text) c.in_ok-push_heading_prefix.was) (c.packed-bits.ensures ∙ c.list_item-inner.ensures) c.kids.ensures.writes_element (ap (wrote c.kids.new.text) c.in_err-kids.was));
+      writes_element = stops_element (wrote_err _ _ c.from_residual-in_err-kids.ensures.0) (flow_full c.args.self.now.sheet.now c.args.nodes.now c.args.c c.requires.1 (self_at c.args.self.now.skip c.args.levels) (item_of c.args.item) c.if-name-eq-PRE.false c.args.text.now.room.now c.args.text.now.len c.args.text.now.fits c.push_heading_prefix.ensures.writes (ap (wrote c.push_heading_prefix.new.text) c.in_ok-push_heading_prefix.was) (c.packed-bits.ensures ∙ c.list_item.ensures) c.kids.ensures.writes_element (ap (wrote c.kids.new.text) c.in_err-kids.was));
     }
 
 pub flow-returns-in_err-push_heading_prefix : goal.flow-returns-in_err-push_heading_prefix
@@ -621,16 +606,16 @@ flow-returns-in_err-push_heading_prefix t c =
     record {
       room = leaf_room c.push_heading_prefix.ensures;
       kept = kept_none c.args.nodes.now;
-      writes_element = stops_element c.from_residual.ensures.0 (flow_none c.args.self.now.sheet.now c.args.nodes.now c.args.c c.requires.1 (self_at c.args.self.now.skip c.args.levels) (item_of c.args.item) c.if-name-eq-PRE.false c.args.text.now.room.now c.args.text.now.len c.args.text.now.fits c.push_heading_prefix.ensures.writes (ap (wrote c.push_heading_prefix.new.text) c.in_err-push_heading_prefix.was));
+      writes_element = stops_element (wrote_err _ _ c.from_residual.ensures.0) (flow_none c.args.self.now.sheet.now c.args.nodes.now c.args.c c.requires.1 (self_at c.args.self.now.skip c.args.levels) (item_of c.args.item) c.if-name-eq-PRE.false c.args.text.now.room.now c.args.text.now.len c.args.text.now.fits c.push_heading_prefix.ensures.writes (ap (wrote c.push_heading_prefix.new.text) c.in_err-push_heading_prefix.was));
     }
 
 pub indented-node_end-to-requires : goal.indented-node_end-to-requires
 indented-node_end-to-requires t c =
     (placed_node c.args.self.now.sheet.now c.args.nodes.now c.args.c c.requires.0).inside
 
-pub indented-packed-requires : goal.indented-packed-requires
-indented-packed-requires t c =
-    omega (arith, fits_alike c.include_node-inner.result c.args.item.ctx.opts c.args.levels (ap (λ (o : FormatOpts). o.offset) c.include_node-inner.ensures) c.requires.2.0)
+pub indented-packed-bits-requires : goal.indented-packed-bits-requires
+indented-packed-bits-requires t c =
+    omega (arith, fits_alike c.include_node.result c.args.item.ctx.opts c.args.levels (ap (λ (o : FormatOpts). o.offset) c.include_node.ensures) c.requires.2.0)
 
 pub indented-write_behind-requires : goal.indented-write_behind-requires
 indented-write_behind-requires t c = (
@@ -638,37 +623,37 @@ indented-write_behind-requires t c = (
   (
     node_range c.node_end-to.ensures (placed_alone c.args.self.now.sheet.now c.args.nodes.now c.args.c c.requires.0),
     c.requires.1,
-    fits_alike (unpacked c.packed.result) c.args.item.ctx.opts c.args.levels (ap (λ (o : FormatOpts). o.offset) (c.packed.ensures ∙ c.include_node-inner.ensures)) c.requires.2.0,
+    fits_alike (unpacked c.packed-bits.result) c.args.item.ctx.opts c.args.levels (ap (λ (o : FormatOpts). o.offset) (c.packed-bits.ensures ∙ c.include_node.ensures)) c.requires.2.0,
   ),
 )
 
 pub indented-push_indented-requires : goal.indented-push_indented-requires
 indented-push_indented-requires t c =
-    indented_fits (tags_to_skip (skip_of c.args.self.now.skip)) c.args.levels (item_of c.args.item) c.node_end-to.ensures (c.packed.ensures ∙ c.include_node-inner.ensures) c.args.text.now.room.now c.args.text.now.len c.args.text.now.fits c.write_behind.ensures.writes_forest c.requires.0 c.in_ok-n.was
+    indented_fits (tags_to_skip (skip_of c.args.self.now.skip)) c.args.levels (item_of c.args.item) c.node_end-to.ensures (c.packed-bits.ensures ∙ c.include_node.ensures) c.args.text.now.room.now c.args.text.now.len c.args.text.now.fits c.write_behind.ensures.writes_forest c.requires.0 c.in_ok-n.was
 
 pub indented-returns : goal.indented-returns
 indented-returns t c =
     record {
-      room = room_on (room_behind c.args.text.now c.write_behind.auto.room) (leaf_room c.push_indented.ensures);
+      room = room_on (room_behind _ refl refl c.write_behind.auto.room) (leaf_room c.push_indented.ensures);
       kept = subst (λ (k : ℕ). Kept c.args.c k c.args.nodes.now c.write_behind.new.nodes) c.node_end-to.ensures c.write_behind.ensures.kept;
-      writes_element = indented_done (tags_to_skip (skip_of c.args.self.now.skip)) c.args.levels (item_of c.args.item) c.node_end-to.ensures (c.packed.ensures ∙ c.include_node-inner.ensures) c.args.text.now.room.now c.args.text.now.len c.args.text.now.fits c.write_behind.ensures.writes_forest c.in_ok-n.was c.push_indented.ensures.writes;
+      writes_element = indented_done (tags_to_skip (skip_of c.args.self.now.skip)) c.args.levels (item_of c.args.item) c.node_end-to.ensures (c.packed-bits.ensures ∙ c.include_node.ensures) c.args.text.now.room.now c.args.text.now.len c.args.text.now.fits c.write_behind.ensures.writes_forest c.in_ok-n.was c.push_indented.ensures.writes;
     }
 
 pub indented-returns-in_err-n : goal.indented-returns-in_err-n
 indented-returns-in_err-n t c =
     record {
-      room = room_behind c.args.text.now c.write_behind.auto.room;
+      room = room_behind _ refl refl c.write_behind.auto.room;
       kept = subst (λ (k : ℕ). Kept c.args.c k c.args.nodes.now c.write_behind.new.nodes) c.node_end-to.ensures c.write_behind.ensures.kept;
-      writes_element = stops_element c.from_residual.ensures.0 (indented_full (tags_to_skip (skip_of c.args.self.now.skip)) c.args.levels (item_of c.args.item) c.node_end-to.ensures (c.packed.ensures ∙ c.include_node-inner.ensures) c.args.text.now.room.now c.args.text.now.len c.args.text.now.fits c.write_behind.ensures.writes_forest c.in_err-n.was);
+      writes_element = stops_element (wrote_err _ _ c.from_residual.ensures.0) (indented_full (tags_to_skip (skip_of c.args.self.now.skip)) c.args.levels (item_of c.args.item) c.node_end-to.ensures (c.packed-bits.ensures ∙ c.include_node.ensures) c.args.text.now.room.now c.args.text.now.len c.args.text.now.fits c.write_behind.ensures.writes_forest c.in_err-n.was);
     }
 
 pub inline-node_end-to-requires : goal.inline-node_end-to-requires
 inline-node_end-to-requires t c =
     (placeds_at c.requires.0.alone c.requires.0.later).inside
 
-pub inline-packed-requires : goal.inline-packed-requires
-inline-packed-requires t c =
-    omega (arith, fits_alike c.child_opts-inner.result c.args.item.ctx.opts c.args.levels (ap (λ (o : FormatOpts). o.offset) c.child_opts-inner.ensures ∙ child_offset c.args.name c.args.item.ctx.opts) c.requires.3.0)
+pub inline-packed-bits-requires : goal.inline-packed-bits-requires
+inline-packed-bits-requires t c =
+    omega (arith, fits_alike c.child_opts.result c.args.item.ctx.opts c.args.levels (ap (λ (o : FormatOpts). o.offset) c.child_opts.ensures ∙ child_offset c.args.name c.args.item.ctx.opts) c.requires.3.0)
 
 pub inline-write-requires : goal.inline-write-requires
 inline-write-requires t c = (
@@ -676,7 +661,7 @@ inline-write-requires t c = (
   (
     node_range c.node_end-to.ensures c.requires.0,
     c.requires.2,
-    fits_alike (unpacked c.packed.result) c.args.item.ctx.opts c.args.levels (ap (λ (o : FormatOpts). o.offset) (c.packed.ensures ∙ c.child_opts-inner.ensures) ∙ child_offset c.args.name c.args.item.ctx.opts) c.requires.3.0,
+    fits_alike (unpacked c.packed-bits.result) c.args.item.ctx.opts c.args.levels (ap (λ (o : FormatOpts). o.offset) (c.packed-bits.ensures ∙ c.child_opts.ensures) ∙ child_offset c.args.name c.args.item.ctx.opts) c.requires.3.0,
   ),
 )
 
@@ -685,7 +670,7 @@ inline-returns t c =
     record {
       room = room_on (leaf_room c.push_inline_lead.ensures) (c.write.ensures.room);
       kept = subst (λ (k : ℕ). Kept c.args.c k c.args.nodes.now c.write.new.nodes) c.node_end-to.ensures c.write.ensures.kept;
-      writes_forest = inline_done c.args.self.now.sheet.now c.args.nodes.now c.args.c c.requires.1 (tags_to_skip (skip_of c.args.self.now.skip)) c.args.levels (item_of c.args.item) c.args.blank c.requires.0.later c.args.text.now.room.now c.args.text.now.len c.args.text.now.fits c.push_inline_lead.ensures.writes (ap (wrote c.push_inline_lead.new.text) c.in_ok-push_inline_lead.was) c.node_end-to.ensures (c.packed.ensures ∙ c.child_opts-inner.ensures) c.write.ensures.writes_forest;
+      writes_forest = inline_done c.args.self.now.sheet.now c.args.nodes.now c.args.c c.requires.1 (tags_to_skip (skip_of c.args.self.now.skip)) c.args.levels (item_of c.args.item) c.args.blank c.requires.0.later c.args.text.now.room.now c.args.text.now.len c.args.text.now.fits c.push_inline_lead.ensures.writes (ap (wrote c.push_inline_lead.new.text) c.in_ok-push_inline_lead.was) c.node_end-to.ensures (c.packed-bits.ensures ∙ c.child_opts.ensures) c.write.ensures.writes_forest;
     }
 
 pub inline-returns-in_err-push_inline_lead : goal.inline-returns-in_err-push_inline_lead
@@ -693,7 +678,7 @@ inline-returns-in_err-push_inline_lead t c =
     record {
       room = leaf_room c.push_inline_lead.ensures;
       kept = kept_none c.args.nodes.now;
-      writes_forest = stops_forest c.from_residual.ensures.0 (inline_none c.args.self.now.sheet.now c.args.nodes.now c.args.c c.requires.1 (tags_to_skip (skip_of c.args.self.now.skip)) c.args.levels (item_of c.args.item) c.args.blank c.requires.0.later c.args.text.now.room.now c.args.text.now.len c.args.text.now.fits c.push_inline_lead.ensures.writes (ap (wrote c.push_inline_lead.new.text) c.in_err-push_inline_lead.was));
+      writes_forest = stops_forest (wrote_err _ _ c.from_residual.ensures.0) (inline_none c.args.self.now.sheet.now c.args.nodes.now c.args.c c.requires.1 (tags_to_skip (skip_of c.args.self.now.skip)) c.args.levels (item_of c.args.item) c.args.blank c.requires.0.later c.args.text.now.room.now c.args.text.now.len c.args.text.now.fits c.push_inline_lead.ensures.writes (ap (wrote c.push_inline_lead.new.text) c.in_err-push_inline_lead.was));
     }
 
 pub inside-node_name-name-requires : goal.inside-node_name-name-requires
@@ -708,8 +693,8 @@ pub inside-write_element-requires-then-flags-has_writer : goal.inside-write_elem
 inside-write_element-requires-then-flags-has_writer t c =
     (falls_in c.args.levels c.decreases (lit< tt), (c.requires.0, c.node_name-name.ensures, c.requires.1, c.requires.2))
 
-pub inside-returns-then-name-A : goal.inside-returns-then-name-A
-inside-returns-then-name-A t c =
+pub inside-returns-then-name-lt-A : goal.inside-returns-then-name-lt-A
+inside-returns-then-name-lt-A t c =
     let by_writer_here : (name : Bytes) (attrs : List Attr) (kids : Forest) (anc : Ancestors) → ElementAt c.args.self.now.sheet.now c.args.nodes.now c.args.at name attrs kids → in_element (self_at c.args.self.now.skip c.args.levels) anc (unpacked c.args.bits) name attrs kids (take c.args.text.now.len c.args.text.now.room.now) ≡ write_element (self_at c.args.self.now.skip c.args.levels) anc (unpacked c.args.bits) name attrs kids (take c.args.text.now.len c.args.text.now.room.now) = λ name attrs kids anc x. let a = c.args in let u = c.unpacked-flags in subst (λ (o : FormatOpts). in_element (self_at a.self.now.skip a.levels) anc o name attrs kids (take a.text.now.len a.text.now.room.now) ≡ write_element (self_at a.self.now.skip a.levels) anc o name attrs kids (take a.text.now.len a.text.now.room.now)) u.ensures (inside_writer (self_at a.self.now.skip a.levels) anc u.result name attrs kids (take a.text.now.len a.text.now.room.now) (ap (λ (k : ℕ). not u.result.skip_md && has_writer u.result k) (sym (c.node_name-name.ensures ∙ element_name x)) ∙ ap (λ (b : Bool). not u.result.skip_md && b) (sym c.has_writer.ensures) ∙ c.if-flags-has_writer.true)) in
     record {
       room = c.write_element.ensures.room;
@@ -738,17 +723,13 @@ pub inside-siblings-requires : goal.inside-siblings-requires
 inside-siblings-requires t c =
     (falls_in c.args.levels c.decreases (lit< tt), (placed_kids c.args.self.now.sheet.now c.args.nodes.now c.args.at c.requires.0 c.node_end-to.ensures, c.requires.1, omega (arith, c.requires.2)))
 
-pub inside-closed-requires : goal.inside-closed-requires
-inside-closed-requires t c =
-    forest-reaches c.siblings.ensures.writes_forest (placed_kids c.args.self.now.sheet.now c.args.nodes.now c.args.at c.requires.0 c.node_end-to.ensures) (ap (wrote c.siblings.new.text) c.in_ok-siblings.was)
-
 pub inside-returns-in_err-siblings : goal.inside-returns-in_err-siblings
 inside-returns-in_err-siblings t c =
     let plain_here : (name : Bytes) (attrs : List Attr) (kids : Forest) (anc : Ancestors) → ElementAt c.args.self.now.sheet.now c.args.nodes.now c.args.at name attrs kids → in_element (self_at c.args.self.now.skip c.args.levels) anc (unpacked c.args.bits) name attrs kids (take c.args.text.now.len c.args.text.now.room.now) ≡ and_then ((self_at c.args.self.now.skip c.args.levels).below (attrs ∷ anc) (unpacked c.args.bits) kids (take c.args.text.now.len c.args.text.now.room.now)) (closed (unpacked c.args.bits) (tag_of name)) = λ name attrs kids anc x. let a = c.args in let u = c.unpacked-flags in subst (λ (o : FormatOpts). in_element (self_at a.self.now.skip a.levels) anc o name attrs kids (take a.text.now.len a.text.now.room.now) ≡ and_then ((self_at a.self.now.skip a.levels).below (attrs ∷ anc) o kids (take a.text.now.len a.text.now.room.now)) (closed o (tag_of name))) u.ensures (inside_plain (self_at a.self.now.skip a.levels) anc u.result name attrs kids (take a.text.now.len a.text.now.room.now) (ap (λ (k : ℕ). not u.result.skip_md && has_writer u.result k) (sym (c.node_name-name.ensures ∙ element_name x)) ∙ ap (λ (b : Bool). not u.result.skip_md && b) (sym c.has_writer.ensures) ∙ c.if-flags-has_writer.false)) in
     let a = c.args in record {
       room = c.siblings.ensures.room;
       kept = kept_in (omega arith) (omega (arith, c.node_end-to.ensures)) c.siblings.ensures.kept;
-      writes_element = stops_element c.from_residual.ensures.0 (record { for = λ name attrs kids anc x h. both-full a.text.now.room.now a.text.now.len c.args.text.now.fits (in_element (self_at a.self.now.skip a.levels) anc (unpacked a.bits) name attrs kids) ((self_at a.self.now.skip a.levels).below (attrs ∷ anc) (unpacked a.bits) kids) (closed (unpacked a.bits) (tag_of name)) (plain_here _ _ _ anc x) (below-wrote a.self.now.skip a.levels (unpacked a.bits) anc x h c.node_end-to.ensures c.siblings.ensures.writes_forest) (ap (wrote c.siblings.new.text) c.in_err-siblings.was) });
+      writes_element = stops_element (wrote_err _ _ c.from_residual.ensures.0) (record { for = λ name attrs kids anc x h. both-full a.text.now.room.now a.text.now.len c.args.text.now.fits (in_element (self_at a.self.now.skip a.levels) anc (unpacked a.bits) name attrs kids) ((self_at a.self.now.skip a.levels).below (attrs ∷ anc) (unpacked a.bits) kids) (closed (unpacked a.bits) (tag_of name)) (plain_here _ _ _ anc x) (below-wrote a.self.now.skip a.levels (unpacked a.bits) anc x h c.node_end-to.ensures c.siblings.ensures.writes_forest) (ap (wrote c.siblings.new.text) c.in_err-siblings.was) });
     }
 
 pub inside-returns : goal.inside-returns
@@ -759,8 +740,8 @@ inside-returns t c =
       kept = kept_in (omega arith) (omega (arith, c.node_end-to.ensures)) c.siblings.ensures.kept;
       writes_element = record {
         for = λ name attrs kids anc x h. both-done a.text.now.room.now a.text.now.len c.args.text.now.fits (in_element (self_at a.self.now.skip a.levels) anc (unpacked a.bits) name attrs kids) ((self_at a.self.now.skip a.levels).below (attrs ∷ anc) (unpacked a.bits) kids) (closed (unpacked a.bits) (tag_of name)) (plain_here _ _ _ anc x) (below-wrote a.self.now.skip a.levels (unpacked a.bits) anc x h c.node_end-to.ensures c.siblings.ensures.writes_forest) (ap (wrote c.siblings.new.text) c.in_ok-siblings.was)
-            (subst (λ (o : FormatOpts). Writes (length c.siblings.new.text) c.closed.new.text.room.now c.closed.result (closed o (tag_of name) (take c.siblings.new.text.len c.siblings.new.text))) c.unpacked.ensures
-            (subst (λ (k : ℕ). Writes (length c.siblings.new.text) c.closed.new.text.room.now c.closed.result (closed c.unpacked.result k (take c.siblings.new.text.len c.siblings.new.text))) (c.node_name-name.ensures ∙ element_name x) c.closed.ensures.writes));
+            (subst (λ (o : FormatOpts). Writes (length c.siblings.new.text.room.now) c.closed.new.text.room.now (wrote c.closed.new.text c.closed.result) (closed o (tag_of name) (take c.siblings.new.text.len c.siblings.new.text.room.now))) c.unpacked.ensures
+            (subst (λ (k : ℕ). Writes (length c.siblings.new.text.room.now) c.closed.new.text.room.now (wrote c.closed.new.text c.closed.result) (closed c.unpacked.result k (take c.siblings.new.text.len c.siblings.new.text.room.now))) (c.node_name-name.ensures ∙ element_name x) c.closed.ensures.writes));
       };
     }
 
@@ -824,7 +805,7 @@ pub item-returns-then-has_blocks : goal.item-returns-then-has_blocks
 item-returns-then-has_blocks t c =
     let named_here : name_at c.args.self.now.sheet.now (place_at c.args.nodes.now c.args.c) ≡ 16 = eqb-true (name_at c.args.self.now.sheet.now (place_at c.args.nodes.now c.args.c)) 16 (sym c.requires.1 ∙ c.if-not-li.false) in
     let a = c.args in record {
-      room = c.blocks.ensures.room;
+      room = c.blocks-then-has_blocks.ensures.room;
       kept = c.blocks-then-has_blocks.ensures.kept;
       writes_forest = head_item c.requires.0 (named_here) (self_at a.self.now.skip a.levels) a.ctx.now true c.node_end-to.ensures (λ parent f h. sym c.if-has_blocks.true ∙ c.has_blocks.ensures parent f h) c.blocks-then-has_blocks.ensures.writes_element;
       ctx_value = c.blocks-then-has_blocks.ensures.ctx_value ∙ sym (ap (λ (b : Bool). cond b (advance_ol_number a.ctx.now) a.ctx.now) (c.if-not-li.false));
@@ -842,8 +823,7 @@ item-returns t c =
 
 pub items-loop-c-init : goal.items-loop-c-init
 items-loop-c-init t c = (
-  c.args.text.now.fits,
-  refl,
+  room_same c.args.text.now,
   kept_none c.args.nodes.now,
   omega arith,
   c.requires.0,
@@ -853,82 +833,81 @@ items-loop-c-init t c = (
 
 pub items-node_place-place-requires : goal.items-node_place-place-requires
 items-node_place-place-requires t c =
-    let here_here : PlacedNode c.args.self.now.sheet.now c.loop-c.nodes c.loop-c.c = node_kept c.loop-c.invariant.2 (placeds_first c.loop-c.invariant.4 c.loop-c-test.true) in
+    let here_here : PlacedNode c.args.self.now.sheet.now c.loop-c.nodes c.loop-c.c = node_kept c.loop-c.invariant.1 (placeds_first c.loop-c.invariant.3 c.loop-c-test.true) in
     let node_here : NodeAt c.args.self.now.sheet.now c.loop-c.nodes c.loop-c.c = placeds_at (here_here).alone (here_here).later in
     (node_here).inside
 
 pub items-node_name-li-requires : goal.items-node_name-li-requires
 items-node_name-li-requires t c =
-    let here_here : PlacedNode c.args.self.now.sheet.now c.loop-c.nodes c.loop-c.c = node_kept c.loop-c.invariant.2 (placeds_first c.loop-c.invariant.4 c.loop-c-test.true) in
+    let here_here : PlacedNode c.args.self.now.sheet.now c.loop-c.nodes c.loop-c.c = node_kept c.loop-c.invariant.1 (placeds_first c.loop-c.invariant.3 c.loop-c-test.true) in
     let node_here : NodeAt c.args.self.now.sheet.now c.loop-c.nodes c.loop-c.c = placeds_at (here_here).alone (here_here).later in
     node_here
 
 pub items-renumbered-ctx-requires : goal.items-renumbered-ctx-requires
 items-renumbered-ctx-requires t c =
-    let here_here : PlacedNode c.args.self.now.sheet.now c.loop-c.nodes c.loop-c.c = node_kept c.loop-c.invariant.2 (placeds_first c.loop-c.invariant.4 c.loop-c-test.true) in
+    let here_here : PlacedNode c.args.self.now.sheet.now c.loop-c.nodes c.loop-c.c = node_kept c.loop-c.invariant.1 (placeds_first c.loop-c.invariant.3 c.loop-c-test.true) in
     let node_here : NodeAt c.args.self.now.sheet.now c.loop-c.nodes c.loop-c.c = placeds_at (here_here).alone (here_here).later in
     omega (arith, c.node_place-place.ensures, (node_here).placed)
 
 pub items-item-requires : goal.items-item-requires
 items-item-requires t c =
-    let here_here : PlacedNode c.args.self.now.sheet.now c.loop-c.nodes c.loop-c.c = node_kept c.loop-c.invariant.2 (placeds_first c.loop-c.invariant.4 c.loop-c-test.true) in
-    let fits_here : FitsIn c.renumbered-ctx.result c.args.levels = fits_child c.args.levels (eqb c.node_name-li.result 16) (number_of (attr (ascii "value") (attrs_behind c.args.self.now.sheet.now c.node_place-place.result))) c.loop-c.ctx c.renumbered-ctx.result c.renumbered-ctx.ensures c.loop-c.invariant.5 in
-    (falls_in c.args.levels c.decreases (lit< tt), (here_here, ap (λ (k : ℕ). eqb k 16) c.node_name-li.ensures, (c.loop-c.invariant.0, c.requires.1), fits_here))
+    let here_here : PlacedNode c.args.self.now.sheet.now c.loop-c.nodes c.loop-c.c = node_kept c.loop-c.invariant.1 (placeds_first c.loop-c.invariant.3 c.loop-c-test.true) in
+    let fits_here : FitsIn c.renumbered-ctx.result c.args.levels = fits_child c.args.levels (eqb c.node_name-li.result 16) (number_of (attr (ascii "value") (attrs_behind c.args.self.now.sheet.now c.node_place-place.result))) c.loop-c.ctx c.renumbered-ctx.result c.renumbered-ctx.ensures c.loop-c.invariant.4 in
+    (falls_in c.args.levels c.decreases (lit< tt), (here_here, ap (λ (k : ℕ). eqb k 16) c.node_name-li.ensures, c.requires.1, fits_here))
 
 pub items-returns-in_err-item : goal.items-returns-in_err-item
 items-returns-in_err-item t c =
-    let kept_here : Kept c.args.from c.args.to c.args.nodes.now c.item.new.nodes = let l = c.loop-c in let lt = c.loop-c-test.true in kept_then l.invariant.2 (kept_in l.invariant.3 (omega (arith, end_kept l.invariant.2 l.c, placeds_within l.invariant.4 lt)) c.item.ensures.kept) in
-    let parts_here : (next : ListContext) → next ≡ cond (eqb c.node_name-li.result 16) (advance_ol_number c.renumbered-ctx.result) c.renumbered-ctx.result → (parent : ℕ) (anc : Ancestors) (g : Forest) → Rep c.args.self.now.sheet.now c.args.nodes.now parent c.loop-c.c c.args.to g → (u : Bytes) → list_children (self_at c.args.self.now.skip c.args.levels) anc g c.loop-c.ctx u ≡ and_then (list_head (self_at c.args.self.now.skip c.args.levels) anc (head_of g) c.renumbered-ctx.result u) (list_children (self_at c.args.self.now.skip c.args.levels) anc (rest_of g) next) = λ next b parent anc g h u. let l = c.loop-c in let k = place_kept l.invariant.2 l.c in list_first (self_at c.args.self.now.skip c.args.levels) anc l.ctx u c.args.self.now.sheet.now c.args.nodes.now parent l.c c.args.to g h c.loop-c-test.true c.node_place-place.result (eqb c.node_name-li.result 16) c.renumbered-ctx.result next (c.node_place-place.ensures ∙ k) (ap (λ (j : ℕ). eqb j 16) (c.node_name-li.ensures ∙ ap (name_at c.args.self.now.sheet.now) k)) c.renumbered-ctx.ensures b in
-    let wrote_here : WritesForest c.args.self.now.sheet.now c.args.nodes.now c.loop-c.c (end_at c.args.nodes.now c.loop-c.c) (λ anc f. list_head (self_at c.args.self.now.skip c.args.levels) anc f c.renumbered-ctx.result) (take c.loop-c.end c.loop-c.text) (length c.loop-c.text) c.item.new.text.room.now c.item.result = writes_before c.loop-c.invariant.2 c.item.ensures.writes_forest in
+    let kept_here : Kept c.args.from c.args.to c.args.nodes.now c.item.new.nodes = let l = c.loop-c in let lt = c.loop-c-test.true in kept_then l.invariant.1 (kept_in l.invariant.2 (omega (arith, end_kept l.invariant.1 l.c, placeds_within l.invariant.3 lt)) c.item.ensures.kept) in
+    let parts_here : (next : ListContext) → next ≡ cond (eqb c.node_name-li.result 16) (advance_ol_number c.renumbered-ctx.result) c.renumbered-ctx.result → (parent : ℕ) (anc : Ancestors) (g : Forest) → Rep c.args.self.now.sheet.now c.args.nodes.now parent c.loop-c.c c.args.to g → (u : Bytes) → list_children (self_at c.args.self.now.skip c.args.levels) anc g c.loop-c.ctx u ≡ and_then (list_head (self_at c.args.self.now.skip c.args.levels) anc (head_of g) c.renumbered-ctx.result u) (list_children (self_at c.args.self.now.skip c.args.levels) anc (rest_of g) next) = λ next b parent anc g h u. let l = c.loop-c in let k = place_kept l.invariant.1 l.c in list_first (self_at c.args.self.now.skip c.args.levels) anc l.ctx u c.args.self.now.sheet.now c.args.nodes.now parent l.c c.args.to g h c.loop-c-test.true c.node_place-place.result (eqb c.node_name-li.result 16) c.renumbered-ctx.result next (c.node_place-place.ensures ∙ k) (ap (λ (j : ℕ). eqb j 16) (c.node_name-li.ensures ∙ ap (name_at c.args.self.now.sheet.now) k)) c.renumbered-ctx.ensures b in
+    let wrote_here : WritesForest c.args.self.now.sheet.now c.args.nodes.now c.loop-c.c (end_at c.args.nodes.now c.loop-c.c) (λ anc f. list_head (self_at c.args.self.now.skip c.args.levels) anc f c.renumbered-ctx.result) (bytes c.loop-c.text) (length c.loop-c.text.room.now) c.item.new.text.room.now (wrote c.item.new.text c.item.result) = writes_before c.loop-c.invariant.1 c.item.ensures.writes_forest in
     let self = self_at c.args.self.now.skip c.args.levels in
     let next = cond (eqb c.node_name-li.result 16) (advance_ol_number c.renumbered-ctx.result) c.renumbered-ctx.result in record {
       room = room_on (c.loop-c.invariant.0) (c.item.ensures.room);
       kept = kept_here;
-      writes_forest = stops_forest c.from_residual.ensures.0 (record {
+      writes_forest = stops_forest (wrote_err _ _ c.from_residual.ensures.0) (record {
         for = λ parent f anc h a.
-            turn_stop c.loop-c.invariant.6 (λ anc f. list_head self anc f c.renumbered-ctx.result) (λ anc f. list_children self anc f next) (parts_here next refl) c.loop-c-test.true (wrote_here) (ap (wrote c.item.new.text) c.in_err-item.was) parent f anc h a;
+            turn_stop c.loop-c.invariant.5 (λ anc f. list_head self anc f c.renumbered-ctx.result) (λ anc f. list_children self anc f next) (parts_here next refl) c.loop-c-test.true (wrote_here) (ap (wrote c.item.new.text) c.in_err-item.was) parent f anc h a;
       });
     }
 
 pub items-node_end-c-requires : goal.items-node_end-c-requires
 items-node_end-c-requires t c =
-    let kept_here : Kept c.args.from c.args.to c.args.nodes.now c.item.new.nodes = let l = c.loop-c in let lt = c.loop-c-test.true in kept_then l.invariant.2 (kept_in l.invariant.3 (omega (arith, end_kept l.invariant.2 l.c, placeds_within l.invariant.4 lt)) c.item.ensures.kept) in
-    omega (arith, (placeds_at c.loop-c.invariant.4 c.loop-c-test.true).inside, (kept_here).long)
+    let kept_here : Kept c.args.from c.args.to c.args.nodes.now c.item.new.nodes = let l = c.loop-c in let lt = c.loop-c-test.true in kept_then l.invariant.1 (kept_in l.invariant.2 (omega (arith, end_kept l.invariant.1 l.c, placeds_within l.invariant.3 lt)) c.item.ensures.kept) in
+    omega (arith, (placeds_at c.loop-c.invariant.3 c.loop-c-test.true).inside, (kept_here).long)
 
 pub items-loop-c-smaller : goal.items-loop-c-smaller
 items-loop-c-smaller t c =
-    let kept_here : Kept c.args.from c.args.to c.args.nodes.now c.item.new.nodes = let l = c.loop-c in let lt = c.loop-c-test.true in kept_then l.invariant.2 (kept_in l.invariant.3 (omega (arith, end_kept l.invariant.2 l.c, placeds_within l.invariant.4 lt)) c.item.ensures.kept) in
-    omega (arith, placeds_later c.loop-c.invariant.4 c.loop-c-test.true, c.node_end-c.ensures, end_kept (kept_here) c.loop-c.c, c.loop-c-test.true)
+    let kept_here : Kept c.args.from c.args.to c.args.nodes.now c.item.new.nodes = let l = c.loop-c in let lt = c.loop-c-test.true in kept_then l.invariant.1 (kept_in l.invariant.2 (omega (arith, end_kept l.invariant.1 l.c, placeds_within l.invariant.3 lt)) c.item.ensures.kept) in
+    omega (arith, placeds_later c.loop-c.invariant.3 c.loop-c-test.true, c.node_end-c.ensures, end_kept (kept_here) c.loop-c.c, c.loop-c-test.true)
 
 pub items-loop-c-preserved : goal.items-loop-c-preserved
 items-loop-c-preserved t c =
-    let kept_here : Kept c.args.from c.args.to c.args.nodes.now c.item.new.nodes = let l = c.loop-c in let lt = c.loop-c-test.true in kept_then l.invariant.2 (kept_in l.invariant.3 (omega (arith, end_kept l.invariant.2 l.c, placeds_within l.invariant.4 lt)) c.item.ensures.kept) in
-    let here_here : PlacedNode c.args.self.now.sheet.now c.loop-c.nodes c.loop-c.c = node_kept c.loop-c.invariant.2 (placeds_first c.loop-c.invariant.4 c.loop-c-test.true) in
-    let fits_here : FitsIn c.renumbered-ctx.result c.args.levels = fits_child c.args.levels (eqb c.node_name-li.result 16) (number_of (attr (ascii "value") (attrs_behind c.args.self.now.sheet.now c.node_place-place.result))) c.loop-c.ctx c.renumbered-ctx.result c.renumbered-ctx.ensures c.loop-c.invariant.5 in
-    let parts_here : (next : ListContext) → next ≡ cond (eqb c.node_name-li.result 16) (advance_ol_number c.renumbered-ctx.result) c.renumbered-ctx.result → (parent : ℕ) (anc : Ancestors) (g : Forest) → Rep c.args.self.now.sheet.now c.args.nodes.now parent c.loop-c.c c.args.to g → (u : Bytes) → list_children (self_at c.args.self.now.skip c.args.levels) anc g c.loop-c.ctx u ≡ and_then (list_head (self_at c.args.self.now.skip c.args.levels) anc (head_of g) c.renumbered-ctx.result u) (list_children (self_at c.args.self.now.skip c.args.levels) anc (rest_of g) next) = λ next b parent anc g h u. let l = c.loop-c in let k = place_kept l.invariant.2 l.c in list_first (self_at c.args.self.now.skip c.args.levels) anc l.ctx u c.args.self.now.sheet.now c.args.nodes.now parent l.c c.args.to g h c.loop-c-test.true c.node_place-place.result (eqb c.node_name-li.result 16) c.renumbered-ctx.result next (c.node_place-place.ensures ∙ k) (ap (λ (j : ℕ). eqb j 16) (c.node_name-li.ensures ∙ ap (name_at c.args.self.now.sheet.now) k)) c.renumbered-ctx.ensures b in
-    let wrote_here : WritesForest c.args.self.now.sheet.now c.args.nodes.now c.loop-c.c (end_at c.args.nodes.now c.loop-c.c) (λ anc f. list_head (self_at c.args.self.now.skip c.args.levels) anc f c.renumbered-ctx.result) (take c.loop-c.end c.loop-c.text) (length c.loop-c.text) c.item.new.text.room.now c.item.result = writes_before c.loop-c.invariant.2 c.item.ensures.writes_forest in
+    let kept_here : Kept c.args.from c.args.to c.args.nodes.now c.item.new.nodes = let l = c.loop-c in let lt = c.loop-c-test.true in kept_then l.invariant.1 (kept_in l.invariant.2 (omega (arith, end_kept l.invariant.1 l.c, placeds_within l.invariant.3 lt)) c.item.ensures.kept) in
+    let here_here : PlacedNode c.args.self.now.sheet.now c.loop-c.nodes c.loop-c.c = node_kept c.loop-c.invariant.1 (placeds_first c.loop-c.invariant.3 c.loop-c-test.true) in
+    let fits_here : FitsIn c.renumbered-ctx.result c.args.levels = fits_child c.args.levels (eqb c.node_name-li.result 16) (number_of (attr (ascii "value") (attrs_behind c.args.self.now.sheet.now c.node_place-place.result))) c.loop-c.ctx c.renumbered-ctx.result c.renumbered-ctx.ensures c.loop-c.invariant.4 in
+    let parts_here : (next : ListContext) → next ≡ cond (eqb c.node_name-li.result 16) (advance_ol_number c.renumbered-ctx.result) c.renumbered-ctx.result → (parent : ℕ) (anc : Ancestors) (g : Forest) → Rep c.args.self.now.sheet.now c.args.nodes.now parent c.loop-c.c c.args.to g → (u : Bytes) → list_children (self_at c.args.self.now.skip c.args.levels) anc g c.loop-c.ctx u ≡ and_then (list_head (self_at c.args.self.now.skip c.args.levels) anc (head_of g) c.renumbered-ctx.result u) (list_children (self_at c.args.self.now.skip c.args.levels) anc (rest_of g) next) = λ next b parent anc g h u. let l = c.loop-c in let k = place_kept l.invariant.1 l.c in list_first (self_at c.args.self.now.skip c.args.levels) anc l.ctx u c.args.self.now.sheet.now c.args.nodes.now parent l.c c.args.to g h c.loop-c-test.true c.node_place-place.result (eqb c.node_name-li.result 16) c.renumbered-ctx.result next (c.node_place-place.ensures ∙ k) (ap (λ (j : ℕ). eqb j 16) (c.node_name-li.ensures ∙ ap (name_at c.args.self.now.sheet.now) k)) c.renumbered-ctx.ensures b in
+    let wrote_here : WritesForest c.args.self.now.sheet.now c.args.nodes.now c.loop-c.c (end_at c.args.nodes.now c.loop-c.c) (λ anc f. list_head (self_at c.args.self.now.skip c.args.levels) anc f c.renumbered-ctx.result) (bytes c.loop-c.text) (length c.loop-c.text.room.now) c.item.new.text.room.now (wrote c.item.new.text c.item.result) = writes_before c.loop-c.invariant.1 c.item.ensures.writes_forest in
     let l = c.loop-c in
     let lt = c.loop-c-test.true in
     let K = kept_here in
     let q = c.node_end-c.ensures ∙ end_kept K l.c in
     let self = self_at c.args.self.now.skip c.args.levels in (
-      forest-reaches c.item.ensures.writes_forest (here_here).alone (ap (wrote c.item.new.text) c.in_ok-item.was),
-      forest-long c.item.ensures.writes_forest (here_here).alone (ap (wrote c.item.new.text) c.in_ok-item.was) ∙ l.invariant.1,
+      room_on l.invariant.0 c.item.ensures.room,
       K,
-      omega (arith, placeds_later l.invariant.4 lt, l.invariant.3, q),
-      subst (λ (k : ℕ). Placeds c.args.self.now.sheet.now c.args.nodes.now k c.args.to) (sym q) (placeds_on l.invariant.4 lt),
+      omega (arith, placeds_later l.invariant.3 lt, l.invariant.2, q),
+      subst (λ (k : ℕ). Placeds c.args.self.now.sheet.now c.args.nodes.now k c.args.to) (sym q) (placeds_on l.invariant.3 lt),
       fits_behind c.args.levels (eqb c.node_name-li.result 16) c.renumbered-ctx.result c.item.new.ctx c.item.ensures.ctx_value (fits_here),
-      turn_on l.invariant.6 (λ anc f. list_head self anc f c.renumbered-ctx.result) (λ anc f. list_children self anc f c.item.new.ctx) (parts_here c.item.new.ctx c.item.ensures.ctx_value) lt (wrote_here) q (ap (wrote c.item.new.text) c.in_ok-item.was),
+      turn_on l.invariant.5 (λ anc f. list_head self anc f c.renumbered-ctx.result) (λ anc f. list_children self anc f c.item.new.ctx) (parts_here c.item.new.ctx c.item.ensures.ctx_value) lt (wrote_here) q (ap (wrote c.item.new.text) c.in_ok-item.was),
     )
 
 pub items-returns : goal.items-returns
 items-returns t c =
     let l = c.loop-c in record {
       room = c.loop-c.invariant.0;
-      kept = l.invariant.2;
+      kept = l.invariant.1;
       writes_forest = record {
         for = λ parent f anc h a.
-            turn_last l.invariant.6 c.loop-c-test.false (λ anc u. list_none (self_at c.args.self.now.skip c.args.levels) anc l.ctx u) parent f anc h a;
+            turn_last l.invariant.5 c.loop-c-test.false (λ anc u. list_none (self_at c.args.self.now.skip c.args.levels) anc l.ctx u) parent f anc h a;
       };
     }
 
@@ -951,13 +930,13 @@ kids-overflow_add-at-then-levels-is_one_text t c =
 
 pub kids-trim_behind_text-requires : goal.kids-trim_behind_text-requires
 kids-trim_behind_text-requires t c =
-    (placeds_at (placed_kids c.args.self.now.sheet.now c.args.nodes.now c.args.at c.requires.0 c.node_end-to.ensures) (omega (arith, (c.is_one_text.ensures (some_one c.args.levels c.is_one_text.result c.if-levels-is_one_text.true).1).0)), c.args.text.now.fits)
+    placeds_at (placed_kids c.args.self.now.sheet.now c.args.nodes.now c.args.at c.requires.0 c.node_end-to.ensures) (omega (arith, (c.is_one_text.ensures (some_one c.args.levels c.is_one_text.result c.if-levels-is_one_text.true).1).0))
 
 pub kids-returns-then-levels-is_one_text : goal.kids-returns-then-levels-is_one_text
 unfolding serializer
 kids-returns-then-levels-is_one_text t c =
     let a = c.args in
-    let u = c.unpacked-opts in
+    let u = c.unpacked in
     let b = some_one a.levels c.is_one_text.result c.if-levels-is_one_text.true in
     let o = c.is_one_text.ensures b.1 in record {
       room = leaf_room c.trim_behind_text.ensures;
@@ -980,16 +959,12 @@ pub kids-write-requires : goal.kids-write-requires
 kids-write-requires t c =
     (falls_in c.args.levels c.decreases (lit< tt), (placed_kids c.args.self.now.sheet.now c.args.nodes.now c.args.at c.requires.0 c.node_end-to.ensures, c.requires.1, c.requires.2))
 
-pub kids-trim_space-requires : goal.kids-trim_space-requires
-kids-trim_space-requires t c =
-    forest-reaches c.write.ensures.writes_forest (placed_kids c.args.self.now.sheet.now c.args.nodes.now c.args.at c.requires.0 c.node_end-to.ensures) (ap (wrote c.write.new.text) c.in_ok-write.was)
-
 pub kids-returns-in_err-write : goal.kids-returns-in_err-write
 kids-returns-in_err-write t c =
     let a = c.args in record {
       room = c.write.ensures.room;
       kept = kept_in (omega arith) (omega (arith, c.node_end-to.ensures)) c.write.ensures.kept;
-      writes_element = stops_element c.from_residual.ensures.0 (record { for = λ name attrs kids anc x h. both-full a.text.now.room.now a.text.now.len c.args.text.now.fits (write_kids (self_at a.self.now.skip a.levels) anc (unpacked a.bits) (element name attrs kids nothing)) ((self_at a.self.now.skip a.levels).below (attrs ∷ anc) (unpacked a.bits) kids) trim_space (kids_is (self_at a.self.now.skip a.levels) anc (unpacked a.bits) name attrs kids (take a.text.now.len a.text.now.room.now)) (below-wrote a.self.now.skip a.levels (unpacked a.bits) anc x h c.node_end-to.ensures c.write.ensures.writes_forest) (ap (wrote c.write.new.text) c.in_err-write.was) });
+      writes_element = stops_element (wrote_err _ _ c.from_residual.ensures.0) (record { for = λ name attrs kids anc x h. both-full a.text.now.room.now a.text.now.len c.args.text.now.fits (write_kids (self_at a.self.now.skip a.levels) anc (unpacked a.bits) (element name attrs kids nothing)) ((self_at a.self.now.skip a.levels).below (attrs ∷ anc) (unpacked a.bits) kids) trim_space (kids_is (self_at a.self.now.skip a.levels) anc (unpacked a.bits) name attrs kids (take a.text.now.len a.text.now.room.now)) (below-wrote a.self.now.skip a.levels (unpacked a.bits) anc x h c.node_end-to.ensures c.write.ensures.writes_forest) (ap (wrote c.write.new.text) c.in_err-write.was) });
     }
 
 pub kids-returns : goal.kids-returns
@@ -997,7 +972,7 @@ kids-returns t c =
     let a = c.args in record {
       room = room_on (c.write.ensures.room) (leaf_room c.trim_space.ensures);
       kept = kept_in (omega arith) (omega (arith, c.node_end-to.ensures)) c.write.ensures.kept;
-      writes_element = record { for = λ name attrs kids anc x h. both-done a.text.now.room.now a.text.now.len c.args.text.now.fits (write_kids (self_at a.self.now.skip a.levels) anc (unpacked a.bits) (element name attrs kids nothing)) ((self_at a.self.now.skip a.levels).below (attrs ∷ anc) (unpacked a.bits) kids) trim_space (kids_is (self_at a.self.now.skip a.levels) anc (unpacked a.bits) name attrs kids (take a.text.now.len a.text.now.room.now)) (below-wrote a.self.now.skip a.levels (unpacked a.bits) anc x h c.node_end-to.ensures c.write.ensures.writes_forest) (ap (wrote c.write.new.text) c.in_ok-write.was) (record { says = c.trim_space.ensures.writes }) };
+      writes_element = record { for = λ name attrs kids anc x h. both-done a.text.now.room.now a.text.now.len c.args.text.now.fits (write_kids (self_at a.self.now.skip a.levels) anc (unpacked a.bits) (element name attrs kids nothing)) ((self_at a.self.now.skip a.levels).below (attrs ∷ anc) (unpacked a.bits) kids) trim_space (kids_is (self_at a.self.now.skip a.levels) anc (unpacked a.bits) name attrs kids (take a.text.now.len a.text.now.room.now)) (below-wrote a.self.now.skip a.levels (unpacked a.bits) anc x h c.node_end-to.ensures c.write.ensures.writes_forest) (ap (wrote c.write.new.text) c.in_ok-write.was) c.trim_space.ensures.writes };
     }
 
 pub led-flow-requires : goal.led-flow-requires
@@ -1005,10 +980,6 @@ led-flow-requires t c = (
   falls_in c.args.levels c.decreases (lit< tt),
   (c.requires.0, c.requires.1, c.requires.2, c.requires.3),
 )
-
-pub led-push_linebreak-requires : goal.led-push_linebreak-requires
-led-push_linebreak-requires t c =
-    element_reaches c.requires.0 c.flow.ensures.writes_element (ap (wrote c.flow.new.text) c.in_ok-flow.was)
 
 pub led-returns : goal.led-returns
 led-returns t c =
@@ -1023,7 +994,7 @@ led-returns-in_err-flow t c =
     record {
       room = room_on (leaf_room c.push_block_lead.ensures) (c.flow.ensures.room);
       kept = c.flow.ensures.kept;
-      writes_element = stops_element c.from_residual-in_err-flow.ensures.0 (led_full c.args.self.now.sheet.now c.args.nodes.now c.args.c c.requires.1 (self_at c.args.self.now.skip c.args.levels) (item_of c.args.item) c.args.first c.args.text.now.room.now c.args.text.now.len c.args.text.now.fits c.push_block_lead.ensures.writes (ap (wrote c.push_block_lead.new.text) c.in_ok-push_block_lead.was) c.flow.ensures.writes_element (ap (wrote c.flow.new.text) c.in_err-flow.was));
+      writes_element = stops_element (wrote_err _ _ c.from_residual-in_err-flow.ensures.0) (led_full c.args.self.now.sheet.now c.args.nodes.now c.args.c c.requires.1 (self_at c.args.self.now.skip c.args.levels) (item_of c.args.item) c.args.first c.args.text.now.room.now c.args.text.now.len c.args.text.now.fits c.push_block_lead.ensures.writes (ap (wrote c.push_block_lead.new.text) c.in_ok-push_block_lead.was) c.flow.ensures.writes_element (ap (wrote c.flow.new.text) c.in_err-flow.was));
     }
 
 pub led-returns-in_err-push_block_lead : goal.led-returns-in_err-push_block_lead
@@ -1031,7 +1002,7 @@ led-returns-in_err-push_block_lead t c =
     record {
       room = leaf_room c.push_block_lead.ensures;
       kept = kept_none c.args.nodes.now;
-      writes_element = stops_element c.from_residual.ensures.0 (led_none c.args.self.now.sheet.now c.args.nodes.now c.args.c c.requires.1 (self_at c.args.self.now.skip c.args.levels) (item_of c.args.item) c.args.first c.args.text.now.room.now c.args.text.now.len c.args.text.now.fits c.push_block_lead.ensures.writes (ap (wrote c.push_block_lead.new.text) c.in_err-push_block_lead.was));
+      writes_element = stops_element (wrote_err _ _ c.from_residual.ensures.0) (led_none c.args.self.now.sheet.now c.args.nodes.now c.args.c c.requires.1 (self_at c.args.self.now.skip c.args.levels) (item_of c.args.item) c.args.first c.args.text.now.room.now c.args.text.now.len c.args.text.now.fits c.push_block_lead.ensures.writes (ap (wrote c.push_block_lead.new.text) c.in_err-push_block_lead.was));
     }
 
 pub link-node_end-end-requires : goal.link-node_end-end-requires
@@ -1064,14 +1035,14 @@ link-returns-then-has_element t c =
       writes_element = record {
         for = λ name attrs kids anc x h.
             alike (to_image (self_at a.self.now.skip a.levels) anc a.opts href name attrs kids (take a.text.now.len a.text.now.room.now) (sym (c.has_element.ensures a.at kids (element_kids x c.node_end-end.ensures)) ∙ c.if-has_element.true))
-            (subst (λ (o : FormatOpts). Writes (length a.text.now.room.now) c.body.new.text.room.now c.body.result (link_of attrs href (write_kids (self_at a.self.now.skip a.levels) anc o (element name attrs kids nothing) []) push (take a.text.now.len a.text.now.room.now))) (c.link_body.ensures ∙ ap link_body c.fresh-fresh.ensures) (c.body.ensures.writes_element.for name attrs kids anc x h));
+            (subst (λ (o : FormatOpts). Writes (length a.text.now.room.now) c.body.new.text.room.now (wrote c.body.new.text c.body.result) (link_of attrs href (write_kids (self_at a.self.now.skip a.levels) anc o (element name attrs kids nothing) []) push (take a.text.now.len a.text.now.room.now))) (c.link_body.ensures ∙ ap link_body c.fresh-fresh.ensures) (c.body.ensures.writes_element.for name attrs kids anc x h));
       };
     }
 
 pub link-write_text_behind-requires : goal.link-write_text_behind-requires
 link-write_text_behind-requires t c =
     let k = placed_kids c.args.self.now.sheet.now c.args.nodes.now c.args.at c.requires.0 c.node_end-end.ensures in
-    ((k.parent, k.forest, k.rep), omega arith)
+    (k.parent, k.forest, k.rep)
 
 pub link-body-requires-then-n-eq0 : goal.link-body-requires-then-n-eq0
 link-body-requires-then-n-eq0 t c =
@@ -1079,7 +1050,7 @@ link-body-requires-then-n-eq0 t c =
     let a = c.args in
     let p = c.requires.0 in
     let w = done c.in_ok-n.was (wrote_here _ _ _ p.0.3) in
-    (falls_in a.levels c.decreases (lit< tt), (p, (omega (arith, back_length a.text.now.room.now a.text.now.len c.args.text.now.fits (shown_text a.opts p.0.2) w, c.args.text.now.fits), c.requires.1), subst (λ (o : FormatOpts). Fits o a.levels) (sym c.fresh-fresh.ensures) (omega (arith, c.requires.2)), c.requires.3))
+    (falls_in a.levels c.decreases (lit< tt), (p, c.requires.1, subst (λ (o : FormatOpts). Fits o a.levels) (sym c.fresh-fresh.ensures) (omega (arith, c.requires.2)), c.requires.3))
 
 pub link-returns-then-n-eq0 : goal.link-returns-then-n-eq0
 link-returns-then-n-eq0 t c =
@@ -1087,14 +1058,14 @@ link-returns-then-n-eq0 t c =
     let bare_here : (name : Bytes) (attrs : List Attr) (kids : Forest) → ElementAt c.args.self.now.sheet.now c.args.nodes.now c.args.at name attrs kids → has_element 22 kids ≡ false = λ _ _ kids x. sym (c.has_element.ensures c.args.at kids (element_kids x c.node_end-end.ensures)) ∙ c.if-has_element.false in
     let a = c.args in
     let href = a.dest.now in record {
-      room = room_on (room_behind c.args.text.now c.write_text_behind.auto.room) (c.body-then-n-eq0.ensures.room);
+      room = room_on (room_behind _ refl refl c.write_text_behind.auto.room) (c.body-then-n-eq0.ensures.room);
       kept = c.body-then-n-eq0.ensures.kept;
       writes_element = record {
         for = λ name attrs kids anc x h.
             let w = done c.in_ok-n.was (wrote_here _ _ _ x) in
             alike (to_body (self_at a.self.now.skip a.levels) anc a.opts href name attrs kids (take a.text.now.len a.text.now.room.now) (bare_here _ _ _ x) (null_none (shown_text a.opts kids).text (sym w.count ∙ c.if-n-eq0.true)))
-            (subst₂ (λ (k : ℕ) (u : Bytes). Writes k c.body-then-n-eq0.new.text c.body-then-n-eq0.result (link_of attrs href (write_kids (self_at a.self.now.skip a.levels) anc (fresh a.opts) (element name attrs kids nothing) []) push u)) (back_length a.text.now.room.now a.text.now.len c.args.text.now.fits (shown_text a.opts kids) w) (back_text a.text.now.room.now a.text.now.len c.args.text.now.fits (shown_text a.opts kids) w)
-            (subst (λ (o : FormatOpts). Writes (length (back a.text.now.room.now a.text.now.len c.write_text_behind.new.room)) c.body-then-n-eq0.new.text c.body-then-n-eq0.result (link_of attrs href (write_kids (self_at a.self.now.skip a.levels) anc o (element name attrs kids nothing) []) push (take a.text.now.len (back a.text.now.room.now a.text.now.len c.write_text_behind.new.room)))) c.fresh-fresh.ensures (c.body-then-n-eq0.ensures.writes_element.for name attrs kids anc x h)));
+            (subst₂ (λ (k : ℕ) (u : Bytes). Writes k c.body-then-n-eq0.new.text.room.now (wrote c.body-then-n-eq0.new.text c.body-then-n-eq0.result) (link_of attrs href (write_kids (self_at a.self.now.skip a.levels) anc (fresh a.opts) (element name attrs kids nothing) []) push u)) (back_length a.text.now.room.now a.text.now.len c.args.text.now.fits (shown_text a.opts kids) w) (back_text a.text.now.room.now a.text.now.len c.args.text.now.fits (shown_text a.opts kids) w)
+            (subst (λ (o : FormatOpts). Writes (length (back a.text.now.room.now a.text.now.len c.write_text_behind.new.room)) c.body-then-n-eq0.new.text.room.now (wrote c.body-then-n-eq0.new.text c.body-then-n-eq0.result) (link_of attrs href (write_kids (self_at a.self.now.skip a.levels) anc o (element name attrs kids nothing) []) push (take a.text.now.len (back a.text.now.room.now a.text.now.len c.write_text_behind.new.room)))) c.fresh-fresh.ensures (c.body-then-n-eq0.ensures.writes_element.for name attrs kids anc x h)));
       };
     }
 
@@ -1108,20 +1079,20 @@ link-push_text_link-requires t c =
     let p = c.requires.0 in
     (nest-fits c.args.text.now.room.now c.args.text.now.len c.args.text.now.fits (wrote_here _ _ _ p.0.3) c.in_ok-n.was, omega (arith, c.node_place-place.ensures, (placed_node c.args.self.now.sheet.now c.args.nodes.now c.args.at p).placed), c.requires.3)
 
-pub link-returns-else-n-eq0 : goal.link-returns-else-n-eq0
-link-returns-else-n-eq0 t c =
+pub link-returns : goal.link-returns
+link-returns t c =
     let wrote_here : (name : Bytes) (attrs : List Attr) (kids : Forest) → ElementAt c.args.self.now.sheet.now c.args.nodes.now c.args.at name attrs kids → Writes (length (lent c.args.text.now.room.now c.args.text.now.len)) c.write_text_behind.new.room c.write_text_behind.result (shown_text c.args.opts kids) = λ name attrs kids x. let a = c.args in subst (λ (o : FormatOpts). Writes (length (lent a.text.now.room.now a.text.now.len)) c.write_text_behind.new.room c.write_text_behind.result (write_text o kids [])) (c.skip_escape-plain.ensures ∙ ap skip_escape (c.include_node.ensures ∙ ap include_node c.fresh-fresh.ensures)) (c.write_text_behind.ensures a.at kids (element_kids x c.node_end-end.ensures)) in
     let bare_here : (name : Bytes) (attrs : List Attr) (kids : Forest) → ElementAt c.args.self.now.sheet.now c.args.nodes.now c.args.at name attrs kids → has_element 22 kids ≡ false = λ _ _ kids x. sym (c.has_element.ensures c.args.at kids (element_kids x c.node_end-end.ensures)) ∙ c.if-has_element.false in
     let a = c.args in
     let href = a.dest.now in record {
-      room = room_on (room_behind c.args.text.now c.write_text_behind.auto.room) (leaf_room c.push_text_link.ensures);
+      room = room_on (room_behind _ refl refl c.write_text_behind.auto.room) (leaf_room c.push_text_link.ensures);
       kept = kept_none a.nodes.now;
       writes_element = record {
         for = λ name attrs kids anc x h.
             let w = done c.in_ok-n.was (wrote_here _ _ _ x) in
             alike (to_text (self_at a.self.now.skip a.levels) anc a.opts href name attrs kids (take a.text.now.len a.text.now.room.now) (bare_here _ _ _ x) (null_more (shown_text a.opts kids).text (λ z. c.if-n-eq0.false (w.count ∙ z))))
             (nest-done a.text.now.room.now a.text.now.len c.args.text.now.fits (wrote_here _ _ _ x) (λ z. text_link_step a.opts attrs href z) c.in_ok-n.was
-            (subst (λ (l : List Attr). Writes (length (back a.text.now.room.now a.text.now.len c.write_text_behind.new.room)) c.push_text_link.new.text.room.now c.push_text_link.result (text_link_step a.opts l href (take c.in_ok-n.n (drop a.text.now.len (back a.text.now.room.now a.text.now.len c.write_text_behind.new.room))) (take a.text.now.len (back a.text.now.room.now a.text.now.len c.write_text_behind.new.room)))) (ap (attrs_behind a.self.now.sheet.now) c.node_place-place.ensures ∙ sym x.attrs_are) c.push_text_link.ensures.writes));
+            (subst (λ (l : List Attr). Writes (length (back a.text.now.room.now a.text.now.len c.write_text_behind.new.room)) c.push_text_link.new.text.room.now (wrote c.push_text_link.new.text c.push_text_link.result) (text_link_step a.opts l href (take c.in_ok-n.n (drop a.text.now.len (back a.text.now.room.now a.text.now.len c.write_text_behind.new.room))) (take a.text.now.len (back a.text.now.room.now a.text.now.len c.write_text_behind.new.room)))) (ap (attrs_behind a.self.now.sheet.now) c.node_place-place.ensures ∙ sym x.attrs_are) c.push_text_link.ensures.writes));
       };
     }
 
@@ -1131,22 +1102,14 @@ link-returns-in_err-n t c =
     let wrote_here : (name : Bytes) (attrs : List Attr) (kids : Forest) → ElementAt c.args.self.now.sheet.now c.args.nodes.now c.args.at name attrs kids → Writes (length (lent c.args.text.now.room.now c.args.text.now.len)) c.write_text_behind.new.room c.write_text_behind.result (shown_text c.args.opts kids) = λ name attrs kids x. let a = c.args in subst (λ (o : FormatOpts). Writes (length (lent a.text.now.room.now a.text.now.len)) c.write_text_behind.new.room c.write_text_behind.result (write_text o kids [])) (c.skip_escape-plain.ensures ∙ ap skip_escape (c.include_node.ensures ∙ ap include_node c.fresh-fresh.ensures)) (c.write_text_behind.ensures a.at kids (element_kids x c.node_end-end.ensures)) in
     let a = c.args in
     let href = a.dest.now in record {
-      room = room_behind c.args.text.now c.write_text_behind.auto.room;
+      room = room_behind _ refl refl c.write_text_behind.auto.room;
       kept = kept_none a.nodes.now;
-      writes_element = stops_element c.from_residual.ensures.0 (record {
+      writes_element = stops_element (wrote_err _ _ c.from_residual.ensures.0) (record {
         for = λ name attrs kids anc x h.
             alike (to_text (self_at a.self.now.skip a.levels) anc a.opts href name attrs kids (take a.text.now.len a.text.now.room.now) (bare_here _ _ _ x) (shown_null (shown_text a.opts kids) (text_grown (skip_escape (include_node (fresh a.opts))) kids []) (full c.in_err-n.was (wrote_here _ _ _ x))))
             (nest-full a.text.now.room.now a.text.now.len c.args.text.now.fits (wrote_here _ _ _ x) (text_link_step a.opts attrs href (shown_text a.opts kids).text) c.in_err-n.was);
       });
     }
-
-pub link-slice_bounds-write_text_behind-count : goal.link-slice_bounds-write_text_behind-count
-link-slice_bounds-write_text_behind-count t c =
-    c.args.text.now.fits
-
-pub link-slice_bounds-write_text_behind-start : goal.link-slice_bounds-write_text_behind-start
-link-slice_bounds-write_text_behind-start t c =
-    c.args.text.now.fits
 
 pub node-node_place-place-requires : goal.node-node_place-place-requires
 node-node_place-place-requires t c =
@@ -1166,12 +1129,12 @@ node-node_is_skipped-requires t c =
 pub node-write_text_node-requires : goal.node-write_text_node-requires
 node-write_text_node-requires t c =
     let here_here : NodeAt c.args.self.now.sheet.now c.args.nodes.now c.args.at = placeds_at c.requires.0.alone c.requires.0.later in
-    (here_here, c.args.text.now.fits)
+    here_here
 
 pub node-returns-then-tag_at-ne-OPEN : goal.node-returns-then-tag_at-ne-OPEN
 node-returns-then-tag_at-ne-OPEN t c =
     let a = c.args in
-    let u = c.unpacked-opts in
+    let u = c.unpacked in
     record {
       room = leaf_room c.write_text_node.ensures;
       kept = kept_none a.nodes.now;
@@ -1185,7 +1148,7 @@ node-returns-then-node_is_skipped t c =
     let tagged_here_2 : get_or c.args.self.now.sheet.now (place_at c.args.nodes.now c.args.at) 0 ≡ 1 = omega (arith, c.if-tag_at-ne-OPEN.false, c.tag_at.ensures ∙ ap (λ (k : ℕ). get_or c.args.self.now.sheet.now k 0) c.node_place-place.ensures) in
     let skips_here : among (body_at c.args.self.now.sheet.now (place_at c.args.nodes.now c.args.at)) (tags_to_skip (skip_of c.args.self.now.skip)) ≡ c.node_is_skipped.result = let a = c.args in sym (first_skipped a.self.now.sheet.now (place_at a.nodes.now a.at) (tags_to_skip (skip_of a.self.now.skip)) (tagged_here_2)) ∙ sym c.node_is_skipped.ensures in
     let a = c.args in record {
-      room = (refl, refl);
+      room = room_same c.args.text.now;
       kept = kept_none a.nodes.now;
       writes_forest = record {
         for = λ parent f anc h q.
@@ -1199,7 +1162,7 @@ pub node-opened-requires : goal.node-opened-requires
 node-opened-requires t c =
     let tagged_here : get_or c.args.self.now.sheet.now (place_at c.args.nodes.now c.args.at) 0 ≡ 1 = omega (arith, c.if-tag_at-ne-OPEN.false, c.tag_at.ensures ∙ ap (λ (k : ℕ). get_or c.args.self.now.sheet.now k 0) c.node_place-place.ensures) in
     let placed_here : Placed c.args.self.now.sheet.now c.args.nodes.now c.args.at = node_placed c.requires.0 (tagged_here) in
-    ((placed_here).0, c.args.text.now.fits)
+    (placed_here).0
 
 pub node-inside-requires : goal.node-inside-requires
 node-inside-requires t c =
@@ -1216,10 +1179,10 @@ node-returns t c =
     let skips_here : among (body_at c.args.self.now.sheet.now (place_at c.args.nodes.now c.args.at)) (tags_to_skip (skip_of c.args.self.now.skip)) ≡ c.node_is_skipped.result = let a = c.args in sym (first_skipped a.self.now.sheet.now (place_at a.nodes.now a.at) (tags_to_skip (skip_of a.self.now.skip)) (tagged_here_2)) ∙ sym c.node_is_skipped.ensures in
     let goes_here : (parent : ℕ) (f : Forest) (anc : Ancestors) → Rep c.args.self.now.sheet.now c.args.nodes.now parent c.args.at (end_at c.args.nodes.now c.args.at) f → write_nodes (self_at c.args.self.now.skip c.args.levels) anc (unpacked c.args.bits) f (take c.args.text.now.len c.args.text.now.room.now) ≡ and_then (opened (unpacked c.args.bits) (tag_of (body_at c.args.self.now.sheet.now (place_at c.args.nodes.now c.args.at))) (attrs_behind c.args.self.now.sheet.now (place_at c.args.nodes.now c.args.at)) (kids_of f) (take c.args.text.now.len c.args.text.now.room.now)) (in_element (self_at c.args.self.now.skip c.args.levels) anc (unpacked c.args.bits) (body_at c.args.self.now.sheet.now (place_at c.args.nodes.now c.args.at)) (attrs_behind c.args.self.now.sheet.now (place_at c.args.nodes.now c.args.at)) (kids_of f)) = λ parent f anc h. let a = c.args in ap (λ (g : Forest). write_nodes (self_at a.self.now.skip a.levels) anc (unpacked a.bits) g (take a.text.now.len a.text.now.room.now)) (alone_element a.self.now.sheet.now a.nodes.now parent a.at c.requires.0.later f h (tagged_here)) ∙ element_opened (self_at a.self.now.skip a.levels) anc (unpacked a.bits) (body_at a.self.now.sheet.now (place_at a.nodes.now a.at)) (attrs_behind a.self.now.sheet.now (place_at a.nodes.now a.at)) (kids_of f) (take a.text.now.len a.text.now.room.now) (skips_here ∙ c.if-node_is_skipped.false) in
     let tagged_here_3 : get_or c.args.self.now.sheet.now (place_at c.args.nodes.now c.args.at) 0 ≡ 1 = omega (arith, c.if-tag_at-ne-OPEN.false, c.tag_at.ensures ∙ ap (λ (k : ℕ). get_or c.args.self.now.sheet.now k 0) c.node_place-place.ensures) in
-    let opens_here : (parent : ℕ) (f : Forest) → Rep c.args.self.now.sheet.now c.args.nodes.now parent c.args.at (end_at c.args.nodes.now c.args.at) f → Writes (length c.args.text.now.room.now) c.opened.new.text.room.now c.opened.result (opened (unpacked c.args.bits) (tag_of (body_at c.args.self.now.sheet.now (place_at c.args.nodes.now c.args.at))) (attrs_behind c.args.self.now.sheet.now (place_at c.args.nodes.now c.args.at)) (kids_of f) (take c.args.text.now.len c.args.text.now.room.now)) = λ parent f h. let a = c.args in subst (λ (o : FormatOpts). Writes (length a.text.now.room.now) c.opened.new.text.room.now c.opened.result (opened o (tag_of (body_at a.self.now.sheet.now (place_at a.nodes.now a.at))) (attrs_behind a.self.now.sheet.now (place_at a.nodes.now a.at)) (kids_of f) (take a.text.now.len a.text.now.room.now))) c.unpacked-opts-2.ensures (c.opened.ensures.writes (body_at c.args.self.now.sheet.now (place_at c.args.nodes.now c.args.at)) (attrs_behind c.args.self.now.sheet.now (place_at c.args.nodes.now c.args.at)) (kids_of f) (node_element c.args.self.now.sheet.now c.args.nodes.now parent c.args.at (end_at c.args.nodes.now c.args.at) f h c.requires.0.later c.requires.0.alone.positive (tagged_here_3))) in
+    let opens_here : (parent : ℕ) (f : Forest) → Rep c.args.self.now.sheet.now c.args.nodes.now parent c.args.at (end_at c.args.nodes.now c.args.at) f → Writes (length c.args.text.now.room.now) c.opened.new.text.room.now (wrote c.opened.new.text c.opened.result) (opened (unpacked c.args.bits) (tag_of (body_at c.args.self.now.sheet.now (place_at c.args.nodes.now c.args.at))) (attrs_behind c.args.self.now.sheet.now (place_at c.args.nodes.now c.args.at)) (kids_of f) (take c.args.text.now.len c.args.text.now.room.now)) = λ parent f h. let a = c.args in subst (λ (o : FormatOpts). Writes (length a.text.now.room.now) c.opened.new.text.room.now (wrote c.opened.new.text c.opened.result) (opened o (tag_of (body_at a.self.now.sheet.now (place_at a.nodes.now a.at))) (attrs_behind a.self.now.sheet.now (place_at a.nodes.now a.at)) (kids_of f) (take a.text.now.len a.text.now.room.now))) c.unpacked-2.ensures ((c.opened.ensures (body_at c.args.self.now.sheet.now (place_at c.args.nodes.now c.args.at)) (attrs_behind c.args.self.now.sheet.now (place_at c.args.nodes.now c.args.at)) (kids_of f) (node_element c.args.self.now.sheet.now c.args.nodes.now parent c.args.at (end_at c.args.nodes.now c.args.at) f h c.requires.0.later c.requires.0.alone.positive (tagged_here_3))).writes) in
     let tagged_here_4 : get_or c.args.self.now.sheet.now (place_at c.args.nodes.now c.args.at) 0 ≡ 1 = omega (arith, c.if-tag_at-ne-OPEN.false, c.tag_at.ensures ∙ ap (λ (k : ℕ). get_or c.args.self.now.sheet.now k 0) c.node_place-place.ensures) in
     let a = c.args in record {
-      room = room_on (leaf_room c.opened.ensures) (c.inside.ensures.room);
+      room = room_on (let e = (node_placed c.requires.0 (tagged_here)).0 in leaf_room (c.opened.ensures e.0 e.1 e.2 e.3)) (c.inside.ensures.room);
       kept = c.inside.ensures.kept;
       writes_forest = record {
         for = λ parent f anc h q.
@@ -1237,11 +1200,11 @@ node-returns-in_err-opened t c =
     let skips_here : among (body_at c.args.self.now.sheet.now (place_at c.args.nodes.now c.args.at)) (tags_to_skip (skip_of c.args.self.now.skip)) ≡ c.node_is_skipped.result = let a = c.args in sym (first_skipped a.self.now.sheet.now (place_at a.nodes.now a.at) (tags_to_skip (skip_of a.self.now.skip)) (tagged_here_2)) ∙ sym c.node_is_skipped.ensures in
     let goes_here : (parent : ℕ) (f : Forest) (anc : Ancestors) → Rep c.args.self.now.sheet.now c.args.nodes.now parent c.args.at (end_at c.args.nodes.now c.args.at) f → write_nodes (self_at c.args.self.now.skip c.args.levels) anc (unpacked c.args.bits) f (take c.args.text.now.len c.args.text.now.room.now) ≡ and_then (opened (unpacked c.args.bits) (tag_of (body_at c.args.self.now.sheet.now (place_at c.args.nodes.now c.args.at))) (attrs_behind c.args.self.now.sheet.now (place_at c.args.nodes.now c.args.at)) (kids_of f) (take c.args.text.now.len c.args.text.now.room.now)) (in_element (self_at c.args.self.now.skip c.args.levels) anc (unpacked c.args.bits) (body_at c.args.self.now.sheet.now (place_at c.args.nodes.now c.args.at)) (attrs_behind c.args.self.now.sheet.now (place_at c.args.nodes.now c.args.at)) (kids_of f)) = λ parent f anc h. let a = c.args in ap (λ (g : Forest). write_nodes (self_at a.self.now.skip a.levels) anc (unpacked a.bits) g (take a.text.now.len a.text.now.room.now)) (alone_element a.self.now.sheet.now a.nodes.now parent a.at c.requires.0.later f h (tagged_here)) ∙ element_opened (self_at a.self.now.skip a.levels) anc (unpacked a.bits) (body_at a.self.now.sheet.now (place_at a.nodes.now a.at)) (attrs_behind a.self.now.sheet.now (place_at a.nodes.now a.at)) (kids_of f) (take a.text.now.len a.text.now.room.now) (skips_here ∙ c.if-node_is_skipped.false) in
     let tagged_here_3 : get_or c.args.self.now.sheet.now (place_at c.args.nodes.now c.args.at) 0 ≡ 1 = omega (arith, c.if-tag_at-ne-OPEN.false, c.tag_at.ensures ∙ ap (λ (k : ℕ). get_or c.args.self.now.sheet.now k 0) c.node_place-place.ensures) in
-    let opens_here : (parent : ℕ) (f : Forest) → Rep c.args.self.now.sheet.now c.args.nodes.now parent c.args.at (end_at c.args.nodes.now c.args.at) f → Writes (length c.args.text.now.room.now) c.opened.new.text.room.now c.opened.result (opened (unpacked c.args.bits) (tag_of (body_at c.args.self.now.sheet.now (place_at c.args.nodes.now c.args.at))) (attrs_behind c.args.self.now.sheet.now (place_at c.args.nodes.now c.args.at)) (kids_of f) (take c.args.text.now.len c.args.text.now.room.now)) = λ parent f h. let a = c.args in subst (λ (o : FormatOpts). Writes (length a.text.now.room.now) c.opened.new.text.room.now c.opened.result (opened o (tag_of (body_at a.self.now.sheet.now (place_at a.nodes.now a.at))) (attrs_behind a.self.now.sheet.now (place_at a.nodes.now a.at)) (kids_of f) (take a.text.now.len a.text.now.room.now))) c.unpacked-opts-2.ensures (c.opened.ensures.writes (body_at c.args.self.now.sheet.now (place_at c.args.nodes.now c.args.at)) (attrs_behind c.args.self.now.sheet.now (place_at c.args.nodes.now c.args.at)) (kids_of f) (node_element c.args.self.now.sheet.now c.args.nodes.now parent c.args.at (end_at c.args.nodes.now c.args.at) f h c.requires.0.later c.requires.0.alone.positive (tagged_here_3))) in
+    let opens_here : (parent : ℕ) (f : Forest) → Rep c.args.self.now.sheet.now c.args.nodes.now parent c.args.at (end_at c.args.nodes.now c.args.at) f → Writes (length c.args.text.now.room.now) c.opened.new.text.room.now (wrote c.opened.new.text c.opened.result) (opened (unpacked c.args.bits) (tag_of (body_at c.args.self.now.sheet.now (place_at c.args.nodes.now c.args.at))) (attrs_behind c.args.self.now.sheet.now (place_at c.args.nodes.now c.args.at)) (kids_of f) (take c.args.text.now.len c.args.text.now.room.now)) = λ parent f h. let a = c.args in subst (λ (o : FormatOpts). Writes (length a.text.now.room.now) c.opened.new.text.room.now (wrote c.opened.new.text c.opened.result) (opened o (tag_of (body_at a.self.now.sheet.now (place_at a.nodes.now a.at))) (attrs_behind a.self.now.sheet.now (place_at a.nodes.now a.at)) (kids_of f) (take a.text.now.len a.text.now.room.now))) c.unpacked-2.ensures ((c.opened.ensures (body_at c.args.self.now.sheet.now (place_at c.args.nodes.now c.args.at)) (attrs_behind c.args.self.now.sheet.now (place_at c.args.nodes.now c.args.at)) (kids_of f) (node_element c.args.self.now.sheet.now c.args.nodes.now parent c.args.at (end_at c.args.nodes.now c.args.at) f h c.requires.0.later c.requires.0.alone.positive (tagged_here_3))).writes) in
     let a = c.args in record {
-      room = leaf_room c.opened.ensures;
+      room = let e = (node_placed c.requires.0 (tagged_here)).0 in leaf_room (c.opened.ensures e.0 e.1 e.2 e.3);
       kept = kept_none a.nodes.now;
-      writes_forest = stops_forest c.from_residual.ensures.0 (record {
+      writes_forest = stops_forest (wrote_err _ _ c.from_residual.ensures.0) (record {
         for = λ parent f anc h q.
             both-full a.text.now.room.now a.text.now.len c.args.text.now.fits (write_nodes (self_at a.self.now.skip a.levels) anc (unpacked a.bits) f) (opened (unpacked a.bits) (tag_of (body_at a.self.now.sheet.now (place_at a.nodes.now a.at))) (attrs_behind a.self.now.sheet.now (place_at a.nodes.now a.at)) (kids_of f))
             (in_element (self_at a.self.now.skip a.levels) anc (unpacked a.bits) (body_at a.self.now.sheet.now (place_at a.nodes.now a.at)) (attrs_behind a.self.now.sheet.now (place_at a.nodes.now a.at)) (kids_of f)) (goes_here parent f anc h) (opens_here parent f h) (ap (wrote c.opened.new.text) c.in_err-opened.was);
@@ -1265,74 +1228,58 @@ row-next_cell-c-requires t c =
 pub row-loop-c-init : goal.row-loop-c-init
 row-loop-c-init t c =
     let a = c.args in
-    row_start (serializer (tags_to_skip (skip_of a.self.now.skip)) a.levels) a.opts c.requires.0 c.node_end-to.ensures c.next_cell-c.ensures.later c.next_cell-c.ensures.cells a.text.now.room.now a.text.now.len c.args.text.now.fits
-
-pub row-slice_bounds-cell-count : goal.row-slice_bounds-cell-count
-row-slice_bounds-cell-count t c =
-    omega (arith, row_reach c.loop-c.invariant)
-
-pub row-slice_bounds-cell-start : goal.row-slice_bounds-cell-start
-row-slice_bounds-cell-start t c =
-    omega (arith, row_reach c.loop-c.invariant)
-
-pub row-slice_bounds-cell-end : goal.row-slice_bounds-cell-end
-row-slice_bounds-cell-end t c =
-    omega (arith, row_reach c.loop-c.invariant)
+    (room_same a.text.now, row_start (serializer (tags_to_skip (skip_of a.self.now.skip)) a.levels) a.opts c.requires.0 c.node_end-to.ensures c.next_cell-c.ensures.later c.next_cell-c.ensures.cells a.text.now.room.now a.text.now.len c.args.text.now.fits)
 
 pub row-cell-requires : goal.row-cell-requires
 row-cell-requires t c =
-    (falls_in c.args.levels c.decreases (lit< tt), (row_placed c.loop-c.invariant c.loop-c-test.true, c.requires.1, c.requires.2))
+    (falls_in c.args.levels c.decreases (lit< tt), (row_placed c.loop-c.invariant.1 c.loop-c-test.true, c.requires.1, c.requires.2))
 
 pub row-store_span-requires : goal.row-store_span-requires
 row-store_span-requires t c =
-    omega (arith, row_inside c.loop-c.invariant c.loop-c-test.true, c.cell.ensures.kept.long)
+    omega (arith, row_inside c.loop-c.invariant.1 c.loop-c-test.true, c.cell.ensures.kept.long)
 
-pub row-overflow_add-end : goal.row-overflow_add-end
-row-overflow_add-end t c =
-    let p = c.loop-c.invariant in
+pub row-overflow_add-text : goal.row-overflow_add-text
+row-overflow_add-text t c =
+    let p = c.loop-c.invariant.1 in
     let w = done c.in_ok-n.was (row_writes p c.loop-c-test.true c.cell.ensures.writes p.some.0 p.some.1) in
-    omega (arith, temp_fits c.loop-c.text c.loop-c.end (row_reach p) _ w, back_length c.loop-c.text c.loop-c.end (row_reach p) _ w, row_long p, c.well_formed)
+    omega (arith, temp_fits c.loop-c.text.room.now c.loop-c.text.len (row_reach p) _ w, back_length c.loop-c.text.room.now c.loop-c.text.len (row_reach p) _ w, row_long p, c.well_formed)
 
 pub row-returns-in_err-n : goal.row-returns-in_err-n
 row-returns-in_err-n t c =
-    let p = c.loop-c.invariant in
+    let p = c.loop-c.invariant.1 in
     record {
-      room = room_on (c.loop-c.invariant.0) (room_behind c.loop-c.text c.cell.auto.room);
+      room = room_on (c.loop-c.invariant.0) (room_behind _ refl refl c.cell.auto.room);
       kept = row_kept p c.loop-c-test.true c.cell.ensures.kept;
-      row_writes = λ cells x. stops_row c.from_residual.ensures.0 (row_stop p c.loop-c-test.true (row_writes p c.loop-c-test.true c.cell.ensures.writes) c.in_err-n.was _ _ cells x);
+      row_writes = λ cells x. stops_row (wrote_err _ _ c.from_residual.ensures.0) (row_stop p c.loop-c-test.true (row_writes p c.loop-c-test.true c.cell.ensures.writes) c.in_err-n.was _ _ cells x);
     }
 
 pub row-node_end-after-requires : goal.row-node_end-after-requires
 row-node_end-after-requires t c =
-    omega (arith, row_inside c.loop-c.invariant c.loop-c-test.true, c.cell.ensures.kept.long, c.store_span.ensures.0.long)
+    omega (arith, row_inside c.loop-c.invariant.1 c.loop-c-test.true, c.cell.ensures.kept.long, c.store_span.ensures.0.long)
 
 pub row-next_cell-c-requires-in-loop-c : goal.row-next_cell-c-requires-in-loop-c
 row-next_cell-c-requires-in-loop-c t c =
-    row_behind c.loop-c.invariant c.loop-c-test.true c.cell.ensures.kept c.store_span.ensures.0 c.node_end-after.ensures
+    row_behind c.loop-c.invariant.1 c.loop-c-test.true c.cell.ensures.kept c.store_span.ensures.0 c.node_end-after.ensures
 
 pub row-loop-c-smaller : goal.row-loop-c-smaller
 row-loop-c-smaller t c =
-    omega (arith, row_later c.loop-c.invariant c.loop-c-test.true c.cell.ensures.kept c.store_span.ensures.0 c.node_end-after.ensures, c.next_cell-c-in-loop-c.ensures.later, c.loop-c-test.true)
+    omega (arith, row_later c.loop-c.invariant.1 c.loop-c-test.true c.cell.ensures.kept c.store_span.ensures.0 c.node_end-after.ensures, c.next_cell-c-in-loop-c.ensures.later, c.loop-c-test.true)
 
 pub row-loop-c-preserved : goal.row-loop-c-preserved
 row-loop-c-preserved t c =
-    let p = c.loop-c.invariant in
-    row_on p c.loop-c-test.true (row_writes p c.loop-c-test.true c.cell.ensures.writes) c.in_ok-n.was c.cell.ensures.kept c.store_span.ensures.0 c.store_span.ensures.2 c.node_end-after.ensures c.next_cell-c-in-loop-c.ensures.later c.next_cell-c-in-loop-c.ensures.cells
+    let p = c.loop-c.invariant.1 in
+    (room_on c.loop-c.invariant.0 (room_behind _ refl refl c.cell.auto.room), row_on p c.loop-c-test.true (row_writes p c.loop-c-test.true c.cell.ensures.writes) c.in_ok-n.was c.cell.ensures.kept c.store_span.ensures.0 c.store_span.ensures.2 c.node_end-after.ensures c.next_cell-c-in-loop-c.ensures.later c.next_cell-c-in-loop-c.ensures.cells)
 
 pub row-shape_of-nodes : goal.row-shape_of-nodes
 row-shape_of-nodes t c =
-    c.loop-c.invariant.kept.long
-
-pub row-shape_of-text : goal.row-shape_of-text
-row-shape_of-text t c =
-    row_long c.loop-c.invariant
+    c.loop-c.invariant.1.kept.long
 
 pub row-returns : goal.row-returns
 row-returns t c =
     record {
       room = c.loop-c.invariant.0;
-      kept = subst (λ (j : ℕ). Kept (c.args.tr + 1) j c.args.nodes.now c.loop-c.nodes) c.loop-c.invariant.to_is c.loop-c.invariant.kept;
-      row_writes = row_end c.loop-c.invariant c.loop-c-test.false;
+      kept = subst (λ (j : ℕ). Kept (c.args.tr + 1) j c.args.nodes.now c.loop-c.nodes) c.loop-c.invariant.1.to_is c.loop-c.invariant.1.kept;
+      row_writes = row_end c.loop-c.invariant.1 c.loop-c-test.false;
     }
 
 pub siblings-is_one_text-requires : goal.siblings-is_one_text-requires
@@ -1342,12 +1289,12 @@ siblings-is_one_text-requires t c =
 
 pub siblings-write_text_node-requires : goal.siblings-write_text_node-requires
 siblings-write_text_node-requires t c =
-    (placeds_at c.requires.0 (omega (arith, (c.is_one_text.ensures (some_one c.args.levels c.is_one_text.result c.if-levels-is_one_text.true).1).0)), c.args.text.now.fits)
+    placeds_at c.requires.0 (omega (arith, (c.is_one_text.ensures (some_one c.args.levels c.is_one_text.result c.if-levels-is_one_text.true).1).0))
 
 pub siblings-returns-then-levels-is_one_text : goal.siblings-returns-then-levels-is_one_text
 siblings-returns-then-levels-is_one_text t c =
     let a = c.args in
-    let u = c.unpacked-opts in
+    let u = c.unpacked in
     let b = some_one a.levels c.is_one_text.result c.if-levels-is_one_text.true in
     let o = c.is_one_text.ensures b.1 in record {
       room = leaf_room c.write_text_node.ensures;
@@ -1372,15 +1319,14 @@ siblings-returns t c =
 pub write-returns-then-levels-eq0 : goal.write-returns-then-levels-eq0
 write-returns-then-levels-eq0 t c =
     record {
-      room = (refl, refl);
+      room = room_same c.args.text.now;
       kept = kept_none c.args.nodes.now;
       writes_forest = record { for = λ parent f anc h a. alike (write_none (tags_to_skip (skip_of c.args.self.now.skip)) c.args.levels anc (unpacked c.args.bits) f (take c.args.text.now.len c.args.text.now.room.now) c.if-levels-eq0.true) (record { says = keeps c.args.text.now.room.now c.args.text.now.len c.args.text.now.fits }) };
     }
 
 pub write-loop-at-init : goal.write-loop-at-init
 write-loop-at-init t c = (
-  c.args.text.now.fits,
-  refl,
+  room_same c.args.text.now,
   kept_none c.args.nodes.now,
   omega arith,
   c.requires.0,
@@ -1395,56 +1341,55 @@ pub write-node-requires : goal.write-node-requires
 write-node-requires t c =
     let l = c.loop-at in
     let p : 0 < c.args.levels = omega (arith, c.if-levels-eq0.false) in
-    (falls_out c.args.levels c.decreases p (lit< tt), (node_kept l.invariant.2 (placeds_first l.invariant.4 c.loop-at-test.true), (l.invariant.0, c.requires.1), omega (arith, p, c.requires.2)))
+    (falls_out c.args.levels c.decreases p (lit< tt), (node_kept l.invariant.1 (placeds_first l.invariant.3 c.loop-at-test.true), c.requires.1, omega (arith, p, c.requires.2)))
 
 pub write-returns-in_err-node : goal.write-returns-in_err-node
 write-returns-in_err-node t c =
-    let kept_here : Kept c.args.from c.args.to c.args.nodes.now c.node.new.nodes = let l = c.loop-at in let lt = c.loop-at-test.true in kept_then l.invariant.2 (kept_in l.invariant.3 (omega (arith, end_kept l.invariant.2 l.at, placeds_within l.invariant.4 lt)) c.node.ensures.kept) in
-    let wrote_here : WritesForest c.args.self.now.sheet.now c.args.nodes.now c.loop-at.at (end_at c.args.nodes.now c.loop-at.at) (λ anc f. write_nodes (self_at c.args.self.now.skip (c.args.levels - 1)) anc (unpacked c.args.bits) f) (take c.loop-at.end c.loop-at.text) (length c.loop-at.text) c.node.new.text.room.now c.node.result = writes_before c.loop-at.invariant.2 c.node.ensures.writes_forest in
+    let kept_here : Kept c.args.from c.args.to c.args.nodes.now c.node.new.nodes = let l = c.loop-at in let lt = c.loop-at-test.true in kept_then l.invariant.1 (kept_in l.invariant.2 (omega (arith, end_kept l.invariant.1 l.at, placeds_within l.invariant.3 lt)) c.node.ensures.kept) in
+    let wrote_here : WritesForest c.args.self.now.sheet.now c.args.nodes.now c.loop-at.at (end_at c.args.nodes.now c.loop-at.at) (λ anc f. write_nodes (self_at c.args.self.now.skip (c.args.levels - 1)) anc (unpacked c.args.bits) f) (bytes c.loop-at.text) (length c.loop-at.text.room.now) c.node.new.text.room.now (wrote c.node.new.text c.node.result) = writes_before c.loop-at.invariant.1 c.node.ensures.writes_forest in
     record {
       room = room_on (c.loop-at.invariant.0) (c.node.ensures.room);
       kept = kept_here;
-      writes_forest = stops_forest c.from_residual.ensures.0 (record {
+      writes_forest = stops_forest (wrote_err _ _ c.from_residual.ensures.0) (record {
         for = λ parent f anc h a. alike (write_some (tags_to_skip (skip_of c.args.self.now.skip)) c.args.levels anc (unpacked c.args.bits) f (take c.args.text.now.len c.args.text.now.room.now) (omega (arith, c.if-levels-eq0.false)))
-            (turn_stop c.loop-at.invariant.5 (λ anc f. write_nodes (self_at c.args.self.now.skip (c.args.levels - 1)) anc (unpacked c.args.bits) f) (λ anc f. write_nodes (self_at c.args.self.now.skip (c.args.levels - 1)) anc (unpacked c.args.bits) f) (λ parent anc g h u. nodes_first (self_at c.args.self.now.skip (c.args.levels - 1)) anc (unpacked c.args.bits) g u) c.loop-at-test.true (wrote_here) (ap (wrote c.node.new.text) c.in_err-node.was) parent f anc h a);
+            (turn_stop c.loop-at.invariant.4 (λ anc f. write_nodes (self_at c.args.self.now.skip (c.args.levels - 1)) anc (unpacked c.args.bits) f) (λ anc f. write_nodes (self_at c.args.self.now.skip (c.args.levels - 1)) anc (unpacked c.args.bits) f) (λ parent anc g h u. nodes_first (self_at c.args.self.now.skip (c.args.levels - 1)) anc (unpacked c.args.bits) g u) c.loop-at-test.true (wrote_here) (ap (wrote c.node.new.text) c.in_err-node.was) parent f anc h a);
       });
     }
 
 pub write-node_end-at-requires : goal.write-node_end-at-requires
 write-node_end-at-requires t c =
-    let kept_here : Kept c.args.from c.args.to c.args.nodes.now c.node.new.nodes = let l = c.loop-at in let lt = c.loop-at-test.true in kept_then l.invariant.2 (kept_in l.invariant.3 (omega (arith, end_kept l.invariant.2 l.at, placeds_within l.invariant.4 lt)) c.node.ensures.kept) in
-    omega (arith, (placeds_at c.loop-at.invariant.4 c.loop-at-test.true).inside, (kept_here).long)
+    let kept_here : Kept c.args.from c.args.to c.args.nodes.now c.node.new.nodes = let l = c.loop-at in let lt = c.loop-at-test.true in kept_then l.invariant.1 (kept_in l.invariant.2 (omega (arith, end_kept l.invariant.1 l.at, placeds_within l.invariant.3 lt)) c.node.ensures.kept) in
+    omega (arith, (placeds_at c.loop-at.invariant.3 c.loop-at-test.true).inside, (kept_here).long)
 
 pub write-loop-at-smaller : goal.write-loop-at-smaller
 write-loop-at-smaller t c =
-    let kept_here : Kept c.args.from c.args.to c.args.nodes.now c.node.new.nodes = let l = c.loop-at in let lt = c.loop-at-test.true in kept_then l.invariant.2 (kept_in l.invariant.3 (omega (arith, end_kept l.invariant.2 l.at, placeds_within l.invariant.4 lt)) c.node.ensures.kept) in
-    omega (arith, placeds_later c.loop-at.invariant.4 c.loop-at-test.true, c.node_end-at.ensures, end_kept (kept_here) c.loop-at.at, c.loop-at-test.true)
+    let kept_here : Kept c.args.from c.args.to c.args.nodes.now c.node.new.nodes = let l = c.loop-at in let lt = c.loop-at-test.true in kept_then l.invariant.1 (kept_in l.invariant.2 (omega (arith, end_kept l.invariant.1 l.at, placeds_within l.invariant.3 lt)) c.node.ensures.kept) in
+    omega (arith, placeds_later c.loop-at.invariant.3 c.loop-at-test.true, c.node_end-at.ensures, end_kept (kept_here) c.loop-at.at, c.loop-at-test.true)
 
 pub write-loop-at-preserved : goal.write-loop-at-preserved
 write-loop-at-preserved t c =
-    let kept_here : Kept c.args.from c.args.to c.args.nodes.now c.node.new.nodes = let l = c.loop-at in let lt = c.loop-at-test.true in kept_then l.invariant.2 (kept_in l.invariant.3 (omega (arith, end_kept l.invariant.2 l.at, placeds_within l.invariant.4 lt)) c.node.ensures.kept) in
-    let wrote_here : WritesForest c.args.self.now.sheet.now c.args.nodes.now c.loop-at.at (end_at c.args.nodes.now c.loop-at.at) (λ anc f. write_nodes (self_at c.args.self.now.skip (c.args.levels - 1)) anc (unpacked c.args.bits) f) (take c.loop-at.end c.loop-at.text) (length c.loop-at.text) c.node.new.text.room.now c.node.result = writes_before c.loop-at.invariant.2 c.node.ensures.writes_forest in
+    let kept_here : Kept c.args.from c.args.to c.args.nodes.now c.node.new.nodes = let l = c.loop-at in let lt = c.loop-at-test.true in kept_then l.invariant.1 (kept_in l.invariant.2 (omega (arith, end_kept l.invariant.1 l.at, placeds_within l.invariant.3 lt)) c.node.ensures.kept) in
+    let wrote_here : WritesForest c.args.self.now.sheet.now c.args.nodes.now c.loop-at.at (end_at c.args.nodes.now c.loop-at.at) (λ anc f. write_nodes (self_at c.args.self.now.skip (c.args.levels - 1)) anc (unpacked c.args.bits) f) (bytes c.loop-at.text) (length c.loop-at.text.room.now) c.node.new.text.room.now (wrote c.node.new.text c.node.result) = writes_before c.loop-at.invariant.1 c.node.ensures.writes_forest in
     let l = c.loop-at in
     let lt = c.loop-at-test.true in
     let K = kept_here in
     let q = c.node_end-at.ensures ∙ end_kept K l.at in
-    let d = done (ap (wrote c.node.new.text) c.in_ok-node.was) (c.node.ensures.writes_forest.for (node_kept l.invariant.2 (placeds_first l.invariant.4 lt)).alone.parent (node_kept l.invariant.2 (placeds_first l.invariant.4 lt)).alone.forest (node_kept l.invariant.2 (placeds_first l.invariant.4 lt)).alone.anc (node_kept l.invariant.2 (placeds_first l.invariant.4 lt)).alone.rep (node_kept l.invariant.2 (placeds_first l.invariant.4 lt)).alone.around) in (
-      reaches d,
-      d.long ∙ l.invariant.1,
+    let d = done (ap (wrote c.node.new.text) c.in_ok-node.was) (c.node.ensures.writes_forest.for (node_kept l.invariant.1 (placeds_first l.invariant.3 lt)).alone.parent (node_kept l.invariant.1 (placeds_first l.invariant.3 lt)).alone.forest (node_kept l.invariant.1 (placeds_first l.invariant.3 lt)).alone.anc (node_kept l.invariant.1 (placeds_first l.invariant.3 lt)).alone.rep (node_kept l.invariant.1 (placeds_first l.invariant.3 lt)).alone.around) in (
+      room_on l.invariant.0 c.node.ensures.room,
       K,
-      omega (arith, placeds_later l.invariant.4 lt, l.invariant.3, q),
-      subst (λ (k : ℕ). Placeds c.args.self.now.sheet.now c.args.nodes.now k c.args.to) (sym q) (placeds_on l.invariant.4 lt),
-      turn_on l.invariant.5 (λ anc f. write_nodes (self_at c.args.self.now.skip (c.args.levels - 1)) anc (unpacked c.args.bits) f) (λ anc f. write_nodes (self_at c.args.self.now.skip (c.args.levels - 1)) anc (unpacked c.args.bits) f) (λ parent anc g h u. nodes_first (self_at c.args.self.now.skip (c.args.levels - 1)) anc (unpacked c.args.bits) g u) lt (wrote_here) q (ap (wrote c.node.new.text) c.in_ok-node.was),
+      omega (arith, placeds_later l.invariant.3 lt, l.invariant.2, q),
+      subst (λ (k : ℕ). Placeds c.args.self.now.sheet.now c.args.nodes.now k c.args.to) (sym q) (placeds_on l.invariant.3 lt),
+      turn_on l.invariant.4 (λ anc f. write_nodes (self_at c.args.self.now.skip (c.args.levels - 1)) anc (unpacked c.args.bits) f) (λ anc f. write_nodes (self_at c.args.self.now.skip (c.args.levels - 1)) anc (unpacked c.args.bits) f) (λ parent anc g h u. nodes_first (self_at c.args.self.now.skip (c.args.levels - 1)) anc (unpacked c.args.bits) g u) lt (wrote_here) q (ap (wrote c.node.new.text) c.in_ok-node.was),
     )
 
 pub write-returns : goal.write-returns
 write-returns t c =
     let l = c.loop-at in record {
       room = c.loop-at.invariant.0;
-      kept = l.invariant.2;
+      kept = l.invariant.1;
       writes_forest = record {
         for = λ parent f anc h a. alike (write_some (tags_to_skip (skip_of c.args.self.now.skip)) c.args.levels anc (unpacked c.args.bits) f (take c.args.text.now.len c.args.text.now.room.now) (omega (arith, c.if-levels-eq0.false)))
-            (turn_last l.invariant.5 c.loop-at-test.false (λ anc u. nodes_none (self_at c.args.self.now.skip (c.args.levels - 1)) anc (unpacked c.args.bits) u) parent f anc h a);
+            (turn_last l.invariant.4 c.loop-at-test.false (λ anc u. nodes_none (self_at c.args.self.now.skip (c.args.levels - 1)) anc (unpacked c.args.bits) u) parent f anc h a);
       };
     }
 
@@ -1466,116 +1411,6 @@ write_element-returns-then-is_list t c =
       };
     }
 
-pub write_element-write_link-requires : goal.write_element-write_link-requires
-write_element-write_link-requires t c =
-    let u = c.unpacked-opts in
-    (falls_in c.args.levels c.decreases (lit< tt), (c.requires.0, c.requires.2, subst (λ (o : FormatOpts). Fits o (c.args.levels + 1)) (sym u.ensures) c.requires.3))
-
-pub write_element-write_table-requires : goal.write_element-write_table-requires
-write_element-write_table-requires t c =
-    let u = c.unpacked-opts in
-    (falls_in c.args.levels c.decreases (lit< tt), (c.requires.0, c.requires.2, subst (λ (o : FormatOpts). Fits o (c.args.levels + 1)) (sym u.ensures) c.requires.3))
-
-pub write_element-returns-then-name-eq21 : goal.write_element-returns-then-name-eq21
-write_element-returns-then-name-eq21 t c =
-    let named_here : (name : Bytes) (attrs : List Attr) (kids : Forest) → ElementAt c.args.self.now.sheet.now c.args.nodes.now c.args.at name attrs kids → c.args.name ≡ tag_of name = λ _ _ _ x. c.requires.1 ∙ element_name x in
-    let u = c.unpacked-opts in
-    let a = c.args in record {
-      room = c.write_link.ensures.room;
-      kept = c.write_link.ensures.kept;
-      writes_element = record {
-        for = λ name attrs kids anc x h.
-            alike (ap (λ (o : FormatOpts). write_element (self_at a.self.now.skip a.levels) anc o name attrs kids (take a.text.now.len a.text.now.room.now)) (sym u.ensures) ∙ by_link (self_at a.self.now.skip a.levels) anc u.result name attrs kids (take a.text.now.len a.text.now.room.now) (named_here _ _ _ x) (sym c.is_list.ensures ∙ c.if-is_list.false) c.if-name-eq21.true) (c.write_link.ensures.writes_element.for name attrs kids anc x h);
-      };
-    }
-
-pub write_element-node_place-place-requires : goal.write_element-node_place-place-requires
-write_element-node_place-place-requires t c =
-    (placed_node c.args.self.now.sheet.now c.args.nodes.now c.args.at c.requires.0).inside
-
-pub write_element-write_img-requires : goal.write_element-write_img-requires
-write_element-write_img-requires t c =
-    (c.args.text.now.fits, omega (arith, c.node_place-place.ensures, (placed_node c.args.self.now.sheet.now c.args.nodes.now c.args.at c.requires.0).placed), c.requires.2)
-
-pub write_element-returns-then-name-eq22 : goal.write_element-returns-then-name-eq22
-write_element-returns-then-name-eq22 t c =
-    let named_here : (name : Bytes) (attrs : List Attr) (kids : Forest) → ElementAt c.args.self.now.sheet.now c.args.nodes.now c.args.at name attrs kids → c.args.name ≡ tag_of name = λ _ _ _ x. c.requires.1 ∙ element_name x in
-    let u = c.unpacked-opts in
-    let a = c.args in record {
-      room = leaf_room c.write_img.ensures;
-      kept = kept_none a.nodes.now;
-      writes_element = record {
-        for = λ name attrs kids anc x h.
-            alike (ap (λ (o : FormatOpts). write_element (self_at a.self.now.skip a.levels) anc o name attrs kids (take a.text.now.len a.text.now.room.now)) (sym u.ensures) ∙ by_img (self_at a.self.now.skip a.levels) anc u.result name attrs kids (take a.text.now.len a.text.now.room.now) (named_here _ _ _ x) (sym c.is_list.ensures ∙ c.if-is_list.false) c.if-name-eq22.true
-            ∙ ap (λ (l : List Attr). write_img l (take a.text.now.len a.text.now.room.now)) (x.attrs_are ∙ ap (attrs_behind a.self.now.sheet.now) (sym c.node_place-place.ensures))) c.write_img.ensures.writes;
-      };
-    }
-
-pub write_element-write_pre-requires : goal.write_element-write_pre-requires
-write_element-write_pre-requires t c =
-    (c.requires.0, c.args.text.now.fits)
-
-pub write_element-returns-then-name-eq23 : goal.write_element-returns-then-name-eq23
-write_element-returns-then-name-eq23 t c =
-    let named_here : (name : Bytes) (attrs : List Attr) (kids : Forest) → ElementAt c.args.self.now.sheet.now c.args.nodes.now c.args.at name attrs kids → c.args.name ≡ tag_of name = λ _ _ _ x. c.requires.1 ∙ element_name x in
-    let u = c.unpacked-opts in
-    let a = c.args in record {
-      room = leaf_room c.write_pre.ensures;
-      kept = kept_none a.nodes.now;
-      writes_element = record {
-        for = λ name attrs kids anc x h.
-            alike (ap (λ (o : FormatOpts). write_element (self_at a.self.now.skip a.levels) anc o name attrs kids (take a.text.now.len a.text.now.room.now)) (sym u.ensures) ∙ by_pre (self_at a.self.now.skip a.levels) anc u.result name attrs kids (take a.text.now.len a.text.now.room.now) (named_here _ _ _ x) (sym c.is_list.ensures ∙ c.if-is_list.false) c.if-name-eq-PRE.true) (c.write_pre.ensures.writes name attrs kids anc x h);
-      };
-    }
-
-pub write_element-returns-then-name-eq14 : goal.write_element-returns-then-name-eq14
-write_element-returns-then-name-eq14 t c =
-    let named_here : (name : Bytes) (attrs : List Attr) (kids : Forest) → ElementAt c.args.self.now.sheet.now c.args.nodes.now c.args.at name attrs kids → c.args.name ≡ tag_of name = λ _ _ _ x. c.requires.1 ∙ element_name x in
-    let u = c.unpacked-opts in
-    let a = c.args in record {
-      room = c.write_table.ensures.room;
-      kept = c.write_table.ensures.kept;
-      writes_element = record {
-        for = λ name attrs kids anc x h.
-            alike (ap (λ (o : FormatOpts). write_element (self_at a.self.now.skip a.levels) anc o name attrs kids (take a.text.now.len a.text.now.room.now)) (sym u.ensures) ∙ by_table (self_at a.self.now.skip a.levels) anc u.result name attrs kids (take a.text.now.len a.text.now.room.now) (named_here _ _ _ x) (sym c.is_list.ensures ∙ c.if-is_list.false) c.if-name-eq14.true) (c.write_table.ensures.writes_element.for name attrs kids anc x h);
-      };
-    }
-
-pub write_element-write_code-requires : goal.write_element-write_code-requires
-write_element-write_code-requires t c =
-    (c.requires.0, c.args.text.now.fits)
-
-pub write_element-returns-then-name-eq24 : goal.write_element-returns-then-name-eq24
-write_element-returns-then-name-eq24 t c =
-    let named_here : (name : Bytes) (attrs : List Attr) (kids : Forest) → ElementAt c.args.self.now.sheet.now c.args.nodes.now c.args.at name attrs kids → c.args.name ≡ tag_of name = λ _ _ _ x. c.requires.1 ∙ element_name x in
-    let u = c.unpacked-opts in
-    let a = c.args in record {
-      room = leaf_room c.write_code.ensures;
-      kept = kept_none a.nodes.now;
-      writes_element = record {
-        for = λ name attrs kids anc x h.
-            alike (ap (λ (o : FormatOpts). write_element (self_at a.self.now.skip a.levels) anc o name attrs kids (take a.text.now.len a.text.now.room.now)) (sym u.ensures) ∙ by_code (self_at a.self.now.skip a.levels) anc u.result name attrs kids (take a.text.now.len a.text.now.room.now) (named_here _ _ _ x) (sym c.is_list.ensures ∙ c.if-is_list.false) c.if-name-eq24.true) (c.write_code.ensures.writes a.levels name attrs kids anc x h);
-      };
-    }
-
-pub write_element-write_emphasis-requires : goal.write_element-write_emphasis-requires
-write_element-write_emphasis-requires t c =
-    let u = c.unpacked-opts in
-    (falls_in c.args.levels c.decreases (lit< tt), (c.requires.0, c.requires.1, c.requires.2, subst (λ (o : FormatOpts). Fits o (c.args.levels + 1)) (sym u.ensures) c.requires.3))
-
-pub write_element-returns : goal.write_element-returns
-write_element-returns t c =
-    let named_here : (name : Bytes) (attrs : List Attr) (kids : Forest) → ElementAt c.args.self.now.sheet.now c.args.nodes.now c.args.at name attrs kids → c.args.name ≡ tag_of name = λ _ _ _ x. c.requires.1 ∙ element_name x in
-    let u = c.unpacked-opts in
-    let a = c.args in record {
-      room = c.write_emphasis.ensures.room;
-      kept = c.write_emphasis.ensures.kept;
-      writes_element = record {
-        for = λ name attrs kids anc x h.
-            alike (ap (λ (o : FormatOpts). write_element (self_at a.self.now.skip a.levels) anc o name attrs kids (take a.text.now.len a.text.now.room.now)) (sym u.ensures) ∙ by_emphasis (self_at a.self.now.skip a.levels) anc u.result name attrs kids (take a.text.now.len a.text.now.room.now) (named_here _ _ _ x) (sym c.is_list.ensures ∙ c.if-is_list.false) c.if-name-eq21.false c.if-name-eq22.false c.if-name-eq-PRE.false c.if-name-eq14.false c.if-name-eq24.false) (c.write_emphasis.ensures.writes_element.for name attrs kids anc x h);
-      };
-    }
-
 pub write_emphasis-node_end-to-requires : goal.write_emphasis-node_end-to-requires
 write_emphasis-node_end-to-requires t c =
     (placed_node c.args.self.now.sheet.now c.args.nodes.now c.args.at c.requires.0).inside
@@ -1584,9 +1419,9 @@ pub write_emphasis-overflow_add-at : goal.write_emphasis-overflow_add-at
 write_emphasis-overflow_add-at t c =
     omega (arith, (placed_node c.args.self.now.sheet.now c.args.nodes.now c.args.at c.requires.0).inside, c.well_formed)
 
-pub write_emphasis-packed-requires : goal.write_emphasis-packed-requires
-write_emphasis-packed-requires t c =
-    omega (arith, subst (λ (o : FormatOpts). Fits o c.args.levels) (sym c.emphasis_opts-inner.ensures) (omega (arith, c.requires.3)))
+pub write_emphasis-packed-bits-requires : goal.write_emphasis-packed-bits-requires
+write_emphasis-packed-bits-requires t c =
+    omega (arith, subst (λ (o : FormatOpts). Fits o c.args.levels) (sym c.emphasis_opts.ensures) (omega (arith, c.requires.3)))
 
 pub write_emphasis-write_behind-requires : goal.write_emphasis-write_behind-requires
 write_emphasis-write_behind-requires t c = (
@@ -1594,36 +1429,36 @@ write_emphasis-write_behind-requires t c = (
   (
     placed_kids c.args.self.now.sheet.now c.args.nodes.now c.args.at c.requires.0 c.node_end-to.ensures,
     c.requires.2,
-    subst (λ (o : FormatOpts). Fits o c.args.levels) (sym (c.packed.ensures ∙ c.emphasis_opts-inner.ensures)) (omega (arith, c.requires.3)),
+    subst (λ (o : FormatOpts). Fits o c.args.levels) (sym (c.packed-bits.ensures ∙ c.emphasis_opts.ensures)) (omega (arith, c.requires.3)),
   ),
 )
 
 pub write_emphasis-push_emphasis_by-requires : goal.write_emphasis-push_emphasis_by-requires
 write_emphasis-push_emphasis_by-requires t c =
-    let wrote_here : (name : Bytes) (attrs : List Attr) (kids : Forest) (anc : Ancestors) → ElementAt c.args.self.now.sheet.now c.args.nodes.now c.args.at name attrs kids → Around c.args.self.now.sheet.now c.args.nodes.now (parent_at c.args.nodes.now c.args.at) anc → Writes (length (lent c.args.text.now.room.now c.args.text.now.len)) c.write_behind.new.room c.write_behind.result ((self_at c.args.self.now.skip c.args.levels).below (attrs ∷ anc) (emphasis_scope (scope_of (md_emphasis (tag_of name))) (inline (include_node c.args.opts))) kids []) = λ name attrs kids anc x h. let a = c.args in subst (λ (o : FormatOpts). Writes (length (lent a.text.now.room.now a.text.now.len)) c.write_behind.new.room c.write_behind.result ((self_at a.self.now.skip a.levels).below (attrs ∷ anc) o kids [])) (c.packed.ensures ∙ c.emphasis_opts-inner.ensures ∙ ap (λ (k : ℕ). emphasis_scope (scope_of (md_emphasis k)) (inline (include_node a.opts))) (c.requires.1 ∙ element_name x)) (below-wrote a.self.now.skip a.levels (unpacked c.packed.result) anc x h c.node_end-to.ensures c.write_behind.ensures.writes_forest) in
+    let wrote_here : (name : Bytes) (attrs : List Attr) (kids : Forest) (anc : Ancestors) → ElementAt c.args.self.now.sheet.now c.args.nodes.now c.args.at name attrs kids → Around c.args.self.now.sheet.now c.args.nodes.now (parent_at c.args.nodes.now c.args.at) anc → Writes (length (lent c.args.text.now.room.now c.args.text.now.len)) c.write_behind.new.room c.write_behind.result ((self_at c.args.self.now.skip c.args.levels).below (attrs ∷ anc) (emphasis_scope (scope_of (md_emphasis (tag_of name))) (inline (include_node c.args.opts))) kids []) = λ name attrs kids anc x h. let a = c.args in subst (λ (o : FormatOpts). Writes (length (lent a.text.now.room.now a.text.now.len)) c.write_behind.new.room c.write_behind.result ((self_at a.self.now.skip a.levels).below (attrs ∷ anc) o kids [])) (c.packed-bits.ensures ∙ c.emphasis_opts.ensures ∙ ap (λ (k : ℕ). emphasis_scope (scope_of (md_emphasis k)) (inline (include_node a.opts))) (c.requires.1 ∙ element_name x)) (below-wrote a.self.now.skip a.levels (unpacked c.packed-bits.result) anc x h c.node_end-to.ensures c.write_behind.ensures.writes_forest) in
     let p = c.requires.0 in
     nest-fits c.args.text.now.room.now c.args.text.now.len c.args.text.now.fits (wrote_here _ _ _ p.1.0 p.0.3 p.1.1) c.in_ok-n.was
 
 pub write_emphasis-returns : goal.write_emphasis-returns
 write_emphasis-returns t c =
-    let wrote_here : (name : Bytes) (attrs : List Attr) (kids : Forest) (anc : Ancestors) → ElementAt c.args.self.now.sheet.now c.args.nodes.now c.args.at name attrs kids → Around c.args.self.now.sheet.now c.args.nodes.now (parent_at c.args.nodes.now c.args.at) anc → Writes (length (lent c.args.text.now.room.now c.args.text.now.len)) c.write_behind.new.room c.write_behind.result ((self_at c.args.self.now.skip c.args.levels).below (attrs ∷ anc) (emphasis_scope (scope_of (md_emphasis (tag_of name))) (inline (include_node c.args.opts))) kids []) = λ name attrs kids anc x h. let a = c.args in subst (λ (o : FormatOpts). Writes (length (lent a.text.now.room.now a.text.now.len)) c.write_behind.new.room c.write_behind.result ((self_at a.self.now.skip a.levels).below (attrs ∷ anc) o kids [])) (c.packed.ensures ∙ c.emphasis_opts-inner.ensures ∙ ap (λ (k : ℕ). emphasis_scope (scope_of (md_emphasis k)) (inline (include_node a.opts))) (c.requires.1 ∙ element_name x)) (below-wrote a.self.now.skip a.levels (unpacked c.packed.result) anc x h c.node_end-to.ensures c.write_behind.ensures.writes_forest) in
+    let wrote_here : (name : Bytes) (attrs : List Attr) (kids : Forest) (anc : Ancestors) → ElementAt c.args.self.now.sheet.now c.args.nodes.now c.args.at name attrs kids → Around c.args.self.now.sheet.now c.args.nodes.now (parent_at c.args.nodes.now c.args.at) anc → Writes (length (lent c.args.text.now.room.now c.args.text.now.len)) c.write_behind.new.room c.write_behind.result ((self_at c.args.self.now.skip c.args.levels).below (attrs ∷ anc) (emphasis_scope (scope_of (md_emphasis (tag_of name))) (inline (include_node c.args.opts))) kids []) = λ name attrs kids anc x h. let a = c.args in subst (λ (o : FormatOpts). Writes (length (lent a.text.now.room.now a.text.now.len)) c.write_behind.new.room c.write_behind.result ((self_at a.self.now.skip a.levels).below (attrs ∷ anc) o kids [])) (c.packed-bits.ensures ∙ c.emphasis_opts.ensures ∙ ap (λ (k : ℕ). emphasis_scope (scope_of (md_emphasis k)) (inline (include_node a.opts))) (c.requires.1 ∙ element_name x)) (below-wrote a.self.now.skip a.levels (unpacked c.packed-bits.result) anc x h c.node_end-to.ensures c.write_behind.ensures.writes_forest) in
     let a = c.args in record {
-      room = room_on (room_behind c.args.text.now c.write_behind.auto.room) (leaf_room c.push_emphasis_by.ensures);
+      room = room_on (room_behind _ refl refl c.write_behind.auto.room) (leaf_room c.push_emphasis_by.ensures);
       kept = kept_in (omega arith) (omega (arith, c.node_end-to.ensures)) c.write_behind.ensures.kept;
       writes_element = record {
         for = λ name attrs kids anc x h. alike (ap (λ (f : Step). f (take a.text.now.len a.text.now.room.now)) (emphasis_is (self_at a.self.now.skip a.levels) anc a.opts (tag_of name) attrs kids))
             (nest-done a.text.now.room.now a.text.now.len c.args.text.now.fits (wrote_here _ _ _ anc x h) (λ z. emphasis_step a.opts (tag_of name) z) c.in_ok-n.was
-            (subst (λ (k : ℕ). Writes (length (back a.text.now.room.now a.text.now.len c.write_behind.new.text)) c.push_emphasis_by.new.text.room.now c.push_emphasis_by.result (emphasis_step a.opts k (take c.in_ok-n.n (drop a.text.now.len (back a.text.now.room.now a.text.now.len c.write_behind.new.text))) (take a.text.now.len (back a.text.now.room.now a.text.now.len c.write_behind.new.text)))) (c.requires.1 ∙ element_name x) c.push_emphasis_by.ensures.writes));
+            (subst (λ (k : ℕ). Writes (length (back a.text.now.room.now a.text.now.len c.write_behind.new.room)) c.push_emphasis_by.new.text.room.now (wrote c.push_emphasis_by.new.text c.push_emphasis_by.result) (emphasis_step a.opts k (take c.in_ok-n.n (drop a.text.now.len (back a.text.now.room.now a.text.now.len c.write_behind.new.room))) (take a.text.now.len (back a.text.now.room.now a.text.now.len c.write_behind.new.room)))) (c.requires.1 ∙ element_name x) c.push_emphasis_by.ensures.writes));
       };
     }
 
 pub write_emphasis-returns-in_err-n : goal.write_emphasis-returns-in_err-n
 write_emphasis-returns-in_err-n t c =
-    let wrote_here : (name : Bytes) (attrs : List Attr) (kids : Forest) (anc : Ancestors) → ElementAt c.args.self.now.sheet.now c.args.nodes.now c.args.at name attrs kids → Around c.args.self.now.sheet.now c.args.nodes.now (parent_at c.args.nodes.now c.args.at) anc → Writes (length (lent c.args.text.now.room.now c.args.text.now.len)) c.write_behind.new.room c.write_behind.result ((self_at c.args.self.now.skip c.args.levels).below (attrs ∷ anc) (emphasis_scope (scope_of (md_emphasis (tag_of name))) (inline (include_node c.args.opts))) kids []) = λ name attrs kids anc x h. let a = c.args in subst (λ (o : FormatOpts). Writes (length (lent a.text.now.room.now a.text.now.len)) c.write_behind.new.room c.write_behind.result ((self_at a.self.now.skip a.levels).below (attrs ∷ anc) o kids [])) (c.packed.ensures ∙ c.emphasis_opts-inner.ensures ∙ ap (λ (k : ℕ). emphasis_scope (scope_of (md_emphasis k)) (inline (include_node a.opts))) (c.requires.1 ∙ element_name x)) (below-wrote a.self.now.skip a.levels (unpacked c.packed.result) anc x h c.node_end-to.ensures c.write_behind.ensures.writes_forest) in
+    let wrote_here : (name : Bytes) (attrs : List Attr) (kids : Forest) (anc : Ancestors) → ElementAt c.args.self.now.sheet.now c.args.nodes.now c.args.at name attrs kids → Around c.args.self.now.sheet.now c.args.nodes.now (parent_at c.args.nodes.now c.args.at) anc → Writes (length (lent c.args.text.now.room.now c.args.text.now.len)) c.write_behind.new.room c.write_behind.result ((self_at c.args.self.now.skip c.args.levels).below (attrs ∷ anc) (emphasis_scope (scope_of (md_emphasis (tag_of name))) (inline (include_node c.args.opts))) kids []) = λ name attrs kids anc x h. let a = c.args in subst (λ (o : FormatOpts). Writes (length (lent a.text.now.room.now a.text.now.len)) c.write_behind.new.room c.write_behind.result ((self_at a.self.now.skip a.levels).below (attrs ∷ anc) o kids [])) (c.packed-bits.ensures ∙ c.emphasis_opts.ensures ∙ ap (λ (k : ℕ). emphasis_scope (scope_of (md_emphasis k)) (inline (include_node a.opts))) (c.requires.1 ∙ element_name x)) (below-wrote a.self.now.skip a.levels (unpacked c.packed-bits.result) anc x h c.node_end-to.ensures c.write_behind.ensures.writes_forest) in
     let a = c.args in record {
-      room = room_behind c.args.text.now c.write_behind.auto.room;
+      room = room_behind _ refl refl c.write_behind.auto.room;
       kept = kept_in (omega arith) (omega (arith, c.node_end-to.ensures)) c.write_behind.ensures.kept;
-      writes_element = stops_element c.from_residual.ensures.0 (record {
+      writes_element = stops_element (wrote_err _ _ c.from_residual.ensures.0) (record {
         for = λ name attrs kids anc x h. alike (ap (λ (f : Step). f (take a.text.now.len a.text.now.room.now)) (emphasis_is (self_at a.self.now.skip a.levels) anc a.opts (tag_of name) attrs kids))
             (nest-full a.text.now.room.now a.text.now.len c.args.text.now.fits (wrote_here _ _ _ anc x h) (emphasis_step a.opts (tag_of name) ((self_at a.self.now.skip a.levels).below (attrs ∷ anc) (emphasis_scope (scope_of (md_emphasis (tag_of name))) (inline (include_node a.opts))) kids []).text) c.in_err-n.was);
       });
@@ -1655,13 +1490,13 @@ write_link-returns-in-Some t c =
       };
     }
 
-pub write_link-packed-bits-requires : goal.write_link-packed-bits-requires
-write_link-packed-bits-requires t c =
-    omega (arith, subst (λ (o : FormatOpts). Fits o c.args.levels) (sym c.fresh-fresh.ensures) (omega (arith, c.requires.2)))
+pub write_link-packed-requires : goal.write_link-packed-requires
+write_link-packed-requires t c =
+    omega (arith, subst (λ (o : FormatOpts). Fits o c.args.levels) (sym c.fresh.ensures) (omega (arith, c.requires.2)))
 
 pub write_link-kids-requires : goal.write_link-kids-requires
 write_link-kids-requires t c =
-    (falls_in c.args.levels c.decreases (lit< tt), (c.requires.0, c.requires.1, subst (λ (o : FormatOpts). Fits o c.args.levels) (sym (c.packed-bits.ensures ∙ c.fresh-fresh.ensures)) (omega (arith, c.requires.2))))
+    (falls_in c.args.levels c.decreases (lit< tt), (c.requires.0, c.requires.1, subst (λ (o : FormatOpts). Fits o c.args.levels) (sym (c.packed.ensures ∙ c.fresh.ensures)) (omega (arith, c.requires.2))))
 
 pub write_link-returns-in-None : goal.write_link-returns-in-None
 write_link-returns-in-None t c =
@@ -1672,7 +1507,7 @@ write_link-returns-in-None t c =
         for = λ name attrs kids anc x h.
             alike (link_none (self_at a.self.now.skip a.levels) anc a.opts name attrs kids (take a.text.now.len a.text.now.room.now)
             (ap (attr (ascii "href")) (x.attrs_are ∙ ap (attrs_behind a.self.now.sheet.now) (sym c.node_place-place.ensures)) ∙ (c.in-None.ensures).value_is))
-            (subst (λ (o : FormatOpts). Writes (length a.text.now.room.now) c.kids.new.text.room.now c.kids.result (write_kids (self_at a.self.now.skip a.levels) anc o (element name attrs kids nothing) (take a.text.now.len a.text.now.room.now))) (c.packed-bits.ensures ∙ c.fresh-fresh.ensures) (c.kids.ensures.writes_element.for name attrs kids anc x h));
+            (subst (λ (o : FormatOpts). Writes (length a.text.now.room.now) c.kids.new.text.room.now (wrote c.kids.new.text c.kids.result) (write_kids (self_at a.self.now.skip a.levels) anc o (element name attrs kids nothing) (take a.text.now.len a.text.now.room.now))) (c.packed.ensures ∙ c.fresh.ensures) (c.kids.ensures.writes_element.for name attrs kids anc x h));
       };
     }
 
@@ -1704,10 +1539,6 @@ pub write_list-items-requires : goal.write_list-items-requires
 write_list-items-requires t c =
     (falls_in c.args.levels c.decreases (lit< tt), (placed_kids c.args.self.now.sheet.now c.args.nodes.now c.args.at c.requires.0 c.node_end-to.ensures, c.requires.2, fits_begun c.args.self.now.sheet.now c.node_place-place.result c.args.name c.args.opts c.new-ctx.ensures c.kind_of-kind.ensures c.args.levels c.requires.3))
 
-pub write_list-end_list-requires : goal.write_list-end_list-requires
-write_list-end_list-requires t c =
-    forest-reaches c.items.ensures.writes_forest (placed_kids c.args.self.now.sheet.now c.args.nodes.now c.args.at c.requires.0 c.node_end-to.ensures) (ap (wrote c.items.new.text) c.in_ok-items.was)
-
 pub write_list-returns : goal.write_list-returns
 write_list-returns t c =
     let a = c.args in
@@ -1728,7 +1559,7 @@ write_list-returns-in_err-items t c =
     let self = self_at a.self.now.skip a.levels in record {
       room = c.items.ensures.room;
       kept = kept_in (omega arith) (omega (arith, c.node_end-to.ensures)) c.items.ensures.kept;
-      writes_element = stops_element c.from_residual.ensures.0 (record {
+      writes_element = stops_element (wrote_err _ _ c.from_residual.ensures.0) (record {
         for = λ name attrs kids anc x h.
             both-full a.text.now.room.now a.text.now.len c.args.text.now.fits (write_list self anc a.opts (tag_of name) attrs kids) (list_children self (attrs ∷ anc) kids c.new-ctx.result) (ended_list a.opts)
             (list_parts a.self.now.sheet.now c.node_place-place.result a.name a.opts c.new-ctx.ensures c.kind_of-kind.ensures self anc (take a.text.now.len a.text.now.room.now) c.node_place-place.ensures c.requires.1 x)
@@ -1762,13 +1593,13 @@ write_table-is_table_node_writable-requires t c =
     let k = placed_kids c.args.self.now.sheet.now c.args.nodes.now c.args.at p c.node_end-to.ensures in
     ((k.parent, k.forest, k.rep), (from_cells (rows_of (p.0.1 ∷ p.1.0) p.0.2), filled_here _ _ _ p.1.0 p.0.3 p.1.1))
 
-pub write_table-packed-bits-requires : goal.write_table-packed-bits-requires
-write_table-packed-bits-requires t c =
-    omega (arith, subst (λ (o : FormatOpts). Fits o c.args.levels) (sym c.fresh-fresh.ensures) (omega (arith, c.requires.2)))
+pub write_table-packed-requires : goal.write_table-packed-requires
+write_table-packed-requires t c =
+    omega (arith, subst (λ (o : FormatOpts). Fits o c.args.levels) (sym c.fresh.ensures) (omega (arith, c.requires.2)))
 
 pub write_table-kids-requires : goal.write_table-kids-requires
 write_table-kids-requires t c =
-    (falls_in c.args.levels c.decreases (lit< tt), (c.requires.0, c.requires.1, subst (λ (o : FormatOpts). Fits o c.args.levels) (sym (c.packed-bits.ensures ∙ c.fresh-fresh.ensures)) (omega (arith, c.requires.2))))
+    (falls_in c.args.levels c.decreases (lit< tt), (c.requires.0, c.requires.1, subst (λ (o : FormatOpts). Fits o c.args.levels) (sym (c.packed.ensures ∙ c.fresh.ensures)) (omega (arith, c.requires.2))))
 
 pub write_table-returns-then-not-is_table_node_writable : goal.write_table-returns-then-not-is_table_node_writable
 write_table-returns-then-not-is_table_node_writable t c =
@@ -1781,7 +1612,7 @@ write_table-returns-then-not-is_table_node_writable t c =
       writes_element = record {
         for = λ name attrs kids anc x h.
             alike (table_flat (self_at a.self.now.skip a.levels) anc a.opts name attrs kids (take a.text.now.len a.text.now.room.now) (sym (writable_here _ _ _ anc x h) ∙ c.if-not-is_table_node_writable.true))
-            (subst (λ (o : FormatOpts). Writes (length a.text.now.room.now) c.kids.new.text.room.now c.kids.result (write_kids (self_at a.self.now.skip a.levels) anc o (element name attrs kids nothing) (take a.text.now.len a.text.now.room.now))) (c.packed-bits.ensures ∙ c.fresh-fresh.ensures) (c.kids.ensures.writes_element.for name attrs kids anc x h));
+            (subst (λ (o : FormatOpts). Writes (length a.text.now.room.now) c.kids.new.text.room.now (wrote c.kids.new.text c.kids.result) (write_kids (self_at a.self.now.skip a.levels) anc o (element name attrs kids nothing) (take a.text.now.len a.text.now.room.now))) (c.packed.ensures ∙ c.fresh.ensures) (c.kids.ensures.writes_element.for name attrs kids anc x h));
       };
     }
 
@@ -1800,11 +1631,11 @@ write_table-cells-requires t c =
       ),
     )
 
-pub write_table-overflow_sub-end : goal.write_table-overflow_sub-end
-write_table-overflow_sub-end t c =
+pub write_table-overflow_sub-n : goal.write_table-overflow_sub-n
+write_table-overflow_sub-n t c =
     let rows_here : (name : Bytes) (attrs : List Attr) (kids : Forest) (anc : Ancestors) → ElementAt c.args.self.now.sheet.now c.args.nodes.now c.args.at name attrs kids → Around c.args.self.now.sheet.now c.args.nodes.now (parent_at c.args.nodes.now c.args.at) anc → Rows c.args.self.now.sheet.now c.args.nodes.now (c.args.at + 1) c.node_end-to.result (rows_of (attrs ∷ anc) kids) = λ name attrs kids anc x h. let a = c.args in rows_of_lem a.self.now.sheet.now a.nodes.now a.at (a.at + 1) c.node_end-to.result kids (attrs ∷ anc) (element_kids x c.node_end-to.ensures) (around_it anc x h) (omega arith) in
     let filled_here : (name : Bytes) (attrs : List Attr) (kids : Forest) (anc : Ancestors) → ElementAt c.args.self.now.sheet.now c.args.nodes.now c.args.at name attrs kids → Around c.args.self.now.sheet.now c.args.nodes.now (parent_at c.args.nodes.now c.args.at) anc → RowsAt c.args.self.now.sheet.now c.args.nodes.now c.next_filled_row-first.result c.node_end-to.result (from_cells (rows_of (attrs ∷ anc) kids)) = λ name attrs kids anc x h. c.next_filled_row-first.ensures.rows (rows_of (attrs ∷ anc) kids) (rows_here _ _ _ anc x h) in
-    let wrote_here : (name : Bytes) (attrs : List Attr) (kids : Forest) (anc : Ancestors) → ElementAt c.args.self.now.sheet.now c.args.nodes.now c.args.at name attrs kids → Around c.args.self.now.sheet.now c.args.nodes.now (parent_at c.args.nodes.now c.args.at) anc → RowsWrites (length c.args.text.now.room.now) c.cells.new.text.room.now (table_lengths c.args.self.now.sheet.now c.cells.new.nodes c.next_filled_row-first.result c.node_end-to.result) c.cells.result (rows_texts (self_at c.args.self.now.skip c.args.levels) c.args.opts (from_cells (rows_of (attrs ∷ anc) kids))) (take c.args.text.now.len c.args.text.now.room.now) = λ name attrs kids anc x h. let a = c.args in c.cells.ensures.rows_writes (from_cells (rows_of (attrs ∷ anc) kids)) (rows_at a.self.now.sheet.now a.nodes.now c.next_filled_row-first.result c.node_end-to.result (from_cells (rows_of (attrs ∷ anc) kids)) (filled_here _ _ _ anc x h)) in
+    let wrote_here : (name : Bytes) (attrs : List Attr) (kids : Forest) (anc : Ancestors) → ElementAt c.args.self.now.sheet.now c.args.nodes.now c.args.at name attrs kids → Around c.args.self.now.sheet.now c.args.nodes.now (parent_at c.args.nodes.now c.args.at) anc → RowsWrites (length c.args.text.now.room.now) c.cells.new.text.room.now (table_lengths c.args.self.now.sheet.now c.cells.new.nodes c.next_filled_row-first.result c.node_end-to.result) (wrote c.cells.new.text c.cells.result) (rows_texts (self_at c.args.self.now.skip c.args.levels) c.args.opts (from_cells (rows_of (attrs ∷ anc) kids))) (take c.args.text.now.len c.args.text.now.room.now) = λ name attrs kids anc x h. let a = c.args in c.cells.ensures.rows_writes (from_cells (rows_of (attrs ∷ anc) kids)) (rows_at a.self.now.sheet.now a.nodes.now c.next_filled_row-first.result c.node_end-to.result (from_cells (rows_of (attrs ∷ anc) kids)) (filled_here _ _ _ anc x h)) in
     let a = c.args in
     let p = c.requires.0 in
     omega (arith, behind_count a.text.now.room.now a.text.now.len (concat (rows_texts (self_at a.self.now.skip a.levels) a.opts (from_cells (rows_of (p.0.1 ∷ p.1.0) p.0.2)))) c.args.text.now.fits (done (ap (wrote c.cells.new.text) c.in_ok-cells.was) (wrote_here _ _ _ p.1.0 p.0.3 p.1.1).writes))
@@ -1813,7 +1644,7 @@ pub write_table-push_table-requires : goal.write_table-push_table-requires
 write_table-push_table-requires t c =
     let rows_here : (name : Bytes) (attrs : List Attr) (kids : Forest) (anc : Ancestors) → ElementAt c.args.self.now.sheet.now c.args.nodes.now c.args.at name attrs kids → Around c.args.self.now.sheet.now c.args.nodes.now (parent_at c.args.nodes.now c.args.at) anc → Rows c.args.self.now.sheet.now c.args.nodes.now (c.args.at + 1) c.node_end-to.result (rows_of (attrs ∷ anc) kids) = λ name attrs kids anc x h. let a = c.args in rows_of_lem a.self.now.sheet.now a.nodes.now a.at (a.at + 1) c.node_end-to.result kids (attrs ∷ anc) (element_kids x c.node_end-to.ensures) (around_it anc x h) (omega arith) in
     let filled_here : (name : Bytes) (attrs : List Attr) (kids : Forest) (anc : Ancestors) → ElementAt c.args.self.now.sheet.now c.args.nodes.now c.args.at name attrs kids → Around c.args.self.now.sheet.now c.args.nodes.now (parent_at c.args.nodes.now c.args.at) anc → RowsAt c.args.self.now.sheet.now c.args.nodes.now c.next_filled_row-first.result c.node_end-to.result (from_cells (rows_of (attrs ∷ anc) kids)) = λ name attrs kids anc x h. c.next_filled_row-first.ensures.rows (rows_of (attrs ∷ anc) kids) (rows_here _ _ _ anc x h) in
-    let wrote_here : (name : Bytes) (attrs : List Attr) (kids : Forest) (anc : Ancestors) → ElementAt c.args.self.now.sheet.now c.args.nodes.now c.args.at name attrs kids → Around c.args.self.now.sheet.now c.args.nodes.now (parent_at c.args.nodes.now c.args.at) anc → RowsWrites (length c.args.text.now.room.now) c.cells.new.text.room.now (table_lengths c.args.self.now.sheet.now c.cells.new.nodes c.next_filled_row-first.result c.node_end-to.result) c.cells.result (rows_texts (self_at c.args.self.now.skip c.args.levels) c.args.opts (from_cells (rows_of (attrs ∷ anc) kids))) (take c.args.text.now.len c.args.text.now.room.now) = λ name attrs kids anc x h. let a = c.args in c.cells.ensures.rows_writes (from_cells (rows_of (attrs ∷ anc) kids)) (rows_at a.self.now.sheet.now a.nodes.now c.next_filled_row-first.result c.node_end-to.result (from_cells (rows_of (attrs ∷ anc) kids)) (filled_here _ _ _ anc x h)) in
+    let wrote_here : (name : Bytes) (attrs : List Attr) (kids : Forest) (anc : Ancestors) → ElementAt c.args.self.now.sheet.now c.args.nodes.now c.args.at name attrs kids → Around c.args.self.now.sheet.now c.args.nodes.now (parent_at c.args.nodes.now c.args.at) anc → RowsWrites (length c.args.text.now.room.now) c.cells.new.text.room.now (table_lengths c.args.self.now.sheet.now c.cells.new.nodes c.next_filled_row-first.result c.node_end-to.result) (wrote c.cells.new.text c.cells.result) (rows_texts (self_at c.args.self.now.skip c.args.levels) c.args.opts (from_cells (rows_of (attrs ∷ anc) kids))) (take c.args.text.now.len c.args.text.now.room.now) = λ name attrs kids anc x h. let a = c.args in c.cells.ensures.rows_writes (from_cells (rows_of (attrs ∷ anc) kids)) (rows_at a.self.now.sheet.now a.nodes.now c.next_filled_row-first.result c.node_end-to.result (from_cells (rows_of (attrs ∷ anc) kids)) (filled_here _ _ _ anc x h)) in
     let rows_here_2 : (name : Bytes) (attrs : List Attr) (kids : Forest) (anc : Ancestors) → ElementAt c.args.self.now.sheet.now c.args.nodes.now c.args.at name attrs kids → Around c.args.self.now.sheet.now c.args.nodes.now (parent_at c.args.nodes.now c.args.at) anc → Rows c.args.self.now.sheet.now c.args.nodes.now (c.args.at + 1) c.node_end-to.result (rows_of (attrs ∷ anc) kids) = λ name attrs kids anc x h. let a = c.args in rows_of_lem a.self.now.sheet.now a.nodes.now a.at (a.at + 1) c.node_end-to.result kids (attrs ∷ anc) (element_kids x c.node_end-to.ensures) (around_it anc x h) (omega arith) in
     let filled_here_2 : (name : Bytes) (attrs : List Attr) (kids : Forest) (anc : Ancestors) → ElementAt c.args.self.now.sheet.now c.args.nodes.now c.args.at name attrs kids → Around c.args.self.now.sheet.now c.args.nodes.now (parent_at c.args.nodes.now c.args.at) anc → RowsAt c.args.self.now.sheet.now c.args.nodes.now c.next_filled_row-first.result c.node_end-to.result (from_cells (rows_of (attrs ∷ anc) kids)) = λ name attrs kids anc x h. c.next_filled_row-first.ensures.rows (rows_of (attrs ∷ anc) kids) (rows_here_2 _ _ _ anc x h) in
     let writable_here : (name : Bytes) (attrs : List Attr) (kids : Forest) (anc : Ancestors) → ElementAt c.args.self.now.sheet.now c.args.nodes.now c.args.at name attrs kids → Around c.args.self.now.sheet.now c.args.nodes.now (parent_at c.args.nodes.now c.args.at) anc → c.is_table_node_writable.result ≡ is_table_node_writable kids (from_cells (rows_of (attrs ∷ anc) kids)) = λ name attrs kids anc x h. c.is_table_node_writable.ensures c.args.at kids (from_cells (rows_of (attrs ∷ anc) kids)) (element_kids x c.node_end-to.ensures) (filled_here_2 _ _ _ anc x h) in
@@ -1839,14 +1670,22 @@ pub write_table-returns : goal.write_table-returns
 write_table-returns t c =
     let rows_here : (name : Bytes) (attrs : List Attr) (kids : Forest) (anc : Ancestors) → ElementAt c.args.self.now.sheet.now c.args.nodes.now c.args.at name attrs kids → Around c.args.self.now.sheet.now c.args.nodes.now (parent_at c.args.nodes.now c.args.at) anc → Rows c.args.self.now.sheet.now c.args.nodes.now (c.args.at + 1) c.node_end-to.result (rows_of (attrs ∷ anc) kids) = λ name attrs kids anc x h. let a = c.args in rows_of_lem a.self.now.sheet.now a.nodes.now a.at (a.at + 1) c.node_end-to.result kids (attrs ∷ anc) (element_kids x c.node_end-to.ensures) (around_it anc x h) (omega arith) in
     let filled_here : (name : Bytes) (attrs : List Attr) (kids : Forest) (anc : Ancestors) → ElementAt c.args.self.now.sheet.now c.args.nodes.now c.args.at name attrs kids → Around c.args.self.now.sheet.now c.args.nodes.now (parent_at c.args.nodes.now c.args.at) anc → RowsAt c.args.self.now.sheet.now c.args.nodes.now c.next_filled_row-first.result c.node_end-to.result (from_cells (rows_of (attrs ∷ anc) kids)) = λ name attrs kids anc x h. c.next_filled_row-first.ensures.rows (rows_of (attrs ∷ anc) kids) (rows_here _ _ _ anc x h) in
-    let wrote_here : (name : Bytes) (attrs : List Attr) (kids : Forest) (anc : Ancestors) → ElementAt c.args.self.now.sheet.now c.args.nodes.now c.args.at name attrs kids → Around c.args.self.now.sheet.now c.args.nodes.now (parent_at c.args.nodes.now c.args.at) anc → RowsWrites (length c.args.text.now.room.now) c.cells.new.text.room.now (table_lengths c.args.self.now.sheet.now c.cells.new.nodes c.next_filled_row-first.result c.node_end-to.result) c.cells.result (rows_texts (self_at c.args.self.now.skip c.args.levels) c.args.opts (from_cells (rows_of (attrs ∷ anc) kids))) (take c.args.text.now.len c.args.text.now.room.now) = λ name attrs kids anc x h. let a = c.args in c.cells.ensures.rows_writes (from_cells (rows_of (attrs ∷ anc) kids)) (rows_at a.self.now.sheet.now a.nodes.now c.next_filled_row-first.result c.node_end-to.result (from_cells (rows_of (attrs ∷ anc) kids)) (filled_here _ _ _ anc x h)) in
+    let wrote_here : (name : Bytes) (attrs : List Attr) (kids : Forest) (anc : Ancestors) → ElementAt c.args.self.now.sheet.now c.args.nodes.now c.args.at name attrs kids → Around c.args.self.now.sheet.now c.args.nodes.now (parent_at c.args.nodes.now c.args.at) anc → RowsWrites (length c.args.text.now.room.now) c.cells.new.text.room.now (table_lengths c.args.self.now.sheet.now c.cells.new.nodes c.next_filled_row-first.result c.node_end-to.result) (wrote c.cells.new.text c.cells.result) (rows_texts (self_at c.args.self.now.skip c.args.levels) c.args.opts (from_cells (rows_of (attrs ∷ anc) kids))) (take c.args.text.now.len c.args.text.now.room.now) = λ name attrs kids anc x h. let a = c.args in c.cells.ensures.rows_writes (from_cells (rows_of (attrs ∷ anc) kids)) (rows_at a.self.now.sheet.now a.nodes.now c.next_filled_row-first.result c.node_end-to.result (from_cells (rows_of (attrs ∷ anc) kids)) (filled_here _ _ _ anc x h)) in
     let rows_here_2 : (name : Bytes) (attrs : List Attr) (kids : Forest) (anc : Ancestors) → ElementAt c.args.self.now.sheet.now c.args.nodes.now c.args.at name attrs kids → Around c.args.self.now.sheet.now c.args.nodes.now (parent_at c.args.nodes.now c.args.at) anc → Rows c.args.self.now.sheet.now c.args.nodes.now (c.args.at + 1) c.node_end-to.result (rows_of (attrs ∷ anc) kids) = λ name attrs kids anc x h. let a = c.args in rows_of_lem a.self.now.sheet.now a.nodes.now a.at (a.at + 1) c.node_end-to.result kids (attrs ∷ anc) (element_kids x c.node_end-to.ensures) (around_it anc x h) (omega arith) in
     let filled_here_2 : (name : Bytes) (attrs : List Attr) (kids : Forest) (anc : Ancestors) → ElementAt c.args.self.now.sheet.now c.args.nodes.now c.args.at name attrs kids → Around c.args.self.now.sheet.now c.args.nodes.now (parent_at c.args.nodes.now c.args.at) anc → RowsAt c.args.self.now.sheet.now c.args.nodes.now c.next_filled_row-first.result c.node_end-to.result (from_cells (rows_of (attrs ∷ anc) kids)) = λ name attrs kids anc x h. c.next_filled_row-first.ensures.rows (rows_of (attrs ∷ anc) kids) (rows_here_2 _ _ _ anc x h) in
     let writable_here : (name : Bytes) (attrs : List Attr) (kids : Forest) (anc : Ancestors) → ElementAt c.args.self.now.sheet.now c.args.nodes.now c.args.at name attrs kids → Around c.args.self.now.sheet.now c.args.nodes.now (parent_at c.args.nodes.now c.args.at) anc → c.is_table_node_writable.result ≡ is_table_node_writable kids (from_cells (rows_of (attrs ∷ anc) kids)) = λ name attrs kids anc x h. c.is_table_node_writable.ensures c.args.at kids (from_cells (rows_of (attrs ∷ anc) kids)) (element_kids x c.node_end-to.ensures) (filled_here_2 _ _ _ anc x h) in
     let rows_here_3 : (name : Bytes) (attrs : List Attr) (kids : Forest) (anc : Ancestors) → ElementAt c.args.self.now.sheet.now c.args.nodes.now c.args.at name attrs kids → Around c.args.self.now.sheet.now c.args.nodes.now (parent_at c.args.nodes.now c.args.at) anc → Rows c.args.self.now.sheet.now c.args.nodes.now (c.args.at + 1) c.node_end-to.result (rows_of (attrs ∷ anc) kids) = λ name attrs kids anc x h. let a = c.args in rows_of_lem a.self.now.sheet.now a.nodes.now a.at (a.at + 1) c.node_end-to.result kids (attrs ∷ anc) (element_kids x c.node_end-to.ensures) (around_it anc x h) (omega arith) in
     let filled_here_3 : (name : Bytes) (attrs : List Attr) (kids : Forest) (anc : Ancestors) → ElementAt c.args.self.now.sheet.now c.args.nodes.now c.args.at name attrs kids → Around c.args.self.now.sheet.now c.args.nodes.now (parent_at c.args.nodes.now c.args.at) anc → RowsAt c.args.self.now.sheet.now c.args.nodes.now c.next_filled_row-first.result c.node_end-to.result (from_cells (rows_of (attrs ∷ anc) kids)) = λ name attrs kids anc x h. c.next_filled_row-first.ensures.rows (rows_of (attrs ∷ anc) kids) (rows_here_3 _ _ _ anc x h) in
     let a = c.args in record {
-      room = room_on (c.cells.ensures.room) (leaf_room c.push_table.ensures);
+      room =
+          let p = c.requires.0 in
+          let R = from_cells (rows_of (p.0.1 ∷ p.1.0) p.0.2) in
+          let w = wrote_here _ _ _ p.1.0 p.0.3 p.1.1 in
+          let d = done (ap (wrote c.cells.new.text) c.in_ok-cells.was) w.writes in
+          let v =
+          c.push_table.ensures (self_at a.self.now.skip a.levels) a.opts R (rows_at_kept c.cells.ensures.kept a.self.now.sheet.now c.next_filled_row-first.result c.node_end-to.result R (filled_here_3 _ _ _ p.1.0 p.0.3 p.1.1))
+          (w.lengths_are c.cells.new.text.len (ap (wrote c.cells.new.text) c.in_ok-cells.was)) (behind_bytes a.text.now.room.now a.text.now.len (concat (rows_texts (self_at a.self.now.skip a.levels) a.opts R)) c.args.text.now.fits d) in
+          record { room_is = v.room_is ∙ c.cells.ensures.room.room_is; long = v.long ∙ c.cells.ensures.room.long };
       kept = kept_in (omega (arith, c.next_filled_row-first.ensures.later)) (omega (arith, c.node_end-to.ensures)) c.cells.ensures.kept;
       writes_element = record {
         for = λ name attrs kids anc x h.
@@ -1855,8 +1694,8 @@ write_table-returns t c =
             let d = done (ap (wrote c.cells.new.text) c.in_ok-cells.was) w.writes in
             alike (table_written (self_at a.self.now.skip a.levels) anc a.opts name attrs kids (take a.text.now.len a.text.now.room.now) (sym (writable_here _ _ _ anc x h) ∙ c.if-not-is_table_node_writable.false))
             (table_done (self_at a.self.now.skip a.levels) a.opts R a.text.now.room.now a.text.now.len c.args.text.now.fits d
-            (c.push_table.ensures.writes (self_at a.self.now.skip a.levels) a.opts R (rows_at_kept c.cells.ensures.kept a.self.now.sheet.now c.next_filled_row-first.result c.node_end-to.result R (filled_here_3 _ _ _ anc x h)) (w.lengths_are c.cells.new.text.len (ap (wrote c.cells.new.text) c.in_ok-cells.was))
-            (behind_bytes a.text.now.room.now a.text.now.len (concat (rows_texts (self_at a.self.now.skip a.levels) a.opts R)) c.args.text.now.fits d)));
+            ((c.push_table.ensures (self_at a.self.now.skip a.levels) a.opts R (rows_at_kept c.cells.ensures.kept a.self.now.sheet.now c.next_filled_row-first.result c.node_end-to.result R (filled_here_3 _ _ _ anc x h)) (w.lengths_are c.cells.new.text.len (ap (wrote c.cells.new.text) c.in_ok-cells.was))
+            (behind_bytes a.text.now.room.now a.text.now.len (concat (rows_texts (self_at a.self.now.skip a.levels) a.opts R)) c.args.text.now.fits d)).writes));
       };
     }
 
@@ -1867,14 +1706,111 @@ write_table-returns-in_err-cells t c =
     let writable_here : (name : Bytes) (attrs : List Attr) (kids : Forest) (anc : Ancestors) → ElementAt c.args.self.now.sheet.now c.args.nodes.now c.args.at name attrs kids → Around c.args.self.now.sheet.now c.args.nodes.now (parent_at c.args.nodes.now c.args.at) anc → c.is_table_node_writable.result ≡ is_table_node_writable kids (from_cells (rows_of (attrs ∷ anc) kids)) = λ name attrs kids anc x h. c.is_table_node_writable.ensures c.args.at kids (from_cells (rows_of (attrs ∷ anc) kids)) (element_kids x c.node_end-to.ensures) (filled_here _ _ _ anc x h) in
     let rows_here_2 : (name : Bytes) (attrs : List Attr) (kids : Forest) (anc : Ancestors) → ElementAt c.args.self.now.sheet.now c.args.nodes.now c.args.at name attrs kids → Around c.args.self.now.sheet.now c.args.nodes.now (parent_at c.args.nodes.now c.args.at) anc → Rows c.args.self.now.sheet.now c.args.nodes.now (c.args.at + 1) c.node_end-to.result (rows_of (attrs ∷ anc) kids) = λ name attrs kids anc x h. let a = c.args in rows_of_lem a.self.now.sheet.now a.nodes.now a.at (a.at + 1) c.node_end-to.result kids (attrs ∷ anc) (element_kids x c.node_end-to.ensures) (around_it anc x h) (omega arith) in
     let filled_here_2 : (name : Bytes) (attrs : List Attr) (kids : Forest) (anc : Ancestors) → ElementAt c.args.self.now.sheet.now c.args.nodes.now c.args.at name attrs kids → Around c.args.self.now.sheet.now c.args.nodes.now (parent_at c.args.nodes.now c.args.at) anc → RowsAt c.args.self.now.sheet.now c.args.nodes.now c.next_filled_row-first.result c.node_end-to.result (from_cells (rows_of (attrs ∷ anc) kids)) = λ name attrs kids anc x h. c.next_filled_row-first.ensures.rows (rows_of (attrs ∷ anc) kids) (rows_here_2 _ _ _ anc x h) in
-    let wrote_here : (name : Bytes) (attrs : List Attr) (kids : Forest) (anc : Ancestors) → ElementAt c.args.self.now.sheet.now c.args.nodes.now c.args.at name attrs kids → Around c.args.self.now.sheet.now c.args.nodes.now (parent_at c.args.nodes.now c.args.at) anc → RowsWrites (length c.args.text.now.room.now) c.cells.new.text.room.now (table_lengths c.args.self.now.sheet.now c.cells.new.nodes c.next_filled_row-first.result c.node_end-to.result) c.cells.result (rows_texts (self_at c.args.self.now.skip c.args.levels) c.args.opts (from_cells (rows_of (attrs ∷ anc) kids))) (take c.args.text.now.len c.args.text.now.room.now) = λ name attrs kids anc x h. let a = c.args in c.cells.ensures.rows_writes (from_cells (rows_of (attrs ∷ anc) kids)) (rows_at a.self.now.sheet.now a.nodes.now c.next_filled_row-first.result c.node_end-to.result (from_cells (rows_of (attrs ∷ anc) kids)) (filled_here_2 _ _ _ anc x h)) in
+    let wrote_here : (name : Bytes) (attrs : List Attr) (kids : Forest) (anc : Ancestors) → ElementAt c.args.self.now.sheet.now c.args.nodes.now c.args.at name attrs kids → Around c.args.self.now.sheet.now c.args.nodes.now (parent_at c.args.nodes.now c.args.at) anc → RowsWrites (length c.args.text.now.room.now) c.cells.new.text.room.now (table_lengths c.args.self.now.sheet.now c.cells.new.nodes c.next_filled_row-first.result c.node_end-to.result) (wrote c.cells.new.text c.cells.result) (rows_texts (self_at c.args.self.now.skip c.args.levels) c.args.opts (from_cells (rows_of (attrs ∷ anc) kids))) (take c.args.text.now.len c.args.text.now.room.now) = λ name attrs kids anc x h. let a = c.args in c.cells.ensures.rows_writes (from_cells (rows_of (attrs ∷ anc) kids)) (rows_at a.self.now.sheet.now a.nodes.now c.next_filled_row-first.result c.node_end-to.result (from_cells (rows_of (attrs ∷ anc) kids)) (filled_here_2 _ _ _ anc x h)) in
     let a = c.args in record {
       room = c.cells.ensures.room;
       kept = kept_in (omega (arith, c.next_filled_row-first.ensures.later)) (omega (arith, c.node_end-to.ensures)) c.cells.ensures.kept;
-      writes_element = stops_element c.from_residual.ensures.0 (record {
+      writes_element = stops_element (wrote_err _ _ c.from_residual.ensures.0) (record {
         for = λ name attrs kids anc x h.
             let R = from_cells (rows_of (attrs ∷ anc) kids) in
             alike (table_written (self_at a.self.now.skip a.levels) anc a.opts name attrs kids (take a.text.now.len a.text.now.room.now) (sym (writable_here _ _ _ anc x h) ∙ c.if-not-is_table_node_writable.false))
             (record { says = table_full (self_at a.self.now.skip a.levels) a.opts R a.text.now.room.now a.text.now.len (full (ap (wrote c.cells.new.text) c.in_err-cells.was) (wrote_here _ _ _ anc x h).writes) });
       });
     }
+
+pub write_element-returns-in-21 : goal.write_element-returns-in-21
+write_element-returns-in-21 t c =
+    let named_here : (name : Bytes) (attrs : List Attr) (kids : Forest) → ElementAt c.args.self.now.sheet.now c.args.nodes.now c.args.at name attrs kids → c.args.name ≡ tag_of name = λ _ _ _ x. c.requires.1 ∙ element_name x in
+    let u = c.unpacked-opts in
+    let a = c.args in
+    record {
+      room = c.write_link.ensures.room;
+      kept = c.write_link.ensures.kept;
+      writes_element = record {
+        for = λ name attrs kids anc x h.
+            alike (ap (λ (o : FormatOpts). write_element (self_at a.self.now.skip a.levels) anc o name attrs kids (bytes a.text.now)) (sym u.ensures)
+            ∙ by_link (self_at a.self.now.skip a.levels) anc u.result name attrs kids (bytes a.text.now) (named_here _ _ _ x) (sym c.is_list.ensures ∙ c.if-is_list.false) c.in-21.is) (c.write_link.ensures.writes_element.for name attrs kids anc x h);
+      };
+    }
+
+pub write_element-returns-in-22 : goal.write_element-returns-in-22
+write_element-returns-in-22 t c =
+    let named_here : (name : Bytes) (attrs : List Attr) (kids : Forest) → ElementAt c.args.self.now.sheet.now c.args.nodes.now c.args.at name attrs kids → c.args.name ≡ tag_of name = λ _ _ _ x. c.requires.1 ∙ element_name x in
+    let u = c.unpacked-opts in
+    let a = c.args in
+    record {
+      room = leaf_room c.write_img.ensures;
+      kept = kept_none a.nodes.now;
+      writes_element = record {
+        for = λ name attrs kids anc x h.
+            alike (ap (λ (o : FormatOpts). write_element (self_at a.self.now.skip a.levels) anc o name attrs kids (bytes a.text.now)) (sym u.ensures)
+            ∙ by_img (self_at a.self.now.skip a.levels) anc u.result name attrs kids (bytes a.text.now) (named_here _ _ _ x) (sym c.is_list.ensures ∙ c.if-is_list.false) c.in-22.is
+            ∙ ap (λ (l : List Attr). write_img l (bytes a.text.now)) (x.attrs_are ∙ ap (attrs_behind a.self.now.sheet.now) (sym c.node_place.ensures))) c.write_img.ensures.writes;
+      };
+    }
+
+pub write_element-returns-in-23 : goal.write_element-returns-in-23
+write_element-returns-in-23 t c =
+    let named_here : (name : Bytes) (attrs : List Attr) (kids : Forest) → ElementAt c.args.self.now.sheet.now c.args.nodes.now c.args.at name attrs kids → c.args.name ≡ tag_of name = λ _ _ _ x. c.requires.1 ∙ element_name x in
+    let u = c.unpacked-opts in
+    let a = c.args in
+    record {
+      room = let p = c.requires.0 in leaf_room (c.write_pre.ensures p.0.0 p.0.1 p.0.2 p.1.0 p.0.3 p.1.1);
+      kept = kept_none a.nodes.now;
+      writes_element = record {
+        for = λ name attrs kids anc x h.
+            alike (ap (λ (o : FormatOpts). write_element (self_at a.self.now.skip a.levels) anc o name attrs kids (bytes a.text.now)) (sym u.ensures)
+            ∙ by_pre (self_at a.self.now.skip a.levels) anc u.result name attrs kids (bytes a.text.now) (named_here _ _ _ x) (sym c.is_list.ensures ∙ c.if-is_list.false) c.in-23.is) ((c.write_pre.ensures name attrs kids anc x h).writes);
+      };
+    }
+
+pub write_element-returns-in-14 : goal.write_element-returns-in-14
+write_element-returns-in-14 t c =
+    let named_here : (name : Bytes) (attrs : List Attr) (kids : Forest) → ElementAt c.args.self.now.sheet.now c.args.nodes.now c.args.at name attrs kids → c.args.name ≡ tag_of name = λ _ _ _ x. c.requires.1 ∙ element_name x in
+    let u = c.unpacked-opts in
+    let a = c.args in
+    record {
+      room = c.write_table.ensures.room;
+      kept = c.write_table.ensures.kept;
+      writes_element = record {
+        for = λ name attrs kids anc x h.
+            alike (ap (λ (o : FormatOpts). write_element (self_at a.self.now.skip a.levels) anc o name attrs kids (bytes a.text.now)) (sym u.ensures)
+            ∙ by_table (self_at a.self.now.skip a.levels) anc u.result name attrs kids (bytes a.text.now) (named_here _ _ _ x) (sym c.is_list.ensures ∙ c.if-is_list.false) c.in-14.is) (c.write_table.ensures.writes_element.for name attrs kids anc x h);
+      };
+    }
+
+pub write_element-returns-in-24 : goal.write_element-returns-in-24
+write_element-returns-in-24 t c =
+    let named_here : (name : Bytes) (attrs : List Attr) (kids : Forest) → ElementAt c.args.self.now.sheet.now c.args.nodes.now c.args.at name attrs kids → c.args.name ≡ tag_of name = λ _ _ _ x. c.requires.1 ∙ element_name x in
+    let u = c.unpacked-opts in
+    let a = c.args in
+    record {
+      room = let p = c.requires.0 in leaf_room (c.write_code.ensures a.levels p.0.0 p.0.1 p.0.2 p.1.0 p.0.3 p.1.1);
+      kept = kept_none a.nodes.now;
+      writes_element = record {
+        for = λ name attrs kids anc x h.
+            alike (ap (λ (o : FormatOpts). write_element (self_at a.self.now.skip a.levels) anc o name attrs kids (bytes a.text.now)) (sym u.ensures)
+            ∙ by_code (self_at a.self.now.skip a.levels) anc u.result name attrs kids (bytes a.text.now) (named_here _ _ _ x) (sym c.is_list.ensures ∙ c.if-is_list.false) c.in-24.is) ((c.write_code.ensures a.levels name attrs kids anc x h).writes);
+      };
+    }
+
+pub write_element-returns-in_default : goal.write_element-returns-in_default
+write_element-returns-in_default t c =
+    let named_here : (name : Bytes) (attrs : List Attr) (kids : Forest) → ElementAt c.args.self.now.sheet.now c.args.nodes.now c.args.at name attrs kids → c.args.name ≡ tag_of name = λ _ _ _ x. c.requires.1 ∙ element_name x in
+    let u = c.unpacked-opts in
+    let a = c.args in
+    record {
+      room = c.write_emphasis.ensures.room;
+      kept = c.write_emphasis.ensures.kept;
+      writes_element = record {
+        for = λ name attrs kids anc x h.
+            alike (ap (λ (o : FormatOpts). write_element (self_at a.self.now.skip a.levels) anc o name attrs kids (bytes a.text.now)) (sym u.ensures)
+            ∙ by_emphasis (self_at a.self.now.skip a.levels) anc u.result name attrs kids (bytes a.text.now) (named_here _ _ _ x) (sym c.is_list.ensures ∙ c.if-is_list.false) (search rules) (search rules) (search rules) (search rules) (search rules)) (c.write_emphasis.ensures.writes_element.for name attrs kids anc x h);
+      };
+    }
+
+pub row-invariant_of-text-in-loop-c : goal.row-invariant_of-text-in-loop-c
+row-invariant_of-text-in-loop-c t c =
+    let p = c.loop-c.invariant.1 in
+    let w = done c.in_ok-n.was (row_writes p c.loop-c-test.true c.cell.ensures.writes p.some.0 p.some.1) in
+    record { fits = temp_fits c.loop-c.text.room.now c.loop-c.text.len (row_reach p) _ w }
