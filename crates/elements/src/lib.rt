@@ -2,8 +2,6 @@
 
 #![tactic(auto)]
 
-pub mod by_len;
-pub mod by_len_steps;
 pub mod code;
 pub mod code_language;
 pub mod item_steps;

@@ -12,8 +12,6 @@ use spec::ctx::ListContext;
 use text::buffer::Full;
 use text::text::Text;
 
-pub mod by_len;
-
 // Begins an item, with blocks or without, and advances the context: the next number, and the offset of that number.
 pub fn start_item(text: &mut Text, blocks: bool, ctx: &mut ListContext) -> Result<(), Full>
     requires { ctx.old.list_indent + 12 < 2 ^ 64 }

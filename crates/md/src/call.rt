@@ -4,75 +4,77 @@ ghost use Rattle.spec.specs.Questions.{refusal};
 ghost use Rattle.spec.specs.Call.{written, answer_for};
 ghost use Rattle.spec.specs.Promise.{Promise};
 ghost use Rattle.input.specs.Scans.{skip_list, skip_of};
-ghost use Rattle.text.specs.Writes.{Writes};
+ghost use Rattle.spec.specs.Md.TextUtils.{trim_space};
+ghost use Rattle.text.specs.Writes.{Writes, Written};
 ghost use Rattle.md.specs.Answer.{number_of, length_of, is_written, coded, coded_number, coded_length, flag};
 ghost use Rattle.md.specs.Started.{Started, Answered};
 
 use input::questions::first_refusal;
 use input::refusal::Refusal;
-use normalized::by_len::trim_space;
+use normalized::text_utils::trim_space;
 use serializer::MDSerializer;
 use serializer::options::packed;
 use spec::ctx::FormatOpts;
 use text::buffer::{Full, Wrote};
+use text::text::Text;
 use tree::memory::clear;
 use tree::nodes::Tree;
 use tree::store::store_nodes;
 
-// What stands in the start node, and then the trim of the text.
-fn write_inside(
-    sheet: &[u8],
-    skip: Option<&[u8]>,
-    nodes: &mut [u8],
-    text: &mut [u8],
-    start: usize,
-) -> Wrote
-    requires { Started sheet.now nodes.old start }
-    ensures { Writes (length text.old) text.new result (written sheet.now (skip_of skip.entry) start false) }
+// The levels of `write`: one more than elements may be open.
+const LEVELS: usize = 101;
+
+// Trims white bytes at both ends of the first `len` bytes: how long the text is then.
+fn trimmed(room: &mut [u8], len: usize) -> usize
+    requires { len ≤ length room.old }
+    ensures { Written (length room.old) room.new result (trim_space (take len room.old)) }
 {
-    let first = start + 1;
+    let mut text = Text { room, len };
+    trim_space(&mut text);
+    text.len
+}
+
+// What stands in the start node, and then the trim of the text.
+fn write_inside(serializer: &MDSerializer, nodes: &mut [u8], text: &mut [u8], start: usize) -> Wrote
+    requires { Started serializer.now.sheet.now nodes.old start }
+    ensures { Writes (length text.old) text.new result (written serializer.now.sheet.now (skip_of serializer.now.skip) start false) }
+{
+    let sheet = serializer.sheet;
     let end = Tree { sheet, nodes }.node_end(start);
-    let opts = FormatOpts::new();
-    let n = MDSerializer { sheet, skip }.write(nodes, text, 0, first, end, packed(opts), 101)?;
-    Ok(trim_space(text, n))
+    let bits = packed(FormatOpts::new());
+    let n = serializer.write_behind(nodes, text, start + 1, end, bits, LEVELS)?;
+    Ok(trimmed(text, n))
 }
 
 // The start node with itself; the fragment has no text of its own.
-fn write_whole(
-    sheet: &[u8],
-    skip: Option<&[u8]>,
-    nodes: &mut [u8],
-    text: &mut [u8],
-    start: usize,
-) -> Wrote
-    requires { Started sheet.now nodes.old start }
-    ensures { Writes (length text.old) text.new result (written sheet.now (skip_of skip.entry) start true) }
+fn write_whole(serializer: &MDSerializer, nodes: &mut [u8], text: &mut [u8], start: usize) -> Wrote
+    requires { Started serializer.now.sheet.now nodes.old start }
+    ensures { Writes (length text.old) text.new result (written serializer.now.sheet.now (skip_of serializer.now.skip) start true) }
 {
     if start == 0 {
         return Ok(0);
     }
+    let sheet = serializer.sheet;
     let to = Tree { sheet, nodes }.node_end(start);
-    let opts = FormatOpts::new().include_node();
-    let bits = packed(opts);
-    MDSerializer { sheet, skip }.write(nodes, text, 0, start, to, bits, 101)
+    let bits = packed(FormatOpts::new().include_node());
+    serializer.write_behind(nodes, text, start, to, bits, LEVELS)
 }
 
 // serializer.rs, `serialize`: the text from the start node.
 fn serialize(
-    sheet: &[u8],
-    skip: Option<&[u8]>,
+    serializer: &MDSerializer,
     nodes: &mut [u8],
     text: &mut [u8],
     start: usize,
     include_node: bool,
 ) -> Wrote
-    requires { Started sheet.now nodes.old start }
-    ensures { Writes (length text.old) text.new result (written sheet.now (skip_of skip.entry) start include_node) }
+    requires { Started serializer.now.sheet.now nodes.old start }
+    ensures { Writes (length text.old) text.new result (written serializer.now.sheet.now (skip_of serializer.now.skip) start include_node) }
 {
     if include_node {
-        return write_whole(sheet, skip, nodes, text, start);
+        return write_whole(serializer, nodes, text, start);
     }
-    write_inside(sheet, skip, nodes, text, start)
+    write_inside(serializer, nodes, text, start)
 }
 
 // Clears what stands behind a text of n bytes.
@@ -96,7 +98,13 @@ fn write_sheet(
     ensures { Answered (answer_for (written sheet.now (skip_of skip.entry) start include_node) nodes.old text.old) result nodes.new text.new }
 {
     store_nodes(sheet, nodes);
-    match serialize(sheet, skip, nodes, text, start, include_node) {
+    match serialize(
+        &MDSerializer { sheet, skip },
+        nodes,
+        text,
+        start,
+        include_node,
+    ) {
         Ok(n) => {
             clear(nodes);
             clear_behind(text, n);

@@ -2,7 +2,6 @@
 
 #![tactic(auto)]
 
-pub mod by_len;
 pub mod nodes;
 pub mod skip_md;
 pub mod white_space;

@@ -238,7 +238,7 @@ impl<'s, 'k> MDSerializer<'s, 'k> {
 
     // `write` for a text of its own, which begins at the front of `room`: how long it is.
     #[cycle(writers)]
-    fn write_behind(
+    pub fn write_behind(
         &self,
         nodes: &mut [u8],
         room: &mut [u8],

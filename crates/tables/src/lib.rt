@@ -3,6 +3,5 @@
 #![tactic(auto)]
 
 pub mod bars;
-pub mod by_len;
 pub mod rows;
 pub mod table;

@@ -12,26 +12,26 @@ use Rattle.md.proofs.call.write_inside.Goals as goal
 pub returns : goal.returns
 returns c =
     let a = c.args in
-    inside_done (skip_of a.skip) a.sheet.now a.nodes.now a.start _ c.requires c.node_end-end.ensures a.text.now (c.packed.ensures ∙ c.new-opts.ensures) c.write.ensures.writes_forest c.in_ok-n.was c.trim_space.ensures
+    inside_done (skip_of a.serializer.now.skip) a.serializer.now.sheet.now a.nodes.now a.start _ c.requires c.node_end-end.ensures a.text.now (c.packed-bits.ensures ∙ c.new.ensures) c.write_behind.ensures.writes_forest c.in_ok-n.was c.trimmed.ensures
 
 pub returns-in_err-n : goal.returns-in_err-n
 returns-in_err-n c =
     stops c.from_residual.ensures.0 (let a = c.args in
-    inside_full (skip_of a.skip) a.sheet.now a.nodes.now a.start _ c.requires c.node_end-end.ensures a.text.now (c.packed.ensures ∙ c.new-opts.ensures) c.write.ensures.writes_forest c.in_err-n.was)
+    inside_full (skip_of a.serializer.now.skip) a.serializer.now.sheet.now a.nodes.now a.start _ c.requires c.node_end-end.ensures a.text.now (c.packed-bits.ensures ∙ c.new.ensures) c.write_behind.ensures.writes_forest c.in_err-n.was)
 
-pub packed-requires : goal.packed-requires
-packed-requires c =
-    subst (λ (o : FormatOpts). o.offset < 2 ^ 48) (sym c.new-opts.ensures) (lit< tt)
+pub packed-bits-requires : goal.packed-bits-requires
+packed-bits-requires c =
+    subst (λ (o : FormatOpts). o.offset < 2 ^ 48) (sym c.new.ensures) (lit< tt)
 
-pub write-requires : goal.write-requires
-write-requires c =
+pub write_behind-requires : goal.write_behind-requires
+write_behind-requires c =
     let a = c.args in (
-      (without (skip_of a.skip) a.sheet.now a.nodes.now a.start _ c.requires c.node_end-end.ensures).at,
-      (omega arith, c.requires.short),
-      subst (λ (o : FormatOpts). Fits o 101) (sym (c.packed.ensures ∙ c.new-opts.ensures)) (lit< tt),
+      (without (skip_of a.serializer.now.skip) a.serializer.now.sheet.now a.nodes.now a.start _ c.requires c.node_end-end.ensures).at,
+      c.requires.short,
+      subst (λ (o : FormatOpts). Fits o 101) (sym (c.packed-bits.ensures ∙ c.new.ensures)) (lit< tt),
     )
 
-pub trim_space-requires : goal.trim_space-requires
-trim_space-requires c =
+pub trimmed-requires : goal.trimmed-requires
+trimmed-requires c =
     let a = c.args in
-    inside_reaches (skip_of a.skip) a.sheet.now a.nodes.now a.start _ c.requires c.node_end-end.ensures a.text.now (c.packed.ensures ∙ c.new-opts.ensures) c.write.ensures.writes_forest c.in_ok-n.was
+    inside_reaches (skip_of a.serializer.now.skip) a.serializer.now.sheet.now a.nodes.now a.start _ c.requires c.node_end-end.ensures a.text.now (c.packed-bits.ensures ∙ c.new.ensures) c.write_behind.ensures.writes_forest c.in_ok-n.was
