@@ -2,7 +2,6 @@
 
 #![tactic(auto)]
 
-pub mod by_len;
 pub mod ctx;
 pub mod image;
 pub mod link;

@@ -2,7 +2,6 @@
 
 #![tactic(auto)]
 
-pub mod by_len;
 pub mod code;
 pub mod emphasis;
 pub mod heading;

@@ -2,7 +2,6 @@
 
 #![tactic(auto)]
 
-pub mod by_len;
 pub mod fast_copy;
 pub mod layout;
 pub mod line_start;

@@ -17,16 +17,6 @@ pub struct Full;
 // How long the text is then.
 pub type Wrote = Result<usize, Full>;
 
-// Identity. Rebuilding the enum lets LLVM return it in registers.
-pub fn reread(wrote: Wrote) -> Wrote
-    ensures { result ≡ wrote }
-{
-    match wrote {
-        Ok(n) => Ok(n),
-        Err(Full) => Err(Full),
-    }
-}
-
 // The first n bytes, or all where there are fewer.
 pub fn front(s: &[u8], n: usize) -> &[u8]
     ensures { result.now ≡ take n s.now }

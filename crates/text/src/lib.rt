@@ -3,7 +3,6 @@
 #![tactic(auto)]
 
 pub mod buffer;
-pub mod by_len;
 pub mod class;
 pub mod text;
 pub mod white_space;

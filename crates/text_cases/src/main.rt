@@ -18,6 +18,7 @@ use reading::read_full;
 use setup::Case;
 use std::io;
 use text::buffer::{Full, Wrote};
+use text::text::Text;
 
 // No text of a case is longer.
 const MEMORY: usize = 4096;
@@ -25,10 +26,11 @@ const MEMORY: usize = 4096;
 // What the leaf of a line answers, if there is one and the memory has the room. The text stands at the front of the memory.
 fn answer_to(line: &Line, memory: &mut [u8], a: &mut [u8], b: &mut [u8]) -> Option<Wrote> {
     let len = decode(line.text, memory).len();
-    let text = memory.get_mut(..line.room)?;
-    if text.len() < len {
+    let room = memory.get_mut(..line.room)?;
+    if room.len() < len {
         return Some(Err(Full));
     }
+    let mut text = Text { room, len };
     let case = Case {
         flags: line.flags,
         x: line.x,
@@ -36,7 +38,7 @@ fn answer_to(line: &Line, memory: &mut [u8], a: &mut [u8], b: &mut [u8]) -> Opti
         a: decode(line.a, a),
         b: decode(line.b, b),
     };
-    run(line.file, line.name, text, len, case)
+    run(line.file, line.name, &mut text, case)
 }
 
 // Whether the leaf of a line answers and writes what the line says.

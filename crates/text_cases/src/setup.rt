@@ -1,11 +1,16 @@
 // What a leaf function is called with: options and contexts from the numbers of a case, and texts begun behind the text.
-ghost use Rattle.std.specs.Prelude.{◌≡◌, ◌≤◌, ◌+◌, length, IfOk};
+ghost use Rattle.std.specs.Prelude.{◌≤◌, ◌+◌, length, IfOk};
 
+use lists_links::image::write_img;
 use lists_links::list::Item;
+use lists_links::list_indented::push_indented;
 use lists_links::list_number::parse_list_number;
+use lists_links::url::push_md_url;
+use marks::code::{push_code_text, push_fenced_block};
+use marks::emphasis::push_emphasis;
 use spec::ctx::{FormatOpts, ListContext, ListKind};
-use text::buffer::{Full, Wrote};
-use text::by_len::push_all;
+use text::buffer::Full;
+use text::text::Text;
 
 // The flags of a case.
 const INLINE: usize = 1;
@@ -89,76 +94,75 @@ impl Case<'_> {
     }
 }
 
-pub fn truth(b: bool) -> Wrote {
-    Ok(usize::from(b))
+// What a leaf answers: that it has written, or a number, where there is one.
+#[derive(Clone, Copy)]
+pub enum Answer {
+    Written(Result<(), Full>),
+    Number(Option<usize>),
 }
 
-pub fn parsed(value: &[u8]) -> Wrote {
-    parse_list_number(value).map(|n| n as usize).ok_or(Full)
+pub fn number(n: usize) -> Answer {
+    Answer::Number(Some(n))
+}
+
+pub fn truth(b: bool) -> Answer {
+    number(usize::from(b))
+}
+
+pub fn parsed(value: &[u8]) -> Answer {
+    Answer::Number(parse_list_number(value).map(|n| n as usize))
 }
 
 // Puts the text of a case behind the text.
-fn begun(text: &mut [u8], len: usize, a: &[u8]) -> Wrote
-    requires { len ≤ length text.old }
-    ensures { IfOk result (λ end. (end ≡ len + length a.now) × (end ≤ length text.new)) }
+fn put_behind(text: &mut Text, a: &[u8]) -> Result<(), Full>
+    ensures { IfOk result (λ u. text.new.len + length a.now ≤ length text.new.room.now) }
 {
-    if text.len() - len < a.len() {
+    if text.room.len() - text.len < a.len() {
         return Err(Full);
     }
-    push_all(text, len, a)?;
-    Ok(len + a.len())
+    let end = text.len + a.len();
+    text.room[text.len..end].copy_from_slice(a);
+    Ok(())
 }
 
 // a stands behind the text, as a text begun inside it.
-pub fn indented(text: &mut [u8], len: usize, case: Case) -> Wrote
-    requires { len ≤ length text.old }
-{
-    begun(text, len, case.a)?;
-    lists_links::by_len::push_indented(text, len, case.a.len(), case.item())
+pub fn indented(text: &mut Text, case: Case) -> Result<(), Full> {
+    put_behind(text, case.a)?;
+    push_indented(text, case.a.len(), case.item())
 }
 
 // a stands behind the text.
-pub fn code(text: &mut [u8], len: usize, case: Case) -> Wrote
-    requires { len ≤ length text.old }
-{
+pub fn code(text: &mut Text, case: Case) -> Result<(), Full> {
     let n = case.a.len();
-    begun(text, len, case.a)?;
+    put_behind(text, case.a)?;
     let counted = if case.has(COUNTS) { n } else { 0 };
-    marks::by_len::push_code_text(text, len, len, n, counted)
+    push_code_text(text, text.len, n, counted)
 }
 
 // a stands behind the text, b is the language.
-pub fn fenced(text: &mut [u8], len: usize, case: Case) -> Wrote
-    requires { len ≤ length text.old }
-{
-    begun(text, len, case.a)?;
-    marks::by_len::push_fenced_block(text, len, len, case.a.len(), case.b)
+pub fn fenced(text: &mut Text, case: Case) -> Result<(), Full> {
+    put_behind(text, case.a)?;
+    push_fenced_block(text, text.len, case.a.len(), case.b)
 }
 
 // a stands behind the text, b is the marker.
-pub fn emphasized(text: &mut [u8], len: usize, case: Case) -> Wrote
-    requires { len ≤ length text.old }
-{
-    begun(text, len, case.a)?;
-    marks::by_len::push_emphasis(text, len, case.a.len(), case.b)
+pub fn emphasized(text: &mut Text, case: Case) -> Result<(), Full> {
+    put_behind(text, case.a)?;
+    push_emphasis(text, case.a.len(), case.b)
 }
 
 // A destination is no longer than a sheet.
-pub fn destination(text: &mut [u8], len: usize, a: &[u8]) -> Wrote
-    requires { len ≤ length text.old }
-{
+pub fn destination(text: &mut Text, a: &[u8]) -> Result<(), Full> {
     if SHEET < a.len() {
         return Err(Full);
     }
-    lists_links::by_len::push_md_url(text, len, a)
+    push_md_url(text, a)
 }
 
 // a is a sheet whose first field opens the element.
-pub fn image(text: &mut [u8], len: usize, a: &[u8]) -> Wrote
-    requires { len ≤ length text.old }
-{
+pub fn image(text: &mut Text, a: &[u8]) -> Result<(), Full> {
     if a.len() < HEAD || SHEET < a.len() {
         return Err(Full);
     }
-    lists_links::by_len::write_img(text, len, a, 0)
+    write_img(text, a, 0)
 }
