@@ -45,6 +45,32 @@ module _ {M : Type 0} {v : Forest → M} {sh ns : Bytes} {from to i : ℕ} (p : 
   pub left_none : (r : M) → to ≤ i → v nothing ≡ r → (parent : ℕ) (f : Forest) → Rep sh ns parent from to f → r ≡ v f
   left_none r l e = left_at r (λ parent g h. ap v (ended sh ns parent i to g h l) ∙ e)
 
+-- ---- the iterator s over siblings up to `to` gives node i, and is t behind it
+
+module _ {sh ns : Bytes} {to : ℕ} {s t : iter.Siblings} (o : Over sh ns s.next to s) {i : ℕ} (g : GivesSibling s (Some i) t) where
+  pub gives_before : i < to
+  gives_before = omega (arith, g.0, g.1, o.end_is)
+
+  pub gives_next : t.next ≡ end_at ns i
+  gives_next = g.2 ∙ ap₂ end_at o.nodes_are (sym g.0)
+
+  pub gives_over : Over sh ns t.next to t
+  gives_over =
+      record { sheet_is = g.3.sheet_is ∙ o.sheet_is; nodes_are = g.3.nodes_are ∙ o.nodes_are; next_is = refl; end_is = g.3.end_is ∙ o.end_is }
+
+module _ {sh ns : Bytes} {from to : ℕ} {s : iter.Siblings} where
+  pub over_here : Over sh ns from to s → Over sh ns s.next to s
+  over_here o = record { sheet_is = o.sheet_is; nodes_are = o.nodes_are; next_is = refl; end_is = o.end_is }
+
+  pub gives_none : Over sh ns from to s → s.end ≤ s.next → to ≤ s.next
+  gives_none o g = omega (arith, g, o.end_is)
+
+-- where a `for` over them begins
+pub over_begun : {sh ns : Bytes} {from to e : ℕ} {s t : iter.Siblings} → Over sh ns from e s → t ≡ s → e ≡ to → Over sh ns t.next to t × (t.next ≡ from)
+over_begun {sh} {ns} {from} {to} {e} {s} {t} o q p =
+    subst (λ (u : iter.Siblings). Over sh ns u.next to u × (u.next ≡ from)) (sym q)
+    (over_here (subst (λ (d : ℕ). Over sh ns from d s) p o), o.next_is)
+
 -- ---- the same in a `for` over them: those from the next of the iterator s on are left
 
 pub record Walks {M : Type 0} (v : Forest → M) (sh ns : Bytes) (from to : ℕ) (s : iter.Siblings) : Type 0 where
@@ -54,29 +80,22 @@ pub record Walks {M : Type 0} (v : Forest → M) (sh ns : Bytes) (from to : ℕ)
 pub walks_all : {M : Type 0} (v : Forest → M) {sh ns : Bytes} {from to : ℕ} {s : iter.Siblings} → Siblings sh ns from to → Over sh ns from to s
     → Walks v sh ns from to s
 walks_all v {sh} {ns} {from} {to} n o =
-    record {
-      over = record { sheet_is = o.sheet_is; nodes_are = o.nodes_are; next_is = refl; end_is = o.end_is };
-      left = subst (Left v sh ns from to) (sym o.next_is) (left_all v sh ns from to n);
-    }
+    record { over = over_here o; left = subst (Left v sh ns from to) (sym o.next_is) (left_all v sh ns from to n) }
 
 module _ {M : Type 0} {v : Forest → M} {sh ns : Bytes} {from to : ℕ} {s t : iter.Siblings} (p : Walks v sh ns from to s) {i : ℕ} (g : GivesSibling s (Some i) t) where
   pub turn_before : i < to
-  turn_before = omega (arith, g.0, g.1, p.over.end_is)
+  turn_before = gives_before p.over g
 
   pub turn_left : Left v sh ns from to i
   turn_left = subst (Left v sh ns from to) (sym g.0) p.left
 
   -- the next turn
   pub turn_on : Left v sh ns from to (end_at ns i) → Walks v sh ns from to t
-  turn_on q =
-      record {
-        over = record { sheet_is = g.3.sheet_is ∙ p.over.sheet_is; nodes_are = g.3.nodes_are ∙ p.over.nodes_are; next_is = refl; end_is = g.3.end_is ∙ p.over.end_is };
-        left = subst (Left v sh ns from to) (ap₂ end_at (sym p.over.nodes_are) g.0 ∙ sym g.2) q;
-      }
+  turn_on q = record { over = gives_over p.over g; left = subst (Left v sh ns from to) (sym (gives_next p.over g)) q }
 
 module _ {M : Type 0} {v : Forest → M} {sh ns : Bytes} {from to : ℕ} {s : iter.Siblings} (p : Walks v sh ns from to s) where
   pub turn_none : s.end ≤ s.next → to ≤ s.next
-  turn_none g = omega (arith, g, p.over.end_is)
+  turn_none = gives_none p.over
 
 -- ---- the node at hand, and what stands in it; its end is d
 

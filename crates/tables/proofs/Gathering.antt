@@ -15,7 +15,7 @@ use Rattle.spec.specs.Md.Elements.Table.{is_table_cell, cells_of}
 use Rattle.tree.specs.Memory.{place_at, end_at, parent_at, length_at}
 use Rattle.tree.specs.Nodes.{name_at}
 use Rattle.tree.specs.Represents.{Rep, rest_of}
-use Rattle.tree.proofs.Firsts.{First, first}
+use Rattle.tree.proofs.Firsts.{First, first, rep_le}
 use Rattle.tree.proofs.Kin.{first_name}
 use Rattle.nodes.proofs.Numbers.{node_first}
 use Rattle.nodes.specs.Stands.{Siblings, NodeAt}
@@ -107,7 +107,14 @@ pub record Looking (sh ns : Bytes) (from to c : ℕ) : Type 0 where
 pub looking_all : (sh ns : Bytes) (from to : ℕ) → Siblings sh ns from to → Looking sh ns from to from
 looking_all sh ns from to s = record { here = s; goes = λ parent f l h. (f, h, l, refl, λ anc. refl) }
 
+pub looking_at : {sh ns : Bytes} {from to c d : ℕ} → Looking sh ns from to c → d ≡ c → Looking sh ns from to d
+looking_at {sh} {ns} {from} {to} p q = subst (λ (j : ℕ). Looking sh ns from to j) (sym q) p
+
 module _ {sh ns : Bytes} {from to c : ℕ} (p : Looking sh ns from to c) where
+  -- where none is left
+  pub looking_ended : to ≤ c → to ≡ c
+  looking_ended l = omega (arith, l, rep_le sh ns p.here.0 c to p.here.1 p.here.2)
+
   pub looking_first : c < to → First sh ns p.here.0 c to p.here.1
   looking_first l = first sh ns p.here.0 c to p.here.1 p.here.2 l
 

@@ -14,7 +14,7 @@ use Rattle.spec.specs.Md.MDSerializer.{Ancestors}
 use Rattle.spec.specs.Md.Elements.List.{name_of}
 use Rattle.spec.specs.Md.Elements.Table.{Cell, is_table_cell, cells_of, all_th}
 use Rattle.tree.specs.Memory.{place_at, end_at, parent_at}
-use Rattle.tree.specs.Represents.{Rep, Around, rest_of}
+use Rattle.tree.specs.Represents.{Rep, Nodes, Around, rest_of}
 use Rattle.tree.specs.Nodes.{name_at}
 use Rattle.tree.proofs.Firsts.{First, first, ended}
 use Rattle.tree.proofs.Kin.{first_name}
@@ -60,6 +60,10 @@ module _ {sh ns : Bytes} {r : ℕ} {row : List Cell} (x : RowAt sh ns r row) whe
         cells_are = x.cells_are;
       }
 
+  -- its children, up to its end d
+  pub cells_kids : {d : ℕ} → d ≡ end_at ns r → Nodes sh ns (r + 1) d
+  cells_kids q = (r, x.kids, subst (λ (j : ℕ). Rep sh ns r (r + 1) j x.kids) (sym q) x.is_element.kids_are)
+
 module _ (sh ns : Bytes) (r c : ℕ) (anc : Ancestors) (later : r < c) (a : Around sh ns r anc) where
   cell_of : (f : Forest) → Rep sh ns r c (end_at ns r) f → c < end_at ns r → is_table_cell (name_of f) ≡ true → CellAt sh ns r c (cells_of anc f)
   unfolding Rep name_of cells_of
@@ -96,6 +100,9 @@ other_of anc nothing q = refl
 other_of anc (text s f) q = refl
 other_of anc (comment s f) q = refl
 other_of anc (element name attrs k f) q = rw q
+
+pub cells_at : {sh ns : Bytes} {r c d : ℕ} {cells : List Cell} → CellsAt sh ns r c cells → d ≡ c → CellsAt sh ns r d cells
+cells_at {sh} {ns} {r} {c} {d} {cells} x q = subst (λ (j : ℕ). CellsAt sh ns r j cells) (sym q) x
 
 module _ {sh ns : Bytes} {r c : ℕ} {cells : List Cell} (x : CellsAt sh ns r c cells) where
   pub cells_none : end_at ns r ≤ c → cells ≡ []

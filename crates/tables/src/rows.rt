@@ -7,16 +7,8 @@ ghost use Rattle.nodes.specs.Stands.{Siblings};
 ghost use Rattle.tables.specs.Rows.{RowAt, Rows, RowsAt, SomeRow, SomeRows};
 
 use nodes::nodes::{has_element, node_name};
+use tree::element::{TABLE, TD, TH, TR};
 use tree::nodes::Tree;
-
-// The numbers of the names.
-const TABLE: usize = 14;
-
-const TR: usize = 17;
-
-const TH: usize = 18;
-
-const TD: usize = 19;
 
 #[tactic(auto, unfolding(spec::specs::Md::Elements::Table::is_table_cell))]
 pub fn is_table_cell(name: usize) -> bool
@@ -37,12 +29,9 @@ pub fn count_cells(tree: &Tree, i: usize) -> usize
     requires { SomeRow tree.now.sheet.now tree.now.nodes.now i }
     ensures { (row : List def.Cell) → RowAt tree.now.sheet.now tree.now.nodes.now i row → result ≡ length row }
 {
-    let to = tree.node_end(i);
     let mut n = 0;
-    let mut c = i + 1;
-    while c < to {
+    for c in tree.siblings(i + 1, tree.node_end(i)) {
         n += cells_of(node_name(tree, c));
-        c = tree.node_end(c);
     }
     n
 }
@@ -52,13 +41,10 @@ pub fn all_th(tree: &Tree, i: usize) -> bool
     requires { SomeRow tree.now.sheet.now tree.now.nodes.now i }
     ensures { (row : List def.Cell) → RowAt tree.now.sheet.now tree.now.nodes.now i row → result ≡ def.all_th row }
 {
-    let to = tree.node_end(i);
-    let mut c = i + 1;
-    while c < to {
+    for c in tree.siblings(i + 1, tree.node_end(i)) {
         if node_name(tree, c) == TD {
             return false;
         }
-        c = tree.node_end(c);
     }
     true
 }

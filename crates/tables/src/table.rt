@@ -43,14 +43,12 @@ pub fn next_cell(tree: &Tree, from: usize, to: usize) -> usize
     ensures later { from ≤ result }
     ensures cells { NextCell tree.now.sheet.now tree.now.nodes.now from to result }
 {
-    let mut c = from;
-    while c < to {
+    for c in tree.siblings(from, to) {
         if is_table_cell(node_name(tree, c)) {
             return c;
         }
-        c = tree.node_end(c);
     }
-    c
+    to
 }
 
 // The size of the cells of a row up to number `to`.

@@ -1,5 +1,5 @@
-use Rattle.std.proofs.Common.{[], ◌∷◌, arith}
-use Rattle.tables.proofs.Putting.{puts_next, puts_text, puts_end, puts_long, bar_is}
+use Rattle.std.proofs.Common.{[], ◌∷◌}
+use Rattle.tables.proofs.Putting.{puts_next, puts_text, bar_is}
 use Rattle.tables.proofs.bars.put_byte_cell.Goals as goal
 
 pub returns : goal.returns

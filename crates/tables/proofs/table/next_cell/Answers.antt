@@ -1,45 +1,39 @@
-use Prim.Native.Nat.{ℕ}
-use mathlib.Core.Path.{sym, ap, subst, ◌∙◌}
-use Rattle.spec.specs.Md.Elements.Table.{is_table_cell}
-use Rattle.tables.proofs.Gathering.{Looking, looking_all, looking_first, looking_node, looking_on, looking_done}
 use native.Mathlib.Omega.{arith}
+use mathlib.Core.Path.{refl, sym, ap, ◌∙◌}
+use Rattle.spec.specs.Md.Elements.Table.{is_table_cell}
+use Rattle.nodes.proofs.Siblings.{over_begun, gives_before, gives_next, gives_over, gives_none}
+use Rattle.tables.proofs.Gathering.{looking_all, looking_at, looking_first, looking_node, looking_on, looking_done, looking_ended}
 use Rattle.tables.proofs.table.next_cell.Goals as goal
 
 pub loop-c-init : goal.loop-c-init
 loop-c-init c =
-    let a = c.args in
-    (omega arith, looking_all a.tree.now.sheet.now a.tree.now.nodes.now a.from a.to c.requires)
+    let a = c.args in let b = over_begun c.siblings-c-items.ensures c.into_iter-c-iterator.ensures.into_iter_gives refl in
+    (b.0, omega (arith, b.1), looking_at (looking_all a.tree.now.sheet.now a.tree.now.nodes.now a.from a.to c.requires) b.1)
 
 pub node_name-requires : goal.node_name-requires
 node_name-requires c =
-    looking_node c.loop-c.invariant.1 c.loop-c-test.true
+    let l = c.loop-c.invariant in let s = c.in-Some.ensures.steps in looking_node (looking_at l.2 s.0) (gives_before l.0 s)
 
 pub returns-then-is_table_cell : goal.returns-then-is_table_cell
 returns-then-is_table_cell c =
+    let l = c.loop-c.invariant in let s = c.in-Some.ensures.steps in
     record {
-      later = c.loop-c.invariant.0;
-      cells = looking_done c.loop-c.invariant.1 (λ l. sym (c.is_table_cell.ensures ∙ ap is_table_cell c.node_name.ensures) ∙ c.if-is_table_cell.true);
+      later = omega (arith, l.1, s.0);
+      cells = looking_done (looking_at l.2 s.0) (λ q. sym (c.is_table_cell.ensures ∙ ap is_table_cell c.node_name.ensures) ∙ c.if-is_table_cell.true);
     }
-
-pub node_end-c-requires : goal.node_end-c-requires
-node_end-c-requires c =
-    (looking_node c.loop-c.invariant.1 c.loop-c-test.true).inside
-
-pub loop-c-smaller : goal.loop-c-smaller
-loop-c-smaller c =
-    omega (arith, (looking_first c.loop-c.invariant.1 c.loop-c-test.true).later, c.node_end-c.ensures)
 
 pub loop-c-preserved : goal.loop-c-preserved
 loop-c-preserved c =
-    let a = c.args in (
-      omega (arith, (looking_first c.loop-c.invariant.1 c.loop-c-test.true).later, c.node_end-c.ensures, c.loop-c.invariant.0),
-      subst (λ (j : ℕ). Looking a.tree.now.sheet.now a.tree.now.nodes.now a.from a.to j) (sym c.node_end-c.ensures)
-          (looking_on c.loop-c.invariant.1 c.loop-c-test.true (sym (c.is_table_cell.ensures ∙ ap is_table_cell c.node_name.ensures) ∙ c.if-is_table_cell.false)),
+    let l = c.loop-c.invariant in let s = c.in-Some.ensures.steps in let p = looking_at l.2 s.0 in (
+      gives_over l.0 s,
+      omega (arith, l.1, s.0, gives_next l.0 s, (looking_first p (gives_before l.0 s)).later),
+      looking_at (looking_on p (gives_before l.0 s) (sym (c.is_table_cell.ensures ∙ ap is_table_cell c.node_name.ensures) ∙ c.if-is_table_cell.false)) (gives_next l.0 s),
     )
 
 pub returns : goal.returns
 returns c =
+    let l = c.loop-c.invariant in let e = looking_ended l.2 (gives_none l.0 c.in-None.ensures.steps.0) in
     record {
-      later = c.loop-c.invariant.0;
-      cells = looking_done c.loop-c.invariant.1 (λ l. absurd (omega arith));
+      later = omega (arith, l.1, e);
+      cells = looking_done (looking_at l.2 e) (λ q. absurd (omega arith));
     }

@@ -1,8 +1,7 @@
-use Rattle.std.proofs.Common.{List, [], ◌∷◌, ◌++◌, ◌+◌, length, drop, replicate, ap, ◌∙◌, arith}
+use Rattle.std.proofs.Common.{List, [], ◌∷◌, ◌++◌, ◌+◌, length, replicate, ap, ◌∙◌, arith}
 use Rattle.spec.specs.Bytes.{Bytes}
 use Rattle.tables.specs.Puts.{bars, bar_line}
 use Rattle.tables.specs.Spans.{cell_lengths}
-use Rattle.tables.specs.Columns.{columns}
 use Rattle.tables.proofs.Putting.{puts_next, puts_text, puts_end, puts_long, length_bars_bytes}
 use Rattle.tables.proofs.Cutting.{line_parts}
 use Rattle.tables.proofs.Columns.{columns_behind}

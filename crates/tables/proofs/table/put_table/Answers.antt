@@ -1,6 +1,6 @@
-use Rattle.std.proofs.Common.{◌≡◌, ◌+◌, ◌*◌, length, drop, ap, arith}
+use Rattle.std.proofs.Common.{◌+◌, drop, arith}
 use lib.ListN.{length-drop}
-use Rattle.tables.specs.Spans.{cell_lengths, table_lengths, filled, sum}
+use Rattle.tables.specs.Spans.{cell_lengths, table_lengths, filled}
 use Rattle.tables.proofs.Putting.{puts_next, puts_text, puts_end, puts_long, puts_behind}
 use Rattle.tables.proofs.Cutting.{row_put, rule_put, table_is}
 use Rattle.tables.proofs.table.put_table.Goals as goal
