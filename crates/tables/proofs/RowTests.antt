@@ -20,12 +20,6 @@ module _ (sh ns : Bytes) (r e : ℕ) where
   no_rows [] x l = refl
   no_rows (row ∷ rows) x l = absurd (omega (arith, rows_le sh ns (r + 1) e rows x.1))
 
-  -- no row with cells is left
-  pub filled_none : (left : List (List Cell)) → RowsAt sh ns r e left → e ≤ r → (rows : List (List Cell)) → from_cells rows ≡ from_cells left
-      → RowsAt sh ns e e (from_cells rows)
-  unfolding RowsAt from_cells
-  filled_none left x l rows q = subst (RowsAt sh ns e e) (sym (q ∙ ap from_cells (no_rows left x l))) refl
-
   -- whether the table can be written; row r is its first that has cells
   pub writable_none : (kids : Forest) (rows : List (List Cell)) → RowsAt sh ns r e rows → e ≤ r → is_table_node_writable kids rows ≡ false
   unfolding is_table_node_writable null

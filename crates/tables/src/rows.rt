@@ -69,12 +69,10 @@ pub fn next_filled_row(tree: &Tree, i: usize, to: usize) -> usize
     ensures later { i ≤ result }
     ensures rows { (rows : List (List def.Cell)) → Rows tree.now.sheet.now tree.now.nodes.now i to rows → RowsAt tree.now.sheet.now tree.now.nodes.now result to (def.from_cells rows) }
 {
-    let mut r = next_row(tree, i, to);
-    while r < to {
-        if count_cells(tree, r) != 0 {
+    for r in i..to {
+        if node_name(tree, r) == TR && count_cells(tree, r) != 0 {
             return r;
         }
-        r = next_row(tree, r + 1, to);
     }
     to
 }
@@ -85,14 +83,14 @@ fn equal_rows(tree: &Tree, from: usize, to: usize) -> bool
     ensures { (rows : List (List def.Cell)) → Rows tree.now.sheet.now tree.now.nodes.now from to rows → result ≡ def.equal_rows 0 rows }
 {
     let mut common = 0;
-    let mut r = next_row(tree, from, to);
-    while r < to {
-        let n = count_cells(tree, r);
-        if (common != 0) & (n != common) {
-            return false;
+    for r in from..to {
+        if node_name(tree, r) == TR {
+            let n = count_cells(tree, r);
+            if (common != 0) & (n != common) {
+                return false;
+            }
+            common = n;
         }
-        common = n;
-        r = next_row(tree, r + 1, to);
     }
     true
 }

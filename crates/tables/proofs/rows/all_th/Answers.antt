@@ -1,4 +1,3 @@
-use native.Mathlib.Omega.{arith}
 use mathlib.Core.Path.{refl, ap, sym, ◌∙◌}
 use Rattle.spec.specs.Md.Elements.Table.{all_th}
 use Rattle.nodes.proofs.Siblings.{over_begun, gives_before, gives_next, gives_over, gives_none}

@@ -1,12 +1,10 @@
-use Prim.Native.Nat.{◌-◌, ◌≤◌}
+use Prim.Native.Nat.{◌≤◌}
 use mathlib.Core.Path.{◌≡◌}
 use mathlib.Core.List.{List}
 use Rattle.spec.specs.Md.Elements.Table.{Cell, from_cells}
-use Rattle.tables.specs.Rows.{Rows, RowsAt}
+use Rattle.tables.specs.Rows.{Rows}
 use Rattle.tables.proofs.rows.next_filled_row.Given as goal
 
 abbrev pub invariant-loop-r : goal.invariant-loop-r
-invariant-loop-r l = (l.i ≤ l.r) × ((rows : List (List Cell)) → Rows l.tree.sheet.now l.tree.nodes.now l.i l.to rows → (left : List (List Cell)) × RowsAt l.tree.sheet.now l.tree.nodes.now l.r l.to left × (from_cells rows ≡ from_cells left))
-
-abbrev pub decreases-loop-r : goal.decreases-loop-r
-decreases-loop-r l = l.to - l.r
+invariant-loop-r l = (l.i ≤ l.r) × ((rows : List (List Cell)) → Rows l.tree.sheet.now l.tree.nodes.now l.i l.to rows
+    → (left : List (List Cell)) × Rows l.tree.sheet.now l.tree.nodes.now l.r l.to left × (from_cells rows ≡ from_cells left))
