@@ -142,32 +142,47 @@ module _ {sh ns : Bytes} {from to c : ℕ} (p : Looking sh ns from to c) where
       let g = p.goes parent f up h in
       (record { rest = g.0; later = g.2; rep = g.1; is_cell_lem = q }, g.3, g.4)
 
--- ---- the loops over a row's cells
+-- ---- the loops over a row's children
 
-module _ {sh ns : Bytes} {r c to : ℕ} (p : CellFrom sh ns r c to) where
-  pub from_none : to ≤ c → cell_lengths sh ns r c to ≡ []
-  from_none l = gather_done (length_if sh ns r) c to l
+-- of the children of row r those from number c up to e are left
+pub record ChildFrom (sh ns : Bytes) (r c e : ℕ) : Type 0 where
+  pub rest : Forest
+  pub later : r < c
+  pub rep : Rep sh ns r c e rest
 
-  module _ (l : c < to) where
-    pub from_first : First sh ns r c to p.rest
-    from_first = first sh ns r c to p.rest p.rep l
+pub child_at : {sh ns : Bytes} {r c d e : ℕ} → ChildFrom sh ns r c e → d ≡ c → ChildFrom sh ns r d e
+child_at {sh} {ns} {r} {c} {d} {e} p q = subst (λ (j : ℕ). ChildFrom sh ns r j e) (sym q) p
 
-    module _ {d : ℕ} (e : d ≡ end_at ns c) where
-      pub from_rest : Rep sh ns r d to (rest_of p.rest)
-      from_rest = subst (λ (j : ℕ). Rep sh ns r j to (rest_of p.rest)) (sym e) from_first.after
+module _ {sh ns : Bytes} {r c to : ℕ} (p : ChildFrom sh ns r c to) where
+  pub child_none : to ≤ c → cell_lengths sh ns r c to ≡ []
+  child_none l = gather_done (length_if sh ns r) c to l
 
-      pub from_later : r < d
-      from_later = omega (arith, p.later, from_first.later)
+  -- node i is the next child, and its end is d
+  module _ {i : ℕ} (s : i ≡ c) (l : i < to) where
+    here : ChildFrom sh ns r i to
+    here = child_at p s
 
-      from_is : cell_lengths sh ns r c to ≡ length_at ns c ∷ cell_lengths sh ns r d to
-      from_is =
-          cells_step sh ns r c to p.rest p.rep p.later l ∙ rw (p.is_cell_lem l)
-          (ap (λ (j : ℕ). length_at ns c ∷ cell_lengths sh ns r j to) (sym e))
+    its_first : First sh ns r i to here.rest
+    its_first = first sh ns r i to here.rest here.rep l
 
-      -- n is its length, and c' the next cell
-      pub from_turn : {n : ℕ} (c' : ℕ) → n ≡ length_at ns c → cell_lengths sh ns r d to ≡ cell_lengths sh ns r c' to
-          → cell_lengths sh ns r c to ≡ n ∷ cell_lengths sh ns r c' to
-      from_turn {n} c' q s = from_is ∙ ap (λ (x : List ℕ). length_at ns c ∷ x) s ∙ ap (λ (k : ℕ). k ∷ cell_lengths sh ns r c' to) (sym q)
+    pub child_node : NodeAt sh ns i
+    child_node = node_first its_first
+
+    module _ {d : ℕ} (e : d ≡ end_at ns i) where
+      pub child_on : ChildFrom sh ns r d to
+      child_on = child_at (record { rest = rest_of here.rest; later = omega (arith, here.later, its_first.later); rep = its_first.after }) e
+
+      its_lengths : cell_lengths sh ns r c to ≡ cond (is_table_cell (name_at sh (place_at ns i))) (length_at ns i ∷ []) [] ++ cell_lengths sh ns r d to
+      its_lengths =
+          ap (λ (j : ℕ). cell_lengths sh ns r j to) (sym s) ∙ cells_step sh ns r i to here.rest here.rep here.later l
+          ∙ ap (λ (j : ℕ). cond (is_table_cell (name_at sh (place_at ns i))) (length_at ns i ∷ []) [] ++ cell_lengths sh ns r j to) (sym e)
+
+      -- it is a cell, and n is its length
+      pub child_cell : {n : ℕ} → is_table_cell (name_at sh (place_at ns i)) ≡ true → n ≡ length_at ns i → cell_lengths sh ns r c to ≡ n ∷ cell_lengths sh ns r d to
+      child_cell q m = its_lengths ∙ rw q (ap (λ (k : ℕ). k ∷ cell_lengths sh ns r d to) (sym m))
+
+      pub child_other : is_table_cell (name_at sh (place_at ns i)) ≡ false → cell_lengths sh ns r c to ≡ cell_lengths sh ns r d to
+      child_other q = its_lengths ∙ rw q refl
 
 -- ---- the first of some lengths
 

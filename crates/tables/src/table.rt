@@ -59,13 +59,13 @@ fn measure(tree: &Tree, row: usize, to: usize) -> Size
     let mut cells = 0;
     let mut bytes = 0;
     let mut empty = 0;
-    let mut c = next_cell(tree, row + 1, to);
-    while c < to {
-        let n = read::<8>(tree.nodes, c * 24 + 16);
-        cells += 1;
-        bytes += n;
-        empty += at_least_one(n) - n;
-        c = next_cell(tree, tree.node_end(c), to);
+    for c in tree.siblings(row + 1, to) {
+        if is_table_cell(node_name(tree, c)) {
+            let n = read::<8>(tree.nodes, c * 24 + 16);
+            cells += 1;
+            bytes += n;
+            empty += at_least_one(n) - n;
+        }
     }
     Size {
         cells,
@@ -88,12 +88,12 @@ fn put_columns(tree: &Tree, text: &mut Text, row: usize, to: usize, src: usize, 
     ensures { PutsTo text.old text.new (bars (columns under (lengths_to tree.now.sheet.now tree.now.nodes.now row to) (drop src text.old.room.now))) }
 {
     let mut at = src;
-    let mut c = next_cell(tree, row + 1, to);
-    while c < to {
-        let n = read::<8>(tree.nodes, c * 24 + 16);
-        put_column(text, at, n, under);
-        at += n;
-        c = next_cell(tree, tree.node_end(c), to);
+    for c in tree.siblings(row + 1, to) {
+        if is_table_cell(node_name(tree, c)) {
+            let n = read::<8>(tree.nodes, c * 24 + 16);
+            put_column(text, at, n, under);
+            at += n;
+        }
     }
 }
 

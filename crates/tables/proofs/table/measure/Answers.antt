@@ -1,12 +1,12 @@
-use Prim.Native.Nat.{◌+◌}
-use mathlib.Core.Path.{refl, ap, ◌∙◌}
+use Prim.Native.Nat.{ℕ, ◌+◌}
 use lib.ListN.{length}
-use Rattle.tree.specs.Memory.{end_at}
-use Rattle.tree.specs.Represents.{rest_of}
+use mathlib.Core.Path.{refl, ap, sym, ◌∙◌}
+use Rattle.spec.specs.Md.Elements.Table.{is_table_cell}
 use Rattle.tree.proofs.Firsts.{rep_le}
 use Rattle.tree.proofs.Numbers.{long_is}
-use Rattle.tables.specs.Spans.{cell_lengths}
-use Rattle.tables.proofs.Gathering.{few_cells, from_none, from_first, from_rest, from_later, from_turn, sum_first, zeros_first, length_first, sum_none, zeros_none, zeros_few}
+use Rattle.nodes.proofs.Siblings.{over_begun, gives_before, gives_next, gives_over, gives_none}
+use Rattle.tables.specs.Spans.{cell_lengths, sum, zeros}
+use Rattle.tables.proofs.Gathering.{few_cells, child_at, child_none, child_node, child_on, child_cell, child_other, sum_first, zeros_first, length_first, sum_none, zeros_none, zeros_few}
 use native.Mathlib.Omega.{arith}
 use Rattle.tables.proofs.table.measure.Goals as goal
 
@@ -14,53 +14,78 @@ pub overflow_add-row : goal.overflow_add-row
 overflow_add-row c =
     omega (arith, rep_le c.args.tree.now.sheet.now c.args.tree.now.nodes.now c.args.row (c.args.row + 1) c.args.to c.requires.0.0 c.requires.0.1)
 
+pub siblings-c-items-requires : goal.siblings-c-items-requires
+siblings-c-items-requires c = (c.args.row, c.requires.0.0, c.requires.0.1)
+
+pub loop-c-init : goal.loop-c-init
+loop-c-init c =
+    let a = c.args in let sh = a.tree.now.sheet.now in let ns = a.tree.now.nodes.now in
+    let b = over_begun c.siblings-c-items.ensures c.into_iter-c-iterator.ensures.into_iter_gives refl in
+    let e = ap (λ (j : ℕ). cell_lengths sh ns a.row j a.to) b.1 in (
+      b.0,
+      child_at (record { rest = c.requires.0.0; later = omega arith; rep = c.requires.0.1 }) b.1,
+      omega (arith, ap length e),
+      omega (arith, ap sum e),
+      omega (arith, ap zeros e),
+    )
+
+pub node_name-requires : goal.node_name-requires
+node_name-requires c =
+    let l = c.loop-c.invariant in let s = c.in-Some.ensures.steps in child_node l.1 s.0 (gives_before l.0 s)
+
 pub overflow_mul-c : goal.overflow_mul-c
 overflow_mul-c c =
-    omega (arith, (from_first c.loop-c.invariant.0 c.loop-c-test.true).inside)
+    let l = c.loop-c.invariant in let s = c.in-Some.ensures.steps in omega (arith, (child_node l.1 s.0 (gives_before l.0 s)).inside)
 
 pub overflow_add-c : goal.overflow_add-c
 overflow_add-c c =
-    omega (arith, (from_first c.loop-c.invariant.0 c.loop-c-test.true).inside)
+    let l = c.loop-c.invariant in let s = c.in-Some.ensures.steps in omega (arith, (child_node l.1 s.0 (gives_before l.0 s)).inside)
 
 pub read-n-requires : goal.read-n-requires
 read-n-requires c =
-    (omega (arith, (from_first c.loop-c.invariant.0 c.loop-c-test.true).inside), omega arith)
+    let l = c.loop-c.invariant in let s = c.in-Some.ensures.steps in (omega (arith, (child_node l.1 s.0 (gives_before l.0 s)).inside), omega arith)
 
 pub overflow_add-cells : goal.overflow_add-cells
 overflow_add-cells c =
-    let e = from_turn c.loop-c.invariant.0 c.loop-c-test.true refl (end_at c.args.tree.now.nodes.now c.loop-c.c) (c.read-n.ensures.0 ∙ long_is _ _) refl in
-    omega (arith, length_first e, c.loop-c.invariant.1, few_cells c.args.tree.now.sheet.now c.args.tree.now.nodes.now c.args.row (c.args.row + 1) c.args.to)
+    let l = c.loop-c.invariant in let s = c.in-Some.ensures.steps in let a = c.args in
+    let e = child_cell l.1 s.0 (gives_before l.0 s) refl (sym (c.is_table_cell.ensures ∙ ap is_table_cell c.node_name.ensures) ∙ c.if-is_table_cell.true) (c.read-n.ensures.0 ∙ long_is _ _) in
+    omega (arith, length_first e, l.2, few_cells a.tree.now.sheet.now a.tree.now.nodes.now a.row (a.row + 1) a.to)
 
 pub overflow_add-bytes : goal.overflow_add-bytes
 overflow_add-bytes c =
-    let e = from_turn c.loop-c.invariant.0 c.loop-c-test.true refl (end_at c.args.tree.now.nodes.now c.loop-c.c) (c.read-n.ensures.0 ∙ long_is _ _) refl in
-    omega (arith, sum_first e, c.loop-c.invariant.2, c.requires.1)
+    let l = c.loop-c.invariant in let s = c.in-Some.ensures.steps in
+    let e = child_cell l.1 s.0 (gives_before l.0 s) refl (sym (c.is_table_cell.ensures ∙ ap is_table_cell c.node_name.ensures) ∙ c.if-is_table_cell.true) (c.read-n.ensures.0 ∙ long_is _ _) in
+    omega (arith, sum_first e, l.3, c.requires.1)
 
 pub overflow_add-empty : goal.overflow_add-empty
 overflow_add-empty c =
-    let e = from_turn c.loop-c.invariant.0 c.loop-c-test.true refl (end_at c.args.tree.now.nodes.now c.loop-c.c) (c.read-n.ensures.0 ∙ long_is _ _) refl in
-    omega (arith, zeros_first e, c.loop-c.invariant.3, c.at_least_one.ensures, zeros_few (cell_lengths c.args.tree.now.sheet.now c.args.tree.now.nodes.now c.args.row (c.args.row + 1) c.args.to), few_cells c.args.tree.now.sheet.now c.args.tree.now.nodes.now c.args.row (c.args.row + 1) c.args.to)
+    let l = c.loop-c.invariant in let s = c.in-Some.ensures.steps in let a = c.args in
+    let e = child_cell l.1 s.0 (gives_before l.0 s) refl (sym (c.is_table_cell.ensures ∙ ap is_table_cell c.node_name.ensures) ∙ c.if-is_table_cell.true) (c.read-n.ensures.0 ∙ long_is _ _) in
+    omega (arith, zeros_first e, l.4, c.at_least_one.ensures, zeros_few (cell_lengths a.tree.now.sheet.now a.tree.now.nodes.now a.row (a.row + 1) a.to), few_cells a.tree.now.sheet.now a.tree.now.nodes.now a.row (a.row + 1) a.to)
 
-pub node_end-requires : goal.node_end-requires
-node_end-requires c =
-    (from_first c.loop-c.invariant.0 c.loop-c-test.true).inside
-
-pub next_cell-c-requires-in-loop-c : goal.next_cell-c-requires-in-loop-c
-next_cell-c-requires-in-loop-c c =
-    (c.args.row, rest_of c.loop-c.invariant.0.rest, from_rest c.loop-c.invariant.0 c.loop-c-test.true c.node_end.ensures)
-
-pub loop-c-smaller : goal.loop-c-smaller
-loop-c-smaller c =
-    omega (arith, (from_first c.loop-c.invariant.0 c.loop-c-test.true).later, c.node_end.ensures, c.next_cell-c-in-loop-c.ensures.later, c.loop-c-test.true)
+pub loop-c-preserved-then-is_table_cell : goal.loop-c-preserved-then-is_table_cell
+loop-c-preserved-then-is_table_cell c =
+    let l = c.loop-c.invariant in let s = c.in-Some.ensures.steps in
+    let e = child_cell l.1 s.0 (gives_before l.0 s) (gives_next l.0 s) (sym (c.is_table_cell.ensures ∙ ap is_table_cell c.node_name.ensures) ∙ c.if-is_table_cell.true) (c.read-n.ensures.0 ∙ long_is _ _) in (
+      gives_over l.0 s,
+      child_on l.1 s.0 (gives_before l.0 s) (gives_next l.0 s),
+      omega (arith, length_first e, l.2),
+      omega (arith, sum_first e, l.3),
+      omega (arith, zeros_first e, l.4, c.at_least_one.ensures),
+    )
 
 pub loop-c-preserved : goal.loop-c-preserved
 loop-c-preserved c =
-    let x = c.loop-c.invariant.0 in
-    let n = c.next_cell-c-in-loop-c.ensures.cells c.args.row (rest_of x.rest) (from_later x c.loop-c-test.true c.node_end.ensures) (from_rest x c.loop-c-test.true c.node_end.ensures) in
-    let e = from_turn x c.loop-c-test.true c.node_end.ensures c.next_cell-c-in-loop-c.result (c.read-n.ensures.0 ∙ long_is _ _) n.1 in
-    (n.0, omega (arith, length_first e, c.loop-c.invariant.1), omega (arith, sum_first e, c.loop-c.invariant.2), omega (arith, zeros_first e, c.loop-c.invariant.3, c.at_least_one.ensures))
+    let l = c.loop-c.invariant in let s = c.in-Some.ensures.steps in
+    let e = child_other l.1 s.0 (gives_before l.0 s) (gives_next l.0 s) (sym (c.is_table_cell.ensures ∙ ap is_table_cell c.node_name.ensures) ∙ c.if-is_table_cell.false) in (
+      gives_over l.0 s,
+      child_on l.1 s.0 (gives_before l.0 s) (gives_next l.0 s),
+      omega (arith, ap length e, l.2),
+      omega (arith, ap sum e, l.3),
+      omega (arith, ap zeros e, l.4),
+    )
 
 pub returns : goal.returns
 returns c =
-    let e = from_none c.loop-c.invariant.0 c.loop-c-test.false in
-    (omega (arith, ap length e, c.loop-c.invariant.1), omega (arith, sum_none e, c.loop-c.invariant.2), omega (arith, zeros_none e, c.loop-c.invariant.3))
+    let l = c.loop-c.invariant in let e = child_none l.1 (gives_none l.0 c.in-None.ensures.steps.0) in
+    (omega (arith, ap length e, l.2), omega (arith, sum_none e, l.3), omega (arith, zeros_none e, l.4))
