@@ -209,24 +209,22 @@ fn push_sized(
     end: usize,
     from: usize,
     to: usize,
-    cells: usize,
-    bytes: usize,
-    empty: usize,
+    size: Size,
 ) -> Result<(), Full>
-    requires { Kids tree.now.sheet.now tree.now.nodes.now row end × SomeRows tree.now.sheet.now tree.now.nodes.now from to × (cells ≡ length (lengths_to tree.now.sheet.now tree.now.nodes.now row end)) × (bytes ≡ sum (lengths_to tree.now.sheet.now tree.now.nodes.now row end)) × (empty ≡ zeros (lengths_to tree.now.sheet.now tree.now.nodes.now row end)) × (text.old.len + n ≤ length text.old.room.now) × (n ≡ bytes + sum (concat (line_lengths tree.now.sheet.now tree.now.nodes.now from to))) × (20 * cells + 20 * length (concat (table_lengths tree.now.sheet.now tree.now.nodes.now from to)) + 5 < 18446744073709551616) }
+    requires { Kids tree.now.sheet.now tree.now.nodes.now row end × SomeRows tree.now.sheet.now tree.now.nodes.now from to × (size.cells ≡ length (lengths_to tree.now.sheet.now tree.now.nodes.now row end)) × (size.bytes ≡ sum (lengths_to tree.now.sheet.now tree.now.nodes.now row end)) × (size.empty ≡ zeros (lengths_to tree.now.sheet.now tree.now.nodes.now row end)) × (text.old.len + n ≤ length text.old.room.now) × (n ≡ size.bytes + sum (concat (line_lengths tree.now.sheet.now tree.now.nodes.now from to))) × (20 * size.cells + 20 * length (concat (table_lengths tree.now.sheet.now tree.now.nodes.now from to)) + 5 < 18446744073709551616) }
     ensures { WritesTo text.old text.new result (table_sized (lengths_to tree.now.sheet.now tree.now.nodes.now row end) (line_lengths tree.now.sheet.now tree.now.nodes.now from to) (take n (drop text.old.len text.old.room.now))) }
 {
     let wide = first_width(tree, from, to);
-    let blanks = wide.saturating_sub(cells);
+    let blanks = wide.saturating_sub(size.cells);
     let extra = lines_marks(tree, from, to);
-    let more = 5 + 6 * cells + 9 * blanks + empty + extra;
+    let more = 5 + 6 * size.cells + 9 * blanks + size.empty + extra;
     let room = text.room.len();
-    if !has_room(room - text.len - n, n, bytes, more) {
+    if !has_room(room - text.len - n, n, size.bytes, more) {
         return Err(Full);
     }
     let base = room - n;
     lift(text.room, text.len, n, base);
-    put_table(tree, text, base, row, end, from, to, bytes, blanks);
+    put_table(tree, text, base, row, end, from, to, size.bytes, blanks);
     text.push_byte(b'\n')
 }
 
@@ -243,9 +241,7 @@ fn push_headed(
     ensures { WritesTo text.old text.new result (table_sized (lengths_to tree.now.sheet.now tree.now.nodes.now row end) (line_lengths tree.now.sheet.now tree.now.nodes.now from to) (take n (drop text.old.len text.old.room.now))) }
 {
     let size = measure(tree, row, end);
-    push_sized(
-        tree, text, n, row, end, from, to, size.cells, size.bytes, size.empty,
-    )
+    push_sized(tree, text, n, row, end, from, to, size)
 }
 
 // Appends the table of the rows from node `first` on, the first that has cells; the cells' texts are the n bytes behind the

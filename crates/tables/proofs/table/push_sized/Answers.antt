@@ -54,7 +54,7 @@ returns-then-not-has_room c =
     let more : c.lines_marks-extra.result ≡ marks rows = c.lines_marks-extra.ensures in
     as_full {f = table_sized lens rows s} refl refl (sized_full lens rows s (omega (arith, m, c.requires.3, c.requires.6)) (length a.text.now.room.now) (take a.text.now.len a.text.now.room.now)
     (omega
-    (arith, leb-false ((let a = c.args in a.n + a.bytes + (5 + 6 * a.cells + 9 * c.saturating_sub-blanks.result + a.empty + c.lines_marks-extra.result))) ((let a = c.args in length a.text.now.room.now - a.text.now.len - a.n)) (sym c.has_room.ensures ∙ c.if-not-has_room.true), c.saturating_sub-blanks.ensures, m, length-take-le a.text.now.len a.text.now.room.now (omega (arith, c.requires.5)), c.requires.2, c.requires.3, c.requires.4, c.requires.5, c.requires.6)))
+    (arith, leb-false ((let a = c.args in a.n + a.size.bytes + (5 + 6 * a.size.cells + 9 * c.saturating_sub-blanks.result + a.size.empty + c.lines_marks-extra.result))) ((let a = c.args in length a.text.now.room.now - a.text.now.len - a.n)) (sym c.has_room.ensures ∙ c.if-not-has_room.true), c.saturating_sub-blanks.ensures, m, length-take-le a.text.now.len a.text.now.room.now (omega (arith, c.requires.5)), c.requires.2, c.requires.3, c.requires.4, c.requires.5, c.requires.6)))
 
 pub returns : goal.returns
 returns c =
@@ -66,5 +66,5 @@ returns c =
     let wide : c.first_width-wide.result ≡ width rows = c.first_width-wide.ensures in
     let more : c.lines_marks-extra.result ≡ marks rows = c.lines_marks-extra.ensures in
     let w = sized_done lens rows s (omega (arith, m, c.requires.3, c.requires.6)) a.text.now.room.now _ a.text.now.len a.n _
-    (omega (arith, (let it : c.args.text.now.len + c.args.n + c.args.n + c.args.bytes + (5 + 6 * c.args.cells + 9 * c.saturating_sub-blanks.result + c.args.empty + c.lines_marks-extra.result) ≤ length c.args.text.now.room.now = omega (arith, leb-true ((let a = c.args in a.n + a.bytes + (5 + 6 * a.cells + 9 * c.saturating_sub-blanks.result + a.empty + c.lines_marks-extra.result))) ((let a = c.args in length a.text.now.room.now - a.text.now.len - a.n)) (sym c.has_room.ensures ∙ c.if-not-has_room.false), c.requires.5) in it), c.saturating_sub-blanks.ensures, c.requires.2, c.requires.3, c.requires.4, c.requires.6)) (sym m) refl c.lift.ensures refl c.put_table.ensures.puts c.push_byte.ensures.writes in
+    (omega (arith, (let it : c.args.text.now.len + c.args.n + c.args.n + c.args.size.bytes + (5 + 6 * c.args.size.cells + 9 * c.saturating_sub-blanks.result + c.args.size.empty + c.lines_marks-extra.result) ≤ length c.args.text.now.room.now = omega (arith, leb-true ((let a = c.args in a.n + a.size.bytes + (5 + 6 * a.size.cells + 9 * c.saturating_sub-blanks.result + a.size.empty + c.lines_marks-extra.result))) ((let a = c.args in length a.text.now.room.now - a.text.now.len - a.n)) (sym c.has_room.ensures ∙ c.if-not-has_room.false), c.requires.5) in it), c.saturating_sub-blanks.ensures, c.requires.2, c.requires.3, c.requires.4, c.requires.6)) (sym m) refl c.lift.ensures refl c.put_table.ensures.puts c.push_byte.ensures.writes in
     record { room_is = c.push_byte.ensures.room_is ∙ c.put_table.ensures.room_is; long = c.push_byte.ensures.long ∙ puts_long c.put_table.ensures ∙ c.lift.ensures.long; writes = w }
