@@ -46,7 +46,7 @@ module _ (xs : List ℕ) (len : ℕ) (h : len ≤ length xs) (o : Out) {ys : Lis
           }
       go (Err _) y = record { over = omega (arith, y.over, back_length xs len h o w) }
 
--- the same of a text
+-- with a text
 pub nest_to : {a m c : Text} {r : Answer} (o : Out) {ys : List ℕ} {n : ℕ} → Written (length (lent a.room.now a.len)) ys n o → m.len ≡ a.len → m.room.ghost_name ≡ a.room.ghost_name
     → m.room.now ≡ back a.room.now a.len ys → (g : List ℕ → Step) → WritesTo m c r (g (take n (drop a.len m.room.now))) → WritesTo a c r (nested o (g o.text))
 nest_to {a} {m} {c} {r} o {ys} {n} w l q e g v =

@@ -23,7 +23,7 @@ fn push_bracket(text: &mut Text) -> Result<(), Full>
     text.push_byte(b'[')
 }
 
-// The same for a text in this room.
+// `push_bracket` for the text of `len` bytes in this room.
 fn push_bracket_in(room: &mut [u8], len: usize) -> Wrote
     requires { len ≤ length room.old }
     ensures { Writes (length room.old) room.new result (bracket (take len room.old)) }

@@ -36,7 +36,7 @@ abbrev pub skip_list : Bool → Bytes → SkipList
 skip_list true run = own run
 skip_list false run = standard
 
--- the same, for a run that is lent only where it is the skip list
+-- the skip list, for a run that is lent only where it is the skip list
 abbrev pub skip_of : Option (Bor Bytes) → SkipList
 skip_of (Some run) = own run.now
 skip_of None = standard

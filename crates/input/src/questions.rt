@@ -261,7 +261,7 @@ fn refusal_in_order(
     require(has_node_memory(sheet, memory), Refusal::NodeMemory)
 }
 
-// The same for a sheet of so many nodes that questions 1 to 6 let pass.
+// The number of the question that says no, for a sheet of so many nodes that questions 1 to 6 let pass.
 #[tactic(auto, unfolding(crate::specs::Sound::refusal_of_sound, spec::specs::Questions::first_no))]
 fn refusal_of_sound(
     count: usize,

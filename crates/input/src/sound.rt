@@ -16,7 +16,7 @@ fn is_sound_close(before: u8, depth: usize, len: usize) -> bool
     ((before != NAME) & (len == 0)) & (depth != 0)
 }
 
-// The same as `is_ruled`, for a field of `len` bytes that is no name of an element and no text.
+// `is_ruled` for a field of `len` bytes that is no name of an element and no text.
 fn is_ruled_other(before: u8, tag: u8, len: usize) -> bool
     requires { (tag ≡ 1 → ⊥) × (tag ≡ 4 → ⊥) × (tag ≡ 6 → ⊥) }
     ensures { (depth : ℕ) (body : Bytes) → length body ≡ len → result ≡ ruled_field before depth tag body }
@@ -68,7 +68,7 @@ fn count_at_end(left: usize, before: u8, depth: usize, count: usize) -> Option<u
     Some(count)
 }
 
-// The same as `sound_count`, for a sheet of at most 1,048,576 bytes. Behind a close the next field begins at once: its
+// `sound_count` for a sheet of at most 1,048,576 bytes. Behind a close the next field begins at once: its
 // place needs no length. Places are counted by hand: a loop over slices of the rest takes 11 instructions more for each field.
 fn count_of_short(s: &[u8]) -> Option<usize>
     requires { length s.now ≤ 1048576 }

@@ -81,7 +81,7 @@ fn due_behind(before: Lead, part: &[u8]) -> Option<Lead>
     Some(due)
 }
 
-// The same for a block of 16 bytes; one of ASCII is skipped.
+// `due_behind` for a block of 16 bytes; one of ASCII is skipped.
 fn due_behind_block(before: Lead, block: &[u8; 16]) -> Option<Lead>
     ensures { Behind before block.now result }
 {
@@ -104,7 +104,7 @@ fn due_at_end(s: &[u8]) -> Option<Lead>
     due_behind(due, rest)
 }
 
-// The same as `is_utf8`, for bytes of which some are not ASCII.
+// `is_utf8` for bytes of which some are not ASCII.
 fn is_well_formed(s: &[u8]) -> bool
     ensures { result ≡ is_utf8 s.now }
 {
@@ -130,7 +130,7 @@ fn is_ascii_part(s: &[u8], n: usize) -> bool
     blocks <= s.len() / 16 && is_ascii(&s[..blocks * 16])
 }
 
-// The same as `is_utf8`, for the first n bytes, however many.
+// `is_utf8` for the first n bytes, however many.
 fn is_utf8_long(s: &[u8], n: usize) -> bool
     requires { n ≤ length s.now }
     ensures { result ≡ is_utf8 (take n s.now) }
@@ -148,7 +148,7 @@ fn is_short_ascii(s: &[u8], n: usize) -> bool
     }
 }
 
-// The same as `is_utf8_long`. Most fields are short, and one block of 16 bytes, which may reach behind the first n, holds all
+// `is_utf8` for the first n bytes. Most fields are short, and one block of 16 bytes, which may reach behind the first n, holds all
 // of theirs.
 pub fn is_utf8_part(s: &[u8], n: usize) -> bool
     requires { n ≤ length s.now }

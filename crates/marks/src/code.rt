@@ -50,7 +50,7 @@ fn runs_behind(before: Runs, s: &[u8]) -> Runs
     runs
 }
 
-// The same for a block of bytes, most often without a backtick.
+// `runs_behind` for a block of bytes, most often without a backtick.
 #[tactic(auto, using(crate::proofs::Leaves::runs_away))]
 fn runs_behind_block(before: Runs, block: &[u8; 16]) -> Runs
     requires { before.run + 16 < 2 ^ 64 }
@@ -124,7 +124,7 @@ fn push_opening(text: &mut Text, fence: usize, space: bool) -> Result<(), Full>
     text.push_byte_if(b' ', space)
 }
 
-// The same in a slice that is lent, so that the code behind it stays.
+// `push_opening` for the text of `len` bytes in this room: the code stands behind the room, and stays.
 fn push_opening_in(room: &mut [u8], len: usize, fence: usize, space: bool) -> Wrote
     requires { len ≤ length room.old }
     ensures { Writes (length room.old) room.new result (push (cond (ends_with (ascii "`") (take len room.old)) (ascii " ") [] ++ (def.backticks fence ++ cond space (ascii " ") [])) (take len room.old)) }
@@ -186,7 +186,7 @@ fn push_block_opening(text: &mut Text, fence: usize, lang: &[u8]) -> Result<(), 
     text.push_byte(b'\n')
 }
 
-// The same in a slice that is lent, so that the content behind it stays.
+// `push_block_opening` for the text of `len` bytes in this room: the content stands behind the room, and stays.
 fn push_block_opening_in(room: &mut [u8], len: usize, fence: usize, lang: &[u8]) -> Wrote
     requires { len ≤ length room.old }
     ensures { Writes (length room.old) room.new result (push (cond (ends_with (ascii "\n\n") (take len room.old)) [] (ascii "\n") ++ (def.backticks fence ++ (def.sanitize_attr_value lang.now ++ ascii "\n"))) (take len room.old)) }

@@ -112,7 +112,7 @@ fn push_front(text: &mut Text, marker: &[u8], lead: bool, bang: bool) -> Result<
     escape_bang_if(text, bang)
 }
 
-// The same in a slice that is lent, so that the emphasis text behind it stays.
+// `push_front` for the text of `len` bytes in this room: the emphasis text stands behind the room, and stays.
 fn push_front_in(room: &mut [u8], len: usize, marker: &[u8], lead: bool, bang: bool) -> Wrote
     requires { len ≤ length room.old }
     ensures { Writes (length room.old) room.new result (marked_front marker.now lead bang (take len room.old)) }
@@ -142,7 +142,7 @@ fn push_end(text: &mut Text, marker: &[u8], trail: bool) -> Result<(), Full>
     text.push_byte_if(b' ', trail)
 }
 
-// The same in a slice that is lent, where the emphasis text begins.
+// `push_end` for the text of `len` bytes in this room, which begins where the emphasis text does.
 fn push_end_in(room: &mut [u8], len: usize, marker: &[u8], trail: bool) -> Wrote
     requires { len ≤ length room.old }
     ensures { Writes (length room.old) room.new result (push (marker.now ++ cond trail (ascii " ") []) (take len room.old)) }

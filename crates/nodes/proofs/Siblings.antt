@@ -71,7 +71,7 @@ over_begun {sh} {ns} {from} {to} {e} {s} {t} o q p =
     subst (λ (u : iter.Siblings). Over sh ns u.next to u × (u.next ≡ from)) (sym q)
     (over_here (subst (λ (d : ℕ). Over sh ns from d s) p o), o.next_is)
 
--- ---- the same in a `for` over them: those from the next of the iterator s on are left
+-- ---- in a `for` over them those from the next of the iterator s on are left
 
 pub record Walks {M : Type 0} (v : Forest → M) (sh ns : Bytes) (from to : ℕ) (s : iter.Siblings) : Type 0 where
   pub over : Over sh ns s.next to s

@@ -127,7 +127,7 @@ pub record Inside (skips : List Bytes) (opts : FormatOpts) (sh ns : Bytes) (top 
   pub behind : Behind skips opts sh ns top depth o more
   pub rest_is : rest ≡ both (write_skip_md skips opts kids) more
 
--- the same, or no element is open
+-- such an element is open, or none is
 pub record Ahead (skips : List Bytes) (opts : FormatOpts) (sh ns : Bytes) (top o at : ℕ) (rest : Step) : Type 0 where
   pub none : o ≡ 0 → rest ≡ keep
   pub some : (o ≡ 0 → ⊥) → Inside skips opts sh ns top o at rest

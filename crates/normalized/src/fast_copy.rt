@@ -31,7 +31,7 @@ fn is_plain(escape: bool, b: u8, next: u8) -> bool
     !((b < 14) | (((b == b' ') & (next <= b' ')) | (escape & sign)))
 }
 
-// The same for 16 bytes, behind which one more stands, without an early exit, so that they can be tested at once.
+// `is_plain` for 16 bytes, behind which one more stands, without an early exit, so that they can be tested at once.
 fn is_plain_block(s: &[u8; 17], escape: bool) -> bool
     ensures { result ≡ true → (i : ℕ) → i < 16 → Plain escape s.now i }
 {
@@ -43,7 +43,7 @@ fn is_plain_block(s: &[u8; 17], escape: bool) -> bool
     all
 }
 
-// The same for the first n of the 16 bytes. The count is a byte of its own, so that it is compared with 16 places at once.
+// `is_plain` for the first n of the 16 bytes. The count is a byte of its own, so that it is compared with 16 places at once.
 fn is_plain_front(s: &[u8; 17], n: u8, escape: bool) -> bool
     ensures { result ≡ true → (i : ℕ) → i < 16 → i < n → Plain escape s.now i }
 {
@@ -91,7 +91,7 @@ fn is_plain_text(s: &[u8], escape: bool) -> bool
     true
 }
 
-// The same for a part: a short one is tested at once, with bytes behind it that do not count.
+// Whether the bytes of a part but its last are plain: a short one is tested at once, with bytes behind it that do not count.
 fn is_plain_part(src: &[u8], from: usize, to: usize, escape: bool) -> bool
     requires { (from < to) × (to ≤ length src.now) }
     ensures { result ≡ true → (n : ℕ) → to ≡ from + n + 1 → Flows escape (slice from to src.now) n }
@@ -238,7 +238,7 @@ pub struct Block {
     pub even: bool,
 }
 
-// The same for 16 bytes, behind which one more stands, without a branch, so that it is found for all at once.
+// The block of 16 bytes, behind which one more stands, without a branch, so that it is found for all at once.
 pub fn block_of(s: &[u8; 17], escape: bool) -> Block
     ensures { BlockOf escape s.now result }
 {

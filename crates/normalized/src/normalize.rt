@@ -60,7 +60,7 @@ fn push_bytes(text: &mut Text, s: &[u8], n: usize, escape: bool) -> Result<(), F
     Ok(())
 }
 
-// The same, without a branch where 16 bytes, signs aside, add themselves.
+// `push_bytes` without a branch where 16 bytes, signs aside, add themselves.
 fn push_stretch(text: &mut Text, s: &[u8], n: usize, escape: bool) -> Result<(), Full>
     requires { n ≤ length s.now }
     ensures { WritesTo text.old text.new result (push (flow_before escape (take n s.now) (drop n s.now))) }
@@ -122,7 +122,7 @@ pub fn push_words(text: &mut Text, s: &[u8], opts: FormatOpts) -> Result<(), Ful
     text.push_byte_if(b' ', l.last)
 }
 
-// The same for a part of a slice: a short part is tested and copied with the bytes behind it, as one block. The options that matter
+// `push_words` for a part of a slice: a short part is tested and copied with the bytes behind it, as one block. The options that matter
 // are passed one by one: a record would be copied through memory.
 pub fn push_text_part(
     text: &mut Text,

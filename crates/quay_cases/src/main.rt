@@ -96,7 +96,7 @@ fn links(rt: &impl Print, lent: &mut Memories) -> io::Result<()> {
     link(rt, b"link to a&b", b"a&b", lent)
 }
 
-// The same with the first bytes of the memories.
+// `show_whole` with the first bytes of the memories.
 fn show_lent(
     rt: &impl Print,
     title: &[u8],

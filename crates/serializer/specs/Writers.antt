@@ -47,12 +47,12 @@ FitsIn ctx levels = Fits ctx.opts levels × (ctx.list_indent + levels * 12 + 36 
 pub record WritesForest (sh ns : Bytes) (i e : ℕ) (step : Ancestors → Forest → Step) (t : Bytes) (room : ℕ) (after : Bytes) (r : Wrote) : Type 0 where
   pub for : (parent : ℕ) (f : Forest) (anc : Ancestors) → Rep sh ns parent i e f → Around sh ns parent anc → Writes room after r (step anc f t)
 
--- the same of an element
+-- whatever element node i is, and whatever stands around it, it is written by the step
 pub record WritesElement (sh ns : Bytes) (i : ℕ) (step : Ancestors → Bytes → List Attr → Forest → Step) (t : Bytes) (room : ℕ) (after : Bytes) (r : Wrote) : Type 0 where
   pub for : (name : Bytes) (attrs : List Attr) (kids : Forest) (anc : Ancestors) → ElementAt sh ns i name attrs kids
       → Around sh ns (parent_at ns i) anc → Writes room after r (step anc name attrs kids t)
 
--- the same on a text
+-- and what is written stands behind the text
 abbrev pub ForestTo : Bytes → Bytes → ℕ → ℕ → (Ancestors → Forest → Step) → Text → Text → Result (Unit {0}) Full → Type 0
 ForestTo sh ns i e step before after r = WritesForest sh ns i e step (bytes before) (length before.room.now) after.room.now (wrote after r)
 
@@ -81,7 +81,7 @@ pub record At : Type 0 where
 abbrev pub progress_of : At → Bytes → Progress
 progress_of g d = progress_at g.first g.due (take g.len d)
 
--- the same on a text
+-- and where it stands in a text
 abbrev pub at_text : Going → Text → At
 at_text g t = record { len = t.len; first = g.first; due = g.due }
 
@@ -115,7 +115,7 @@ pub record GoesElement (sh ns : Bytes) (i : ℕ) (step : Ancestors → Bytes →
   pub for : (name : Bytes) (attrs : List Attr) (kids : Forest) (anc : Ancestors) → ElementAt sh ns i name attrs kids
       → Around sh ns (parent_at ns i) anc → Goes room after r (step anc name attrs kids)
 
--- the same on a text
+-- `Goes`, where what is written stands behind the text
 abbrev pub GoesTo : Text → Text → Result Going Full → Progress → Type 0
 GoesTo before after r p = Goes (length before.room.now) after.room.now (gone after r) p
 

@@ -99,7 +99,7 @@ impl<'s, 'k> MDSerializer<'s, 'k> {
         Ok(())
     }
 
-    // The same. One text that stands alone is written at once.
+    // `write`; one text that stands alone is written at once.
     #[cycle(writers)]
     fn siblings(
         &self,
@@ -256,7 +256,7 @@ impl<'s, 'k> MDSerializer<'s, 'k> {
         Ok(text.len)
     }
 
-    // The same for the children of an element.
+    // `write_behind` for the children of an element.
     #[cycle(writers)]
     fn kids_behind(
         &self,

@@ -27,7 +27,7 @@ column_as : (under : Bool) (n : ℕ) {s t : Bytes} → (under ≡ false → s �
 column_as true n h = refl
 column_as false n h = ap (take n) (h refl)
 
--- the same behind what is put before the texts
+-- the columns stay as they are when something is put before the texts
 pub columns_behind : (under : Bool) (l : List ℕ) (src : ℕ) {a b : Text} {x : Bytes} → PutsTo a b x → (under ≡ false → b.len ≤ src)
     → columns under l (drop src b.room.now) ≡ columns under l (drop src a.room.now)
 columns_behind true l src p h = refl

@@ -39,7 +39,7 @@ puts_byte d len b h =
       behind = drop-set-lt (len + 1) d len b (omega arith);
     }
 
--- the same bytes in other words
+-- the bytes in other words
 pub puts_as : {a b : List ℕ} {len m : ℕ} {x y : List ℕ} → x ≡ y → Puts a b len m x → Puts a b len m y
 puts_as {a} {b} {len} {m} e p = subst (λ (z : List ℕ). Puts a b len m z) e p
 
@@ -60,7 +60,7 @@ puts_mid d s len k q h =
       behind = drop-put_mid len (len + k - len) d s (len + k) (omega arith) (omega arith) (omega arith);
     }
 
--- ---- the same of texts
+-- ---- puts to a text
 
 pub puts_next : {a b c : Text} {x y : List ℕ} → PutsTo a b x → PutsTo b c y → PutsTo a c (x ++ y)
 puts_next p q = record { room_is = q.room_is ∙ p.room_is; puts = puts_then p.puts q.puts }

@@ -7,6 +7,6 @@ use Rattle.tables.specs.Spans.{cuts, unders}
 abbrev pub column : Bool → ℕ → Bytes → Bytes
 column under n s = cond under (replicate (max n 1) 45) (take n s)
 
--- the same for texts of these lengths, one behind the other in s
+-- the column of each text, where the texts have these lengths and stand one behind the other in s
 abbrev pub columns : Bool → List ℕ → Bytes → List Bytes
 columns under l s = cond under (unders l) (cuts l s)

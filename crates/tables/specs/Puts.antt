@@ -10,7 +10,7 @@ pub record Puts (before after : List ℕ) (len end : ℕ) (x : List ℕ) : Type 
   pub text_is : take end after ≡ take len before ++ x
   pub behind : drop end after ≡ drop end before
 
--- the same of a text
+-- x is put at the end of a text
 pub record PutsTo (before after : Text) (x : List ℕ) : Type 0 where
   pub room_is : after.room.ghost_name ≡ before.room.ghost_name
   pub puts : Puts before.room.now after.room.now before.len after.len x

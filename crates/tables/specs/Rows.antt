@@ -32,7 +32,7 @@ unfoldable pub Rows : Bytes → Bytes → ℕ → ℕ → List (List Cell) → T
 Rows sh ns i e [] = NoRow sh ns i e
 Rows sh ns i e (row ∷ rows) = (r : ℕ) × NoRow sh ns i r × RowAt sh ns r row × Rows sh ns (r + 1) e rows
 
--- the same, and node r is the first of them; without rows r is e
+-- the rows among the nodes up to e, of which node r is the first; without rows r is e
 unfoldable pub RowsAt : Bytes → Bytes → ℕ → ℕ → List (List Cell) → Type 0
 RowsAt sh ns r e [] = r ≡ e
 RowsAt sh ns r e (row ∷ rows) = RowAt sh ns r row × Rows sh ns (r + 1) e rows

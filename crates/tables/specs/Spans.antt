@@ -32,7 +32,7 @@ row_lengths sh ns r = lengths_to sh ns r (end_at ns r)
 unfoldable pub row_if : Bytes → Bytes → ℕ → List (List ℕ)
 row_if sh ns j = cond (eqb (name_at sh (place_at ns j)) 17) (row_lengths sh ns j ∷ []) []
 
--- the same of each row among the nodes from number i up to e
+-- the lengths of the cells of each row among the nodes from number i up to e
 abbrev pub table_lengths : Bytes → Bytes → ℕ → ℕ → List (List ℕ)
 table_lengths sh ns i e = gather (row_if sh ns) (e - i) i
 

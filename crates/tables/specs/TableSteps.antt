@@ -36,7 +36,7 @@ table_step heading rows t =
     let written = ascii "\n" ++ (line headings ++ (line (map dashes headings) ++ lines rows)) in
     and_then (beside counted (push written t)) (push (ascii "\n"))
 
--- the same by the lengths of the cells, whose texts are s
+-- `table_step` by the lengths of the cells, whose texts are s
 unfoldable pub table_sized : List ℕ → List (List ℕ) → Bytes → Step
 table_sized head rows s t =
     and_then (beside (sum head + sum (concat rows) + (width rows - length head)) (push (table_bytes head rows s) t)) (push (10 ∷ []))
@@ -55,7 +55,7 @@ pub record RowWrites (room : ℕ) (after : List ℕ) (stored : List ℕ) (r : Wr
   pub writes : Writes room after r (behind os t)
   pub lengths_are : (e : ℕ) → r ≡ Ok e → stored ≡ lengths_of os
 
--- the same of rows
+-- rows are written, and the lengths of their cells are stored
 pub record RowsWrites (room : ℕ) (after : List ℕ) (stored : List (List ℕ)) (r : Wrote) (rows : List (List Out)) (t : Bytes) : Type 0 where
   pub writes : Writes room after r (behind (concat rows) t)
   pub lengths_are : (e : ℕ) → r ≡ Ok e → stored ≡ rows_lengths rows

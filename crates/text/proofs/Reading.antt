@@ -10,7 +10,7 @@ use lib.Seq.{drop-cons, take_all, drop-length, take-nil, length-take-le}
 use lib.Dec.{eqb, ltb}
 use borrow.Author.Tests.{eq-eqb, ne_eqb, eqb-true, eqb-false, ltb-true, ltb-false}
 use lib.Pointwise.{pointwise}
-use Rattle.spec.specs.Bytes.{isin, same, starts_with, ends_with, every, null, trim_ascii_end, trim_end_matches, one, white}
+use Rattle.spec.specs.Bytes.{isin, same, starts_with, ends_with, null, trim_ascii_end, trim_end_matches, one, white}
 use Rattle.spec.specs.Md.TextUtils.{ends_with_white}
 use Rattle.text.specs.Trimmed.{Trimmed}
 
@@ -103,21 +103,6 @@ same_pointwise (a ∷ x) [] = refl
 same_pointwise (a ∷ x) (b ∷ y) = rw (eqb_sym a b, same_pointwise x y) refl
 
 -- ---- every byte
-
-pub every_on : (p : ℕ → Bool) (s : List ℕ) (i : ℕ) → i < length s → p (get_or s i 0) ≡ true → every p (drop i s) ≡ every p (drop (i + 1) s)
-unfolding every
-every_on p s i h e = rw (drop-cons s i 0 h, add-one i, e)
-
-pub every_off : (p : ℕ → Bool) (s : List ℕ) (i : ℕ) → i < length s → p (get_or s i 0) ≡ false → every p (drop i s) ≡ false
-unfolding every
-every_off p s i h e = rw (drop-cons s i 0 h, e)
-
-pub every_none : (p : ℕ → Bool) (s : List ℕ) (i : ℕ) → length s ≤ i → every p (drop i s) ≡ true
-unfolding every
-every_none p [] zero h = refl
-every_none p [] (suc i) h = refl
-every_none p (x ∷ s) zero h = absurd (omega arith)
-every_none p (x ∷ s) (suc i) h = every_none p s i (omega arith)
 
 -- ---- parts
 

@@ -3,7 +3,6 @@ use Prim.Native.Nat.{ℕ, ◌+◌, ◌-◌, ◌≤◌, ◌<◌}
 use mathlib.Core.Path.{◌≡◌, refl, sym, subst, subst₂, ap, ◌∙◌}
 use mathlib.Core.Bool.{false≢true}
 use mathlib.Core.List.{List, [], ◌++◌}
-use native.Mathlib.Omega.{arith}
 use borrow.Rule.Slice.PartMut.{put_mid}
 use lib.ListN.{length, take, drop}
 use Rattle.std.specs.Prelude.{Result, Ok, Err}
@@ -23,7 +22,7 @@ use Rattle.text.proofs.Writing.{alike, then, refused, keeps, keeps_nothing, push
 abbrev pub Answer : Type 0
 Answer = Result (Unit {0}) Full
 
--- the same answer for an equal step
+-- an answer stays one for an equal step
 pub as_step : {a b : Text} {r : Answer} {f g : Step} → g (bytes a) ≡ f (bytes a) → WritesTo a b r f → WritesTo a b r g
 as_step e w = record { room_is = w.room_is; long = w.long; writes = alike e w.writes }
 

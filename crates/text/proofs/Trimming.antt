@@ -4,9 +4,8 @@ use mathlib.Core.Path.{◌≡◌, refl, sym, ap, subst, ◌∙◌}
 use mathlib.Core.Bool.{Bool, true, false}
 use mathlib.Core.List.{List, [], ◌∷◌, ◌++◌}
 use native.Mathlib.Omega.{arith}
-use native.Mathlib.Numerals.{add-one}
 use lib.ListN.{length, take, drop, get_or, length-take}
-use lib.Seq.{drop-cons, take-suc, take_all, take-take, take-length}
+use lib.Seq.{take-suc, take_all, take-take, take-length}
 use Rattle.spec.specs.Bytes.{one, unless, trim_end_matches, trim_start_matches}
 
 -- a byte of the class at the end goes
@@ -58,14 +57,6 @@ unfolding trim_end_matches
 trim_none p s n h = let e : n ≡ 0 = omega arith in rw e
 
 -- ---- from the front
-
-pub skip_on : (p : ℕ → Bool) (s : List ℕ) (i : ℕ) → i < length s → p (get_or s i 0) ≡ true → trim_start_matches p (drop i s) ≡ trim_start_matches p (drop (i + 1) s)
-unfolding trim_start_matches
-skip_on p s i h e = rw (drop-cons s i 0 h, add-one i, e)
-
-pub skip_here : (p : ℕ → Bool) (s : List ℕ) (i : ℕ) → i < length s → p (get_or s i 0) ≡ false → trim_start_matches p (drop i s) ≡ drop i s
-unfolding trim_start_matches
-skip_here p s i h e = rw (drop-cons s i 0 h, e)
 
 pub skip_none : (p : ℕ → Bool) (s : List ℕ) (i : ℕ) → length s ≤ i → trim_start_matches p (drop i s) ≡ drop i s
 unfolding trim_start_matches

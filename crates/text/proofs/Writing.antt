@@ -26,11 +26,11 @@ done {room} {after} {r} {n} {o} e w = subst (λ (x : Wrote). Says room after x o
 pub full : {room : ℕ} {after : List ℕ} {r : Wrote} {e : Full} {o : Out} → r ≡ Err e → Writes room after r o → Refused room o
 full {room} {after} {r} {e} {o} q w = subst (λ (x : Wrote). Says room after x o) q w.says
 
--- the same answer for an equal outcome
+-- an answer stays one for an equal outcome
 pub alike : {room : ℕ} {after : List ℕ} {r : Wrote} {o p : Out} → o ≡ p → Writes room after r p → Writes room after r o
 alike {room} {after} {r} {o} {p} e w = subst (λ (x : Out). Writes room after r x) (sym e) w
 
--- the same outcome for an equal answer
+-- an outcome stays one for an equal answer
 pub alike_answer : {room : ℕ} {after : List ℕ} {r s : Wrote} {o : Out} → r ≡ s → Writes room after s o → Writes room after r o
 alike_answer {room} {after} {r} {s} {o} e w = subst (λ (x : Wrote). Writes room after x o) (sym e) w
 
@@ -124,10 +124,6 @@ pub owes_none : {room : ℕ} {mid : List ℕ} {n : ℕ} {rest : Step} {whole : O
     → Writes room mid (Ok n) whole
 owes_none {room} {mid} {n} p e = owes_last p (alike e (record { says = keeps mid n p.reach }))
 
-pub owes_nothing : {room : ℕ} {mid : List ℕ} {n : ℕ} {rest : Step} {whole : Out} → Owes room mid n rest whole → rest (take n mid) ≡ push [] (take n mid)
-    → Writes room mid (Ok n) whole
-owes_nothing {room} {mid} {n} p e = owes_last p (alike e (record { says = keeps_nothing mid n p.reach }))
-
 -- ---- steps in equal forms
 
 pub same_out : {a b : List ℕ} {p q : ℕ} → a ≡ b → p ≡ q → ◌≡◌ {A = Out} (record { text = a; peak = p }) (record { text = b; peak = q })
@@ -136,14 +132,6 @@ same_out {a} {b} {p} {q} e f = subst₂ (λ (x : List ℕ) (k : ℕ). ◌≡◌ 
 pub push_both : (x y t : List ℕ) → push (x ++ y) t ≡ and_then (push x t) (push y)
 unfolding push and_then
 push_both x y t = same_out (sym (append_assoc t x y)) (omega (arith, length-append x y, length-append t x))
-
--- x is appended, and y is left
-module _ {room : ℕ} {mid : List ℕ} {n : ℕ} {whole : Out} (x y : List ℕ) (p : Owes room mid n (push (x ++ y)) whole) where
-  pub push_on : {after : List ℕ} {m : ℕ} {r : Wrote} → r ≡ Ok m → Writes (length mid) after r (push x (take n mid)) → Owes room after m (push y) whole
-  push_on q w = owes_step p (push x) (push y) (push_both x y (take n mid)) q w
-
-  pub push_stop : {after z : List ℕ} {r : Wrote} {f g : Full} → r ≡ Err f → Writes (length mid) after r (push x (take n mid)) → Writes room z (Err g) whole
-  push_stop q w = owes_stop p (push x) (push y) (push_both x y (take n mid)) q w
 
 pub keep_then : (t : List ℕ) (f : Step) → and_then (keep t) f ≡ f t
 unfolding keep and_then

@@ -119,7 +119,7 @@ fn answer_of(file: &[u8], name: &[u8], text: &mut Text, case: Case) -> Option<An
     }
 }
 
-// The same as a number: of a leaf that writes, the length of the text then.
+// What that leaf answers, as a number: of a leaf that writes, the length of the text then.
 pub fn run(file: &[u8], name: &[u8], text: &mut Text, case: Case) -> Option<Wrote> {
     Some(match answer_of(file, name, text, case)? {
         Answer::Written(Ok(())) => Ok(text.len),

@@ -1,8 +1,12 @@
 -- What the iterator over siblings gives. Assumes nothing.
-use Rattle.std.specs.Prelude.{ℕ, ◌≤◌, ◌<◌, ◌≡◌, Option, None, Some}
+use Rattle.std.specs.Prelude.{ℕ, ◌-◌, ◌≤◌, ◌<◌, ◌≡◌, Option, None, Some}
 use Rattle.spec.specs.Bytes.{Bytes}
 use Rattle.tree.specs.Memory.{end_at}
 use Rattle.tree.specs.declared.nodes.Siblings.{Siblings}
+
+-- as many nodes are left at most
+abbrev pub left_at_most : Siblings → ℕ
+left_at_most s = s.end - s.next
 
 -- s gives the nodes from number i up to e of that memory
 pub record Over (sh ns : Bytes) (i e : ℕ) (s : Siblings) : Type 0 where

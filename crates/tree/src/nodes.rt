@@ -99,13 +99,13 @@ pub struct Siblings<'s, 'n> {
 
 impl<'s, 'n> Iterator for Siblings<'s, 'n> {
     ghost use Rattle.std.specs.Iterator.{at_most};
-    ghost use Rattle.tree.specs.Siblings.{GivesSibling};
+    ghost use Rattle.tree.specs.Siblings.{GivesSibling, left_at_most};
 
     type Item = usize;
 
     ghost next_gives = { GivesSibling };
 
-    ghost remaining = { λ s. at_most (s.end - s.next) };
+    ghost remaining = { λ s. at_most (left_at_most s) };
 
     fn next(&mut self) -> Option<usize> {
         if self.end <= self.next {

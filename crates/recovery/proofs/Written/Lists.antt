@@ -75,7 +75,7 @@ item_real f LL i number s z k x r h g =
     (g k (x ++ L) (unfold item_line in r.begins (marker number ++ phrase (words s)) (marker_first number (phrase (words s)))) (last_keep white x L (item_last i number s h)))
     ∙ item_ended x L LL))
 
--- the same, with the item's line written out
+-- with the item's line written out
 item_written : (f : Bytes → Bytes) (LL : List Bytes) (i : ℕ) (number : Option ℕ) (s z : Bytes) (k : ℕ) (x : Bytes) → Room x i → plain_text s ≡ true
     → ((k : ℕ) (x : Bytes) → first_is white x ≡ false → last_is white x ≡ false → trimmed (f (lfs k ++ (x ++ z))) ≡ x ++ below LL)
     → trimmed (f (trim_blanks (lfs k ++ x) ++ ((replicate i 32 ++ (marker number ++ phrase (words s))) ++ z))) ++ ascii "\n"

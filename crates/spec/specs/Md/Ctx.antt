@@ -208,7 +208,7 @@ prefix_of (Ol n) bullet = decimal n ++ ascii ". "
 unfoldable pub prefix : ListContext → Bytes
 prefix self = prefix_of self.kind (ul_prefix self)
 
--- the same list with items of another kind, or with another number next
+-- the list with items of another kind, or with another number next
 unfoldable pub with_kind : ListKind → ListContext → ListContext
 with_kind kind self = record { opts = self.opts; kind = kind; list_indent = self.list_indent }
 

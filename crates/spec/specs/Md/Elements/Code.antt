@@ -51,7 +51,7 @@ find_code_lang_attribute (a ∷ more) =
     cond (among a.name CODE_LANGUAGE_ATTRIBUTES) (some (sanitize_attr_value a.value))
     (find_code_lang_attribute more)
 
--- the same in some elements, the first that has one
+-- the language of the first of some elements that has one
 unfoldable pub nearest_language : List (List Attr) → Option Bytes
 nearest_language [] = none
 nearest_language (attrs ∷ more) =
