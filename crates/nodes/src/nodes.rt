@@ -79,9 +79,8 @@ pub fn write_text_node(tree: &Tree, text: &mut Text, i: usize, opts: FormatOpts)
     let part = text_at(tree.sheet, place);
     push_text_part(
         text,
-        tree.sheet,
-        part.start,
-        part.end,
+        &tree.sheet[part.start..],
+        part.len(),
         opts.inline,
         opts.skip_escape,
         opts.list_item,

@@ -1,5 +1,5 @@
 -- Blocks of bytes that are appended without a branch. Assumes nothing.
-use Prim.Native.Nat.{ℕ, zero, suc, ◌+◌, ◌-◌, ◌*◌, ◌≤◌, ◌<◌}
+use Prim.Native.Nat.{ℕ, zero, suc, ◌+◌, ◌*◌, ◌≤◌, ◌<◌}
 use mathlib.Core.Path.{◌≡◌, refl, sym, ap, ap₂, subst, subst₂, ◌∙◌}
 use mathlib.Core.Bool.{Bool, true, false, cond, not, ◌&&◌, ◌||◌, and-false, and-eq-true_iff}
 use mathlib.Core.List.{List, [], ◌∷◌, ◌++◌, append_assoc, append-nil}
@@ -26,7 +26,6 @@ use Rattle.text.proofs.Ordinary.{not_escaped}
 use Rattle.normalized.proofs.Flowing.{blank_added, block_plain, less_or_not, next_byte}
 use Rattle.text.proofs.Sourcing.{slice_on, follows_some}
 use Rattle.normalized.proofs.Streaming.{added_black, slice_join, rest_is}
-use Rattle.normalized.proofs.Wording.{slice_front}
 
 -- ---- what a byte adds
 
@@ -179,41 +178,33 @@ block_writes {escape} s {b} {text} {after} {n} {len} {m} {block} z h k e v q a =
     (signed_of s b e block.signs 16 (omega arith) ∙ signed_flow (signs_of s b e v.marked) even (omega (arith, h)) ∙ ap (λ (j : ℕ). flow_before escape (take j s) (drop j s)) (sym z))
     (appends_done a k)
 
--- ---- a part that is copied in blocks, the last of which may reach behind it
+-- ---- bytes that are copied in blocks, the last of which may reach behind them
 
-module _ (d src : List ℕ) (len from : ℕ) where
-  -- the first i bytes of the part stand behind the first len bytes
+module _ (d s : List ℕ) (len : ℕ) where
+  -- the first i bytes stand behind the first len bytes
   abbrev pub Copied : List ℕ → ℕ → Type 0
-  Copied now i = take (len + i) now ≡ take len d ++ slice from (from + i) src
+  Copied now i = take (len + i) now ≡ take len d ++ take i s
 
-  pub block_on : (now ys : List ℕ) (i k : ℕ) → len + i + 16 ≤ length now → from + i + 16 ≤ length src → ys ≡ slice (from + i) (from + i + 16) src → Copied now i → Copied (put_mid (len + i) k now ys) (i + 16)
+  pub block_on : (now ys : List ℕ) (i k : ℕ) → len + i + 16 ≤ length now → i + 16 ≤ length s → ys ≡ slice i (i + 16) s → Copied now i → Copied (put_mid (len + i) k now ys) (i + 16)
   block_on now ys i k h l e was =
-      let w : from + i + 16 ≡ from + (i + 16) = omega arith in
-      take-put_mid (len + i) k now ys (len + (i + 16)) (omega (arith, ap length e, length-slice (from + i) (from + i + 16) src l)) (omega arith)
+      take-put_mid (len + i) k now ys (len + (i + 16)) (omega (arith, ap length e, length-slice i (i + 16) s l)) (omega arith)
       ∙ ap₂ (λ (x y : List ℕ). x ++ y) was e
-      ∙ append_assoc (take len d) (slice from (from + i) src) (slice (from + i) (from + i + 16) src)
-      ∙ ap (λ (x : List ℕ). take len d ++ x) (slice_join src from (from + i) (from + i + 16) (omega arith) (omega arith))
-      ∙ ap (λ (m : ℕ). take len d ++ slice from m src) w
+      ∙ append_assoc (take len d) (take i s) (slice i (i + 16) s)
+      ∙ ap (λ (x : List ℕ). take len d ++ x) (slice_join s 0 i (i + 16) (omega arith) (omega arith))
 
   -- fewer of them
   pub block_cut : (now : List ℕ) (n i : ℕ) → n ≤ i → len ≤ length d → Copied now i → Copied now n
   block_cut now n i h l was =
-      let x = slice from (from + i) src in
+      let x = take i s in
       let k : length (take len d) ≡ len = length-take-le len d l in
       sym (take-take (len + n) (len + i) now (omega arith)) ∙ ap (take (len + n)) was
       ∙ ap (λ (j : ℕ). take (j + n) (take len d ++ x)) (sym k) ∙ take-append-add (take len d) x n
-      ∙ ap (λ (y : List ℕ). take len d ++ y) (slice_front src from (from + i) n (omega arith))
+      ∙ ap (λ (y : List ℕ). take len d ++ y) (take-take n i s h)
 
-  pub part_done : (now : List ℕ) (to : ℕ) → from ≤ to → to ≤ length src → len + (to - from) ≤ length d → length now ≡ length d → Copied now (to - from)
-      → Written (length d) now (len + (to - from)) (push (slice from to src) (take len d))
+  pub copied_done : (now : List ℕ) (n : ℕ) → n ≤ length s → len + n ≤ length d → length now ≡ length d → Copied now n
+      → Written (length d) now (len + n) (push (take n s) (take len d))
   unfolding push
-  part_done now to f t h l was =
+  copied_done now n t h l was =
       let k : length (take len d) ≡ len = length-take-le len d (omega arith) in
-      let z : from + (to - from) ≡ to = omega arith in
-      let q = length-slice from to src t in
-      record {
-        long = l;
-        fits = omega (arith, q, k);
-        count = omega (arith, length-append (take len d) (slice from to src), q, k);
-        text_is = was ∙ ap (λ (j : ℕ). take len d ++ slice from j src) z;
-      }
+      let q : length (take n s) ≡ n = length-take-le n s t in
+      record { long = l; fits = omega (arith, q, k); count = omega (arith, length-append (take len d) (take n s), q, k); text_is = was }

@@ -91,15 +91,14 @@ fn is_plain_text(s: &[u8], escape: bool) -> bool
     true
 }
 
-// Whether the bytes of a part but its last are plain: a short one is tested at once, with bytes behind it that do not count.
-fn is_plain_part(src: &[u8], from: usize, to: usize, escape: bool) -> bool
-    requires { (from < to) × (to ≤ length src.now) }
-    ensures { result ≡ true → (n : ℕ) → to ≡ from + n + 1 → Flows escape (slice from to src.now) n }
+// Whether the first n bytes but their last are plain: few are tested at once, with bytes behind them that do not count.
+fn is_plain_part(s: &[u8], n: usize, escape: bool) -> bool
+    requires { (0 < n) × (n ≤ length s.now) }
+    ensures { result ≡ true → (m : ℕ) → n ≡ m + 1 → Flows escape (take n s.now) m }
 {
-    let n = to - from;
-    match src[from..].first_chunk::<17>() {
+    match s.first_chunk::<17>() {
         Some(block) if n <= 16 => is_plain_front(block, (n - 1) as u8, escape),
-        _ => is_plain_text(&src[from..to], escape),
+        _ => is_plain_text(&s[..n], escape),
     }
 }
 
@@ -115,12 +114,12 @@ fn is_plain_last(escape: bool, b: u8) -> bool
     }
 }
 
-// Whether all bytes of a part are plain; the last one as if a word stood behind it.
-fn is_whole(src: &[u8], from: usize, to: usize, escape: bool) -> bool
-    requires { (from < to) × (to ≤ length src.now) }
-    ensures { result ≡ true → Whole escape (slice from to src.now) }
+// Whether the first n bytes are plain; the last one as if a word stood behind it.
+fn is_whole(s: &[u8], n: usize, escape: bool) -> bool
+    requires { (0 < n) × (n ≤ length s.now) }
+    ensures { result ≡ true → Whole escape (take n s.now) }
 {
-    is_plain_part(src, from, to, escape) & is_plain_last(escape, src[to - 1])
+    is_plain_part(s, n, escape) & is_plain_last(escape, s[n - 1])
 }
 
 // Whether s, if its bytes are plain, is appended as it is behind the text: its first word stands as it is anywhere, or the text
@@ -143,27 +142,22 @@ fn may_begin(text: &[u8], s: &[u8], escape: bool, list_item: bool) -> bool
     !((s.len() == 1) & (s[0] == b' '))
 }
 
-// Whether a part is known to be appended as it is behind the text. Long parts are not looked at where signs are escaped: most
-// hold one. Takes the slice around the part, since a short part is tested with the bytes behind it.
-pub fn is_verbatim(
-    text: &[u8],
-    src: &[u8],
-    from: usize,
-    to: usize,
-    skip_escape: bool,
-    list_item: bool,
-) -> bool
-    requires { (from ≤ to) × (to ≤ length src.now) }
-    ensures { result ≡ true → (opts : Opts.FormatOpts) → opts.skip_escape ≡ skip_escape → opts.list_item ≡ list_item → def.normalized opts text.now (slice from to src.now) ≡ slice from to src.now }
+// Where signs are escaped, most texts longer than this hold one.
+const MOST_WITHOUT_SIGN: usize = 128;
+
+// Whether the first n bytes are known to be appended as they are behind the text. Long texts are not looked at where signs are
+// escaped. The bytes behind the first n do not count, but few are tested at once with them.
+pub fn is_verbatim(text: &[u8], s: &[u8], n: usize, skip_escape: bool, list_item: bool) -> bool
+    requires { n ≤ length s.now }
+    ensures { result ≡ true → (opts : Opts.FormatOpts) → opts.skip_escape ≡ skip_escape → opts.list_item ≡ list_item → def.normalized opts text.now (take n s.now) ≡ take n s.now }
 {
-    let n = to - from;
-    if (n == 0) | (!skip_escape & (128 < n)) {
+    if (n == 0) | (!skip_escape & (MOST_WITHOUT_SIGN < n)) {
         return false;
     }
-    if !may_begin(text, &src[from..to], !skip_escape, list_item) {
+    if !may_begin(text, &s[..n], !skip_escape, list_item) {
         return false;
     }
-    is_whole(src, from, to, !skip_escape)
+    is_whole(s, n, !skip_escape)
 }
 
 // The 16 bytes at `at`.
@@ -178,32 +172,31 @@ fn bytes_at(s: &[u8], at: usize) -> [u8; 16]
 
 // Copies n bytes in blocks of 16, the last of which may reach behind them on both sides. A block is read whole before it is
 // stored: without a copy of its own, LLVM tests whether the slices overlap.
-fn copy_blocks(room: &mut [u8], at: usize, src: &[u8], from: usize, n: usize)
-    requires { (at + n + 15 ≤ length room.old) × (from + n + 15 ≤ length src.now) }
-    ensures { (length room.new ≡ length room.old) × (take (at + n) room.new ≡ take at room.old ++ slice from (from + n) src.now) }
+fn copy_blocks(room: &mut [u8], at: usize, s: &[u8], n: usize)
+    requires { (at + n + 15 ≤ length room.old) × (n + 15 ≤ length s.now) }
+    ensures { (length room.new ≡ length room.old) × (take (at + n) room.new ≡ take at room.old ++ take n s.now) }
 {
     let mut i = 0;
     while i < n {
-        room[at + i..at + i + 16].copy_from_slice(&bytes_at(src, from + i));
+        room[at + i..at + i + 16].copy_from_slice(&bytes_at(s, i));
         i += 16;
     }
 }
 
-// Appends a part as it is, in blocks of 16 bytes, the last of which may reach behind it: bytes behind the text are left to the
-// program.
-pub fn push_part(text: &mut Text, src: &[u8], from: usize, to: usize) -> Result<(), Full>
-    requires { (from ≤ to) × (to ≤ length src.now) }
-    ensures { WritesTo text.old text.new result (push (slice from to src.now)) }
+// Appends the first n bytes as they are, in blocks of 16, the last of which may reach behind them: bytes behind the text are left
+// to the program.
+pub fn push_part(text: &mut Text, s: &[u8], n: usize) -> Result<(), Full>
+    requires { n ≤ length s.now }
+    ensures { WritesTo text.old text.new result (push (take n s.now)) }
 {
-    let n = to - from;
     let left = text.room.len() - text.len;
     if left < n {
         return Err(Full);
     }
-    if (left - n < 16) | (src.len() - to < 16) {
-        return text.push_all(&src[from..to]);
+    if (left - n < 16) | (s.len() - n < 16) {
+        return text.push_all(&s[..n]);
     }
-    copy_blocks(text.room, text.len, src, from, n);
+    copy_blocks(text.room, text.len, s, n);
     text.len += n;
     Ok(())
 }

@@ -122,32 +122,31 @@ pub fn push_words(text: &mut Text, s: &[u8], opts: FormatOpts) -> Result<(), Ful
     text.push_byte_if(b' ', l.last)
 }
 
-// `push_words` for a part of a slice: a short part is tested and copied with the bytes behind it, as one block. The options that matter
+// `push_words` for the first n bytes: few are tested and copied with the bytes behind them, as one block. The options that matter
 // are passed one by one: a record would be copied through memory.
 pub fn push_text_part(
     text: &mut Text,
-    src: &[u8],
-    from: usize,
-    to: usize,
+    s: &[u8],
+    n: usize,
     inline: bool,
     skip_escape: bool,
     list_item: bool,
 ) -> Result<(), Full>
-    requires { (from ≤ to) × (to ≤ length src.now) }
-    ensures { (opts : Opts.FormatOpts) → opts.inline ≡ inline → opts.skip_escape ≡ skip_escape → opts.list_item ≡ list_item → WritesTo text.old text.new result (def.push_normalized_text (slice from to src.now) opts) }
+    requires { n ≤ length s.now }
+    ensures { (opts : Opts.FormatOpts) → opts.inline ≡ inline → opts.skip_escape ≡ skip_escape → opts.list_item ≡ list_item → WritesTo text.old text.new result (def.push_normalized_text (take n s.now) opts) }
 {
-    if is_verbatim(text.bytes(), src, from, to, skip_escape, list_item) {
-        return push_part(text, src, from, to);
+    if is_verbatim(text.bytes(), s, n, skip_escape, list_item) {
+        return push_part(text, s, n);
     }
     let mut opts = FormatOpts::new();
     opts.inline = inline;
     opts.skip_escape = skip_escape;
     opts.list_item = list_item;
-    // a new slice: the address of `src` itself would keep it in memory
-    push_words(text, &src[from..to], opts)
+    // a new slice: the address of `s` itself would keep it in memory
+    push_words(text, &s[..n], opts)
 }
 
-// Appends a text of another slice, its words parted by blanks. For one of the own memory, see `normalize_own`.
+// Appends a text of another slice, its words parted by blanks.
 pub fn push_normalized_text(
     text: &mut Text,
     new_text: &[u8],
@@ -162,5 +161,5 @@ pub fn push_normalized_text(
         list_item,
         ..
     } = f_opts;
-    push_text_part(text, &new_text[..n], 0, n, inline, skip_escape, list_item)
+    push_text_part(text, &new_text[..n], n, inline, skip_escape, list_item)
 }

@@ -2,10 +2,11 @@
 use Prim.Native.Nat.{ℕ, suc, ◌+◌, ◌≤◌, ◌<◌}
 use native.Mathlib.Omega.{arith}
 use mathlib.Core.Path.{◌≡◌, refl, ap, sym, subst, ◌∙◌}
-use mathlib.Core.Bool.{Bool, true, false, cond}
+use mathlib.Core.Bool.{Bool, true, false, cond, not, true≢false, false≢true}
 use mathlib.Core.List.{List, [], ◌∷◌, ◌++◌, append_assoc}
 use lib.ListN.{length, length-append}
-use borrow.Author.Tests.{eq-eqb, ne_eqb}
+use lib.Dec.{eqb}
+use borrow.Author.Tests.{eq-eqb, ne_eqb, eqb-true, eqb-false}
 use Rattle.spec.specs.Bytes.{Bytes, null}
 use Rattle.spec.specs.Tree.{Forest, nothing, text, comment, element}
 use Rattle.spec.specs.Names.{tag_of}
@@ -17,10 +18,11 @@ use Rattle.tree.specs.Nodes.{name_at}
 use Rattle.tree.specs.Represents.{Rep}
 use Rattle.tree.proofs.Firsts.{rep_le}
 use Rattle.tree.proofs.Kin.{first_name}
-use Rattle.tables.specs.Rows.{RowAt, NoRow, Rows, RowsAt, SomeRows}
+use Rattle.tables.specs.Rows.{RowAt, NoRow, Rows, RowsAt, SomeRow, SomeRows, MaybeRow}
 use Rattle.tables.specs.Spans.{length_if, cell_lengths, row_lengths, row_if, table_lengths, filled, Kids}
-use Rattle.tables.proofs.TableRows.{row_name, rows_at, rows_le, rows_at_le}
-use Rattle.tables.proofs.Gathering.{gather_on, gather_done, gather_skip, gather_split, cells_step}
+use Rattle.tables.proofs.TableRows.{no_row_node, row_name, rows_here, rows_le, rows_node, rows_on}
+use Rattle.tables.proofs.RowTests.{some_row, filled_on}
+use Rattle.tables.proofs.Gathering.{gather_on, gather_done, gather_skip, cells_step}
 
 -- ---- lists of lists
 
@@ -29,19 +31,6 @@ module _ {A : Type 0} where
   unfolding concat
   concat_both [] ys = refl
   concat_both (x ∷ xs) ys = ap (λ (z : List A). x ++ z) (concat_both xs ys) ∙ sym (append_assoc x (concat xs) (concat ys))
-
-  pub filled_both : (xs ys : List (List A)) → filled (xs ++ ys) ≡ filled xs ++ filled ys
-  unfolding filled null
-  filled_both [] ys = refl
-  filled_both ([] ∷ xs) ys = filled_both xs ys
-  filled_both ((a ∷ x) ∷ xs) ys = ap (λ (z : List (List A)). (a ∷ x) ∷ z) (filled_both xs ys)
-
-  -- no element, no list
-  filled_empty : (xs : List (List A)) → length (concat xs) ≡ 0 → filled xs ≡ []
-  unfolding filled null concat
-  filled_empty [] e = refl
-  filled_empty ([] ∷ xs) e = filled_empty xs e
-  filled_empty ((a ∷ x) ∷ xs) e = absurd (omega arith)
 
   pub concat_filled : (xs : List (List A)) → concat (filled xs) ≡ concat xs
   unfolding filled null concat
@@ -53,6 +42,21 @@ module _ {A : Type 0} where
   unfolding filled null
   filled_first [] xs l = absurd (omega arith)
   filled_first (a ∷ x) xs l = refl
+
+  filled_none : (x : List A) (xs : List (List A)) → length x ≡ 0 → filled (x ∷ xs) ≡ filled xs
+  unfolding filled null
+  filled_none [] xs l = refl
+  filled_none (a ∷ x) xs l = absurd (omega arith)
+
+not_null : {A : Type 0} (x : List A) → not (null x) ≡ true → 0 < length x
+unfolding null
+not_null [] q = absurd (false≢true q)
+not_null (a ∷ x) q = omega arith
+
+is_null : {A : Type 0} (x : List A) → not (null x) ≡ false → length x ≡ 0
+unfolding null
+is_null [] q = refl
+is_null (a ∷ x) q = absurd (true≢false q)
 
 pub concat_cells : (rows : List (List Cell)) → concat (from_cells rows) ≡ concat rows
 unfolding from_cells concat
@@ -122,60 +126,77 @@ module _ (sh ns : Bytes) where
 
 -- ---- the loops over the rows that have cells
 
--- node r is the next of them, or r is e
-abbrev pub LineFrom : Bytes → Bytes → ℕ → ℕ → Type 0
-LineFrom sh ns r e = (rows : List (List Cell)) × RowsAt sh ns r e (from_cells rows)
-
+-- node r is such a row
 pub record Line (sh ns : Bytes) (r e : ℕ) : Type 0 where
   pub row : List Cell
   pub at : RowAt sh ns r row
   pub behind : SomeRows sh ns (r + 1) e
   pub lengths_are : filled (table_lengths sh ns r e) ≡ row_lengths sh ns r ∷ filled (table_lengths sh ns (r + 1) e)
 
+-- of these rows none that has cells is node r
+pub record Skip (sh ns : Bytes) (r e : ℕ) (rows : List (List Cell)) : Type 0 where
+  pub more : List (List Cell)
+  pub behind : Rows sh ns (r + 1) e more
+  pub cells_are : from_cells rows ≡ from_cells more
+  pub lengths_are : filled (table_lengths sh ns r e) ≡ filled (table_lengths sh ns (r + 1) e)
+
+module _ (sh ns : Bytes) (r e : ℕ) (p : SomeRows sh ns r e) (l : r < e) where
+  pub maybe_row : MaybeRow sh ns r
+  maybe_row = (rows_node sh ns r e p.0 p.1 l, λ n. some_row p.0 (rows_here sh ns r e p.0 p.1 l n) l)
+
+  -- t says whether it is one
+  module _ {t : Bool} (some : t ≡ true → SomeRow sh ns r) (n : (row : List Cell) → RowAt sh ns r row → t ≡ not (null row)) where
+    pub line_row : t ≡ true → Line sh ns r e
+    unfolding RowsAt
+    line_row q = go p.0 (rows_here sh ns r e p.0 p.1 l (row_name (some q).1))
+      where
+        go : (x : List (List Cell)) → RowsAt sh ns r e x → Line sh ns r e
+        go [] h = absurd (omega arith)
+        go (row ∷ more) h =
+            record {
+              row = row;
+              at = h.0;
+              behind = (more, h.1);
+              lengths_are =
+                  ap filled (lengths_row sh ns r e h.0 l)
+                  ∙ filled_first (row_lengths sh ns r) (table_lengths sh ns (r + 1) e) (omega (arith, row_length sh ns h.0, not_null row (sym (n row h.0) ∙ q)));
+            }
+
+    pub line_skip : t ≡ false → Skip sh ns r e p.0
+    line_skip q = named (eqb (name_at sh (place_at ns r)) 17) refl
+      where
+        named : (b : Bool) → eqb (name_at sh (place_at ns r)) 17 ≡ b → Skip sh ns r e p.0
+        named true z =
+            let h = rows_here sh ns r e p.0 p.1 l (eqb-true (name_at sh (place_at ns r)) 17 z) in
+            let m = filled_on n p.0 h l q in
+            let x = some_row p.0 h l in
+            record {
+              more = m.0;
+              behind = m.1;
+              cells_are = m.2;
+              lengths_are =
+                  ap filled (lengths_row sh ns r e x.1 l)
+                  ∙ filled_none (row_lengths sh ns r) (table_lengths sh ns (r + 1) e) (row_length sh ns x.1 ∙ is_null x.0 (sym (n x.0 x.1) ∙ q));
+            }
+        named false z =
+            let o : name_at sh (place_at ns r) ≡ 17 → ⊥ = eqb-false (name_at sh (place_at ns r)) 17 z in
+            record {
+              more = p.0;
+              behind = rows_on sh ns r e p.0 p.1 l o;
+              cells_are = refl;
+              lengths_are = ap filled (lengths_skip sh ns r (r + 1) e (no_row_node sh ns r (rows_node sh ns r e p.0 p.1 l) o) (omega arith));
+            }
+
 module _ (sh ns : Bytes) where
-  pub line_next : (i r e : ℕ) (rows : List (List Cell)) → Rows sh ns i e rows → i ≤ r → RowsAt sh ns r e (from_cells rows)
-      → filled (table_lengths sh ns i e) ≡ filled (table_lengths sh ns r e)
-  line_next i r e rows p l q =
-      let m : r ≤ e = rows_at_le sh ns r e (from_cells rows) q in
-      let s : table_lengths sh ns i e ≡ table_lengths sh ns i r ++ table_lengths sh ns r e = gather_split (row_if sh ns) i r e l m in
-      let z : length (concat (table_lengths sh ns i r)) ≡ 0 =
-      omega (
-        arith,
-        rows_count sh ns i e rows p,
-        rows_count sh ns r e (from_cells rows) (rows_at sh ns r e (from_cells rows) q),
-        ap length (concat_cells rows),
-        ap (λ (x : List (List ℕ)). length (concat x)) s,
-        ap length (concat_both (table_lengths sh ns i r) (table_lengths sh ns r e)),
-        length-append (concat (table_lengths sh ns i r)) (concat (table_lengths sh ns r e)),
-      ) in
-      ap filled s ∙ filled_both (table_lengths sh ns i r) (table_lengths sh ns r e)
-      ∙ ap (λ (x : List (List ℕ)). x ++ filled (table_lengths sh ns r e)) (filled_empty (table_lengths sh ns i r) z)
-
-  pub line_row : (r e : ℕ) → LineFrom sh ns r e → r < e → Line sh ns r e
-  unfolding RowsAt
-  line_row r e p l = go (from_cells p.0) refl p.1
-    where
-      go : (x : List (List Cell)) → from_cells p.0 ≡ x → RowsAt sh ns r e x → Line sh ns r e
-      go [] q h = absurd (omega arith)
-      go (row ∷ more) q h =
-          record {
-            row = row;
-            at = h.0;
-            behind = (more, h.1);
-            lengths_are =
-                ap filled (lengths_row sh ns r e h.0 l)
-                ∙ filled_first (row_lengths sh ns r) (table_lengths sh ns (r + 1) e) (omega (arith, row_length sh ns h.0, cells_first p.0 q));
-          }
-
   pub line_none : (r e : ℕ) → e ≤ r → filled (table_lengths sh ns r e) ≡ []
   unfolding filled
   line_none r e l = ap filled (gather_done (row_if sh ns) r e l)
 
--- node r ends at d, and r' is the next such row
-pub line_turn : {sh ns : Bytes} {r e d : ℕ} → Line sh ns r e → d ≡ end_at ns r → (r' : ℕ) → filled (table_lengths sh ns (r + 1) e) ≡ filled (table_lengths sh ns r' e)
-    → filled (table_lengths sh ns r e) ≡ cell_lengths sh ns r (r + 1) d ∷ filled (table_lengths sh ns r' e)
-line_turn {sh} {ns} {r} {e} {d} x q r' s =
-    x.lengths_are ∙ ap (λ (z : List (List ℕ)). row_lengths sh ns r ∷ z) s ∙ ap (λ (j : ℕ). cell_lengths sh ns r (r + 1) j ∷ filled (table_lengths sh ns r' e)) (sym q)
+-- the row ends at d
+pub line_turn : {sh ns : Bytes} {r e d : ℕ} → Line sh ns r e → d ≡ end_at ns r
+    → filled (table_lengths sh ns r e) ≡ cell_lengths sh ns r (r + 1) d ∷ filled (table_lengths sh ns (r + 1) e)
+line_turn {sh} {ns} {r} {e} {d} x q =
+    x.lengths_are ∙ ap (λ (j : ℕ). cell_lengths sh ns r (r + 1) j ∷ filled (table_lengths sh ns (r + 1) e)) (sym q)
 
 pub line_kids : {sh ns : Bytes} {r e d : ℕ} → Line sh ns r e → d ≡ end_at ns r → Kids sh ns r d
 line_kids {sh} {ns} {r} x q = (x.at.kids, subst (λ (j : ℕ). Rep sh ns r (r + 1) j x.at.kids) (sym q) x.at.is_element.kids_are)

@@ -1,6 +1,6 @@
 -- Bytes put one behind the other. Assumes nothing.
 use Prim.Native.Nat.{ℕ, zero, suc, ◌+◌, ◌-◌, ◌*◌, ◌≤◌, ◌<◌}
-use mathlib.Core.Path.{◌≡◌, refl, sym, ap, subst, ◌∙◌}
+use mathlib.Core.Path.{◌≡◌, refl, sym, ap, subst, subst₂, ◌∙◌}
 use mathlib.Core.List.{List, [], ◌∷◌, ◌++◌, append_assoc, append-nil}
 use native.Mathlib.Omega.{arith}
 use native.Mathlib.Numerals.{add-one}
@@ -98,6 +98,10 @@ module _ {a b : Text} {rest whole : List ℕ} (p : Due a b rest whole) where
         puts = puts_next p.puts q;
         whole_is = p.whole_is ∙ ap (λ (z : List ℕ). p.done ++ z) e ∙ sym (append_assoc p.done x y);
       }
+
+  -- in other words
+  pub due_as : {c : Text} {x : List ℕ} → c ≡ b → rest ≡ x → Due a c x whole
+  due_as {c} {x} q e = subst₂ (λ (t : Text) (r : List ℕ). Due a t r whole) (sym q) e p
 
   pub due_done : rest ≡ [] → PutsTo a b whole
   due_done e = puts_text (sym (p.whole_is ∙ ap (λ (z : List ℕ). p.done ++ z) e ∙ append-nil p.done)) p.puts

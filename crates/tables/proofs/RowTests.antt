@@ -37,22 +37,25 @@ module _ {sh ns : Bytes} {r e : ℕ} where
   some_row [] x l = absurd (omega arith)
   some_row (row ∷ rows) x l = (row, x.0)
 
+  -- ---- t says whether row r has cells
+
+  module _ {t : Bool} (n : (row : List Cell) → RowAt sh ns r row → t ≡ not (null row)) where
+    pub filled_here : (rows : List (List Cell)) → RowsAt sh ns r e rows → r < e → t ≡ true → RowsAt sh ns r e (from_cells rows)
+    unfolding RowsAt from_cells null
+    filled_here [] x l q = x
+    filled_here ([] ∷ rows) x l q = absurd (true≢false (sym q ∙ n [] x.0))
+    filled_here ((c ∷ row) ∷ rows) x l q = x
+
+    pub filled_on : (rows : List (List Cell)) → RowsAt sh ns r e rows → r < e → t ≡ false
+        → (more : List (List Cell)) × Rows sh ns (r + 1) e more × (from_cells rows ≡ from_cells more)
+    unfolding RowsAt from_cells null
+    filled_on [] x l q = absurd (omega arith)
+    filled_on ([] ∷ rows) x l q = (rows, x.1, refl)
+    filled_on ((c ∷ row) ∷ rows) x l q = absurd (false≢true (sym q ∙ n (c ∷ row) x.0))
+
   -- ---- row r has k cells
 
   module _ (k : ℕ) (n : (row : List Cell) → RowAt sh ns r row → k ≡ length row) where
-    pub filled_here : (rows : List (List Cell)) → RowsAt sh ns r e rows → r < e → (k ≡ 0 → ⊥) → RowsAt sh ns r e (from_cells rows)
-    unfolding RowsAt from_cells
-    filled_here [] x l q = x
-    filled_here ([] ∷ rows) x l q = absurd (q (n [] x.0))
-    filled_here ((c ∷ row) ∷ rows) x l q = x
-
-    pub filled_on : (rows : List (List Cell)) → RowsAt sh ns r e rows → r < e → k ≡ 0
-        → (more : List (List Cell)) × Rows sh ns (r + 1) e more × (from_cells rows ≡ from_cells more)
-    unfolding RowsAt from_cells
-    filled_on [] x l q = absurd (omega arith)
-    filled_on ([] ∷ rows) x l q = (rows, x.1, refl)
-    filled_on ((c ∷ row) ∷ rows) x l q = absurd (omega (arith, n (c ∷ row) x.0))
-
     pub equal_no : (common : ℕ) (rows : List (List Cell)) → RowsAt sh ns r e rows → r < e → (not (eqb common 0) && not (eqb k common)) ≡ true
         → equal_rows common rows ≡ false
     unfolding RowsAt equal_rows

@@ -44,3 +44,7 @@ SomeRow sh ns r = (row : List Cell) × RowAt sh ns r row
 -- the nodes from number i up to e have some rows
 abbrev pub SomeRows : Bytes → Bytes → ℕ → ℕ → Type 0
 SomeRows sh ns i e = (rows : List (List Cell)) × Rows sh ns i e rows
+
+-- node r is a node, which may be a row
+abbrev pub MaybeRow : Bytes → Bytes → ℕ → Type 0
+MaybeRow sh ns r = NodeAt sh ns r × (name_at sh (place_at ns r) ≡ 17 → SomeRow sh ns r)

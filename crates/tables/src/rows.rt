@@ -1,10 +1,11 @@
 // elements/table.rs: the tests on the rows of a table in node memory.
-ghost use Rattle.std.specs.Prelude.{◌≡◌, cond, List, ℕ, ◌+◌, ◌<◌, ◌≤◌, length};
+ghost use Rattle.std.specs.Prelude.{◌≡◌, true, not, cond, List, ℕ, ◌+◌, ◌<◌, ◌≤◌, length};
+ghost use Rattle.spec.specs.Bytes.{null};
 ghost use Rattle.spec.specs.Tree.{Forest};
 ghost use Rattle.spec.specs.Md.Elements.Table as def;
 ghost use Rattle.tree.specs.Represents.{Rep};
 ghost use Rattle.nodes.specs.Stands.{Siblings};
-ghost use Rattle.tables.specs.Rows.{RowAt, Rows, RowsAt, SomeRow, SomeRows};
+ghost use Rattle.tables.specs.Rows.{MaybeRow, RowAt, Rows, RowsAt, SomeRow, SomeRows};
 
 use nodes::nodes::{has_element, node_name};
 use tree::element::{TABLE, TD, TH, TR};
@@ -63,6 +64,15 @@ pub fn next_row(tree: &Tree, i: usize, to: usize) -> usize
     to
 }
 
+// Whether node r is a row that has cells.
+pub fn is_filled_row(tree: &Tree, r: usize) -> bool
+    requires { MaybeRow tree.now.sheet.now tree.now.nodes.now r }
+    ensures row { result ≡ true → SomeRow tree.now.sheet.now tree.now.nodes.now r }
+    ensures filled { (row : List def.Cell) → RowAt tree.now.sheet.now tree.now.nodes.now r row → result ≡ not (null row) }
+{
+    node_name(tree, r) == TR && count_cells(tree, r) != 0
+}
+
 // The number of the first row from i on that has cells, or `to`.
 pub fn next_filled_row(tree: &Tree, i: usize, to: usize) -> usize
     requires { SomeRows tree.now.sheet.now tree.now.nodes.now i to }
@@ -70,7 +80,7 @@ pub fn next_filled_row(tree: &Tree, i: usize, to: usize) -> usize
     ensures rows { (rows : List (List def.Cell)) → Rows tree.now.sheet.now tree.now.nodes.now i to rows → RowsAt tree.now.sheet.now tree.now.nodes.now result to (def.from_cells rows) }
 {
     for r in i..to {
-        if node_name(tree, r) == TR && count_cells(tree, r) != 0 {
+        if is_filled_row(tree, r) {
             return r;
         }
     }

@@ -13,7 +13,7 @@ ghost use Rattle.tables.specs.TableSteps.{rows_texts, rows_lengths, table_step, 
 ghost use Rattle.text.specs.Texts.{WritesTo};
 
 use crate::bars::{at_least_one, put_byte, put_byte_cells, put_column};
-use crate::rows::{all_th, count_cells, is_table_cell, next_filled_row};
+use crate::rows::{all_th, count_cells, is_filled_row, is_table_cell};
 use nodes::nodes::node_name;
 use text::buffer::{Full, lift};
 use text::text::Text;
@@ -139,12 +139,12 @@ fn put_lines(tree: &Tree, text: &mut Text, from: usize, to: usize, src: usize)
     ensures { PutsTo text.old text.new (bar_lines (cut_rows (line_lengths tree.now.sheet.now tree.now.nodes.now from to) (drop src text.old.room.now))) }
 {
     let mut at = src;
-    let mut r = next_filled_row(tree, from, to);
-    while r < to {
-        let last = tree.node_end(r);
-        put_row(tree, text, r, last, at, 0);
-        at += row_bytes(tree, r, last);
-        r = next_filled_row(tree, r + 1, to);
+    for r in from..to {
+        if is_filled_row(tree, r) {
+            let last = tree.node_end(r);
+            put_row(tree, text, r, last, at, 0);
+            at += row_bytes(tree, r, last);
+        }
     }
 }
 
@@ -154,10 +154,10 @@ fn lines_marks(tree: &Tree, from: usize, to: usize) -> usize
     ensures { result ≡ marks (line_lengths tree.now.sheet.now tree.now.nodes.now from to) }
 {
     let mut n = 0;
-    let mut r = next_filled_row(tree, from, to);
-    while r < to {
-        n += 3 * count_cells(tree, r) + 2;
-        r = next_filled_row(tree, r + 1, to);
+    for r in from..to {
+        if is_filled_row(tree, r) {
+            n += 3 * count_cells(tree, r) + 2;
+        }
     }
     n
 }
@@ -167,8 +167,12 @@ fn first_width(tree: &Tree, from: usize, to: usize) -> usize
     requires { SomeRows tree.now.sheet.now tree.now.nodes.now from to }
     ensures { result ≡ width (line_lengths tree.now.sheet.now tree.now.nodes.now from to) }
 {
-    let r = next_filled_row(tree, from, to);
-    if r < to { count_cells(tree, r) } else { 0 }
+    for r in from..to {
+        if is_filled_row(tree, r) {
+            return count_cells(tree, r);
+        }
+    }
+    0
 }
 
 // Whether three numbers together are at most `room`.
