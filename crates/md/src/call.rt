@@ -13,7 +13,7 @@ use input::questions::first_refusal;
 use input::refusal::Refusal;
 use normalized::text_utils::trim_space;
 use serializer::MDSerializer;
-use serializer::options::packed;
+use serializer::options::PackedOpts;
 use spec::ctx::FormatOpts;
 use text::buffer::{Full, Wrote};
 use text::text::Text;
@@ -41,7 +41,7 @@ fn write_inside(serializer: &MDSerializer, nodes: &mut [u8], text: &mut [u8], st
 {
     let sheet = serializer.sheet;
     let end = Tree { sheet, nodes }.node_end(start);
-    let bits = packed(FormatOpts::new());
+    let bits = PackedOpts::of(FormatOpts::new());
     let n = serializer.write_behind(nodes, text, start + 1, end, bits, LEVELS)?;
     Ok(trimmed(text, n))
 }
@@ -56,7 +56,7 @@ fn write_whole(serializer: &MDSerializer, nodes: &mut [u8], text: &mut [u8], sta
     }
     let sheet = serializer.sheet;
     let to = Tree { sheet, nodes }.node_end(start);
-    let bits = packed(FormatOpts::new().include_node());
+    let bits = PackedOpts::of(FormatOpts::new().include_node());
     serializer.write_behind(nodes, text, start, to, bits, LEVELS)
 }
 

@@ -1,6 +1,7 @@
--- The options as one number. Assumes nothing.
+-- The options in one number. Assumes nothing.
 use Rattle.std.specs.Prelude.{ℕ, ◌/◌, ◌%◌, Bool, not, eqb}
 use Rattle.spec.specs.declared.ctx.FormatOpts.{FormatOpts}
+use Rattle.serializer.specs.declared.options.PackedOpts.{PackedOpts}
 
 -- whether a number is odd
 abbrev pub odd : ℕ → Bool
@@ -8,8 +9,9 @@ odd n = not (eqb (n % 2) 0)
 
 -- the flags are the binary digits of `bits` from the lowest on, in the order of the fields; the scope is the byte behind them, and the
 -- offset all that is left
-unfoldable pub unpacked : ℕ → FormatOpts
-unpacked bits =
+unfoldable pub unpacked : PackedOpts → FormatOpts
+unpacked packed =
+    let bits = packed.bits in
     record {
       include_node = odd bits;
       skip_escape = odd (bits / 2);

@@ -47,7 +47,7 @@ use lists_links::list_indented::push_indented;
 use marks::table::{escape_table_cell_inplace, trim_trailing_cell_break};
 use nodes::nodes::{has_element, node_is_skipped, node_name, write_text_node};
 use normalized::text_utils::{push_linebreak, trim_space};
-use options::{packed, unpacked};
+use options::PackedOpts;
 use progress::{Going, rule_block};
 use spec::ctx::{FormatOpts, ListContext};
 use tables::rows::{is_table_node_writable, next_filled_row, next_row};
@@ -79,7 +79,7 @@ impl<'s, 'k> MDSerializer<'s, 'k> {
         text: &mut Text,
         from: usize,
         to: usize,
-        bits: usize,
+        bits: PackedOpts,
         levels: usize,
     ) -> Result<(), Full>
         requires { Placeds self.now.sheet.now nodes.old from to × Short self.now.sheet.now × Fits (def.unpacked bits) levels }
@@ -107,7 +107,7 @@ impl<'s, 'k> MDSerializer<'s, 'k> {
         text: &mut Text,
         from: usize,
         to: usize,
-        bits: usize,
+        bits: PackedOpts,
         levels: usize,
     ) -> Result<(), Full>
         requires { Placeds self.now.sheet.now nodes.old from to × Short self.now.sheet.now × Fits (def.unpacked bits) levels }
@@ -117,7 +117,7 @@ impl<'s, 'k> MDSerializer<'s, 'k> {
     {
         let sheet = self.sheet;
         if (levels != 0) & is_one_text(&Tree { sheet, nodes }, from, to) {
-            return write_text_node(&Tree { sheet, nodes }, text, from, unpacked(bits));
+            return write_text_node(&Tree { sheet, nodes }, text, from, bits.opts());
         }
         self.write(nodes, text, from, to, bits, levels)
     }
@@ -129,7 +129,7 @@ impl<'s, 'k> MDSerializer<'s, 'k> {
         nodes: &mut [u8],
         text: &mut Text,
         at: usize,
-        bits: usize,
+        bits: PackedOpts,
         levels: usize,
     ) -> Result<(), Full>
         requires { PlacedNode self.now.sheet.now nodes.old at × Short self.now.sheet.now × Fits (def.unpacked bits) (levels + 1) }
@@ -140,12 +140,12 @@ impl<'s, 'k> MDSerializer<'s, 'k> {
         let sheet = self.sheet;
         let place = Tree { sheet, nodes }.node_place(at);
         if tag_at(sheet, place) != OPEN {
-            return write_text_node(&Tree { sheet, nodes }, text, at, unpacked(bits));
+            return write_text_node(&Tree { sheet, nodes }, text, at, bits.opts());
         }
         if node_is_skipped(&Tree { sheet, nodes }, self.skip, at) {
             return Ok(());
         }
-        opened(&Tree { sheet, nodes }, text, at, unpacked(bits))?;
+        opened(&Tree { sheet, nodes }, text, at, bits.opts())?;
         self.inside(nodes, text, at, bits, levels)
     }
 
@@ -156,7 +156,7 @@ impl<'s, 'k> MDSerializer<'s, 'k> {
         nodes: &mut [u8],
         text: &mut Text,
         at: usize,
-        bits: usize,
+        bits: PackedOpts,
         levels: usize,
     ) -> Result<(), Full>
         requires { Placed self.now.sheet.now nodes.old at × Short self.now.sheet.now × Fits (def.unpacked bits) (levels + 1) }
@@ -166,7 +166,7 @@ impl<'s, 'k> MDSerializer<'s, 'k> {
     {
         let sheet = self.sheet;
         let name = node_name(&Tree { sheet, nodes }, at);
-        let flags = unpacked(bits);
+        let flags = bits.opts();
         if !flags.skip_md & has_writer(name, flags) {
             // lists and tables, and the others: of two calls the compiler takes none into `write`, so that a level without a
             // writer needs no frame for them
@@ -177,7 +177,7 @@ impl<'s, 'k> MDSerializer<'s, 'k> {
         }
         let to = Tree { sheet, nodes }.node_end(at);
         self.siblings(nodes, text, at + 1, to, bits, levels)?;
-        closed(text, name, unpacked(bits))
+        closed(text, name, bits.opts())
     }
 
     // An element that has a writer of its own.
@@ -188,7 +188,7 @@ impl<'s, 'k> MDSerializer<'s, 'k> {
         text: &mut Text,
         at: usize,
         name: usize,
-        bits: usize,
+        bits: PackedOpts,
         levels: usize,
     ) -> Result<(), Full>
         requires { Placed self.now.sheet.now nodes.old at × (name ≡ name_at self.now.sheet.now (place_at nodes.old at)) × Short self.now.sheet.now × Fits (def.unpacked bits) (levels + 1) }
@@ -197,7 +197,7 @@ impl<'s, 'k> MDSerializer<'s, 'k> {
         ensures writes_element { ElementTo self.now.sheet.now nodes.old at (λ anc name attrs kids. write_element (self_at self.now.skip levels) anc (def.unpacked bits) name attrs kids) text.old text.new result }
     {
         let sheet = self.sheet;
-        let opts = unpacked(bits);
+        let opts = bits.opts();
         if is_list(name) {
             return self.write_list(nodes, text, at, name, opts, levels);
         }
@@ -218,7 +218,7 @@ impl<'s, 'k> MDSerializer<'s, 'k> {
         nodes: &mut [u8],
         text: &mut Text,
         at: usize,
-        bits: usize,
+        bits: PackedOpts,
         levels: usize,
     ) -> Result<(), Full>
         requires { Placed self.now.sheet.now nodes.old at × Short self.now.sheet.now × Fits (def.unpacked bits) levels }
@@ -229,7 +229,7 @@ impl<'s, 'k> MDSerializer<'s, 'k> {
         let sheet = self.sheet;
         let to = Tree { sheet, nodes }.node_end(at);
         if (levels != 0) & is_one_text(&Tree { sheet, nodes }, at + 1, to) {
-            return trim_behind_text(&Tree { sheet, nodes }, text, at + 1, unpacked(bits));
+            return trim_behind_text(&Tree { sheet, nodes }, text, at + 1, bits.opts());
         }
         self.write(nodes, text, at + 1, to, bits, levels)?;
         trim_space(text);
@@ -244,7 +244,7 @@ impl<'s, 'k> MDSerializer<'s, 'k> {
         room: &mut [u8],
         from: usize,
         to: usize,
-        bits: usize,
+        bits: PackedOpts,
         levels: usize,
     ) -> Wrote
         requires { Placeds self.now.sheet.now nodes.old from to × Short self.now.sheet.now × Fits (def.unpacked bits) levels }
@@ -263,7 +263,7 @@ impl<'s, 'k> MDSerializer<'s, 'k> {
         nodes: &mut [u8],
         room: &mut [u8],
         at: usize,
-        bits: usize,
+        bits: PackedOpts,
         levels: usize,
     ) -> Wrote
         requires { Placed self.now.sheet.now nodes.old at × Short self.now.sheet.now × Fits (def.unpacked bits) levels }
@@ -293,7 +293,7 @@ impl<'s, 'k> MDSerializer<'s, 'k> {
     {
         let sheet = self.sheet;
         let to = Tree { sheet, nodes }.node_end(at);
-        let bits = packed(emphasis_opts(name, opts));
+        let bits = PackedOpts::of(emphasis_opts(name, opts));
         let n = self.write_behind(nodes, &mut text.room[text.len..], at + 1, to, bits, levels)?;
         push_emphasis_by(text, n, name, opts)
     }
@@ -317,7 +317,7 @@ impl<'s, 'k> MDSerializer<'s, 'k> {
         let place = Tree { sheet, nodes }.node_place(at);
         match attribute(sheet, place, b"href") {
             Some(dest) => self.link(nodes, text, at, dest, opts, levels),
-            None => self.kids(nodes, text, at, packed(opts.fresh()), levels),
+            None => self.kids(nodes, text, at, PackedOpts::of(opts.fresh()), levels),
         }
     }
 
@@ -371,7 +371,7 @@ impl<'s, 'k> MDSerializer<'s, 'k> {
     {
         let sheet = self.sheet;
         let place = Tree { sheet, nodes }.node_place(at);
-        let bits = packed(opts);
+        let bits = PackedOpts::of(opts);
         let n = self.kids_behind(nodes, &mut text.room[text.len..], at, bits, levels)?;
         push_link(sheet, text, n, place, dest, false, opts)
     }
@@ -451,7 +451,7 @@ impl<'s, 'k> MDSerializer<'s, 'k> {
         let to = Tree { sheet, nodes }.node_end(c);
         if !li {
             let inner = ctx.opts.fresh().include_node();
-            return self.write(nodes, text, c, to, packed(inner), levels);
+            return self.write(nodes, text, c, to, PackedOpts::of(inner), levels);
         }
         if has_blocks(&Tree { sheet, nodes }, c + 1, to) {
             return self.blocks(nodes, text, c, ctx, levels);
@@ -477,7 +477,7 @@ impl<'s, 'k> MDSerializer<'s, 'k> {
     {
         start_item(text, false, ctx)?;
         let opts = ctx.opts;
-        let bits = packed(opts.list_item());
+        let bits = PackedOpts::of(opts.list_item());
         self.kids(nodes, text, c, bits, levels)?;
         push_linebreak(text, opts.table_cell)
     }
@@ -623,7 +623,7 @@ impl<'s, 'k> MDSerializer<'s, 'k> {
     {
         let sheet = self.sheet;
         let to = Tree { sheet, nodes }.node_end(c);
-        let bits = packed(child_opts(name, item.ctx.opts));
+        let bits = PackedOpts::of(child_opts(name, item.ctx.opts));
         push_inline_lead(text, item, blank)?;
         self.write(nodes, text, c, to, bits, levels)
     }
@@ -697,7 +697,7 @@ impl<'s, 'k> MDSerializer<'s, 'k> {
             return self.indented(nodes, text, c, item, levels);
         }
         push_heading_prefix(text, name)?;
-        let bits = packed(item.ctx.opts.list_item());
+        let bits = PackedOpts::of(item.ctx.opts.list_item());
         self.kids(nodes, text, c, bits, levels)?;
         end_flow(text, name, item)
     }
@@ -719,7 +719,7 @@ impl<'s, 'k> MDSerializer<'s, 'k> {
     {
         let sheet = self.sheet;
         let to = Tree { sheet, nodes }.node_end(c);
-        let bits = packed(item.ctx.opts.include_node());
+        let bits = PackedOpts::of(item.ctx.opts.include_node());
         let n = self.write_behind(nodes, &mut text.room[text.len..], c, to, bits, levels)?;
         push_indented(text, n, item)
     }
@@ -743,7 +743,7 @@ impl<'s, 'k> MDSerializer<'s, 'k> {
         let to = Tree { sheet, nodes }.node_end(at);
         let first = next_filled_row(&Tree { sheet, nodes }, at + 1, to);
         if !is_table_node_writable(&Tree { sheet, nodes }, at + 1, to, first) {
-            return self.kids(nodes, text, at, packed(opts.fresh()), levels);
+            return self.kids(nodes, text, at, PackedOpts::of(opts.fresh()), levels);
         }
         let len = text.len;
         self.cells(nodes, text, first, to, opts, levels)?;
@@ -819,7 +819,7 @@ impl<'s, 'k> MDSerializer<'s, 'k> {
         ensures kept { Kept c (end_at nodes.old c) nodes.old nodes.new }
         ensures writes { (name : Bytes) (attrs : List Attr) (kids : Forest) (anc : Ancestors) (th : Bool) → ElementAt self.now.sheet.now nodes.old c name attrs kids → Around self.now.sheet.now nodes.old (parent_at nodes.old c) anc → Writes (length room.old) room.new result (cell_text (self_at self.now.skip levels) opts (record { ancestors = anc; is_th = th; node = element name attrs kids nothing })) }
     {
-        let bits = packed(opts.fresh().table_cell());
+        let bits = PackedOpts::of(opts.fresh().table_cell());
         let mut text = Text { room, len: 0 };
         self.kids(nodes, &mut text, c, bits, levels)?;
         text.len = trim_trailing_cell_break(text.bytes());

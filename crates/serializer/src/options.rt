@@ -1,5 +1,5 @@
-// The options as one number, in which they are handed from level to level: a record is stored field by field, and read in wider
-// steps by the next level, which has to wait for it.
+// The options in one number, as they are handed from level to level: a record of nine fields is stored field by field, and read in
+// wider steps by the next level, which has to wait for it.
 ghost use Rattle.std.specs.Prelude.{◌*◌, ◌+◌, ◌/◌, ◌≤◌, ◌<◌, ◌^◌, ◌≡◌};
 ghost use Rattle.serializer.specs.Options as def;
 
@@ -13,32 +13,43 @@ fn put_flag(flag: bool, bits: usize) -> usize
     bits * 2 + (flag as usize)
 }
 
-pub fn packed(o: FormatOpts) -> usize
-    requires { o.offset < 2 ^ 48 }
-    ensures { def.unpacked result ≡ o }
-{
-    let bits = o.offset * 256 + (o.emphasis_scope.0 as usize);
-    let bits = put_flag(o.link_body, bits);
-    let bits = put_flag(o.list_item, bits);
-    let bits = put_flag(o.table_cell, bits);
-    let bits = put_flag(o.skip_md, bits);
-    let bits = put_flag(o.inline, bits);
-    let bits = put_flag(o.skip_escape, bits);
-    put_flag(o.include_node, bits)
+// The options as one number.
+#[derive(Clone, Copy)]
+pub struct PackedOpts {
+    bits: usize,
 }
 
-pub fn unpacked(bits: usize) -> FormatOpts
-    ensures { result ≡ def.unpacked bits }
-{
-    FormatOpts {
-        include_node: bits % 2 != 0,
-        skip_escape: bits / 2 % 2 != 0,
-        inline: bits / 4 % 2 != 0,
-        skip_md: bits / 8 % 2 != 0,
-        table_cell: bits / 16 % 2 != 0,
-        list_item: bits / 32 % 2 != 0,
-        link_body: bits / 64 % 2 != 0,
-        offset: bits / 32768,
-        emphasis_scope: EmphasisScope((bits / 128 % 256) as u8),
+impl PackedOpts {
+    pub fn of(o: FormatOpts) -> Self
+        requires { o.offset < 2 ^ 48 }
+        ensures { def.unpacked result ≡ o }
+    {
+        let bits = o.offset * 256 + (o.emphasis_scope.0 as usize);
+        let bits = put_flag(o.link_body, bits);
+        let bits = put_flag(o.list_item, bits);
+        let bits = put_flag(o.table_cell, bits);
+        let bits = put_flag(o.skip_md, bits);
+        let bits = put_flag(o.inline, bits);
+        let bits = put_flag(o.skip_escape, bits);
+        PackedOpts {
+            bits: put_flag(o.include_node, bits),
+        }
+    }
+
+    pub fn opts(self) -> FormatOpts
+        ensures { result ≡ def.unpacked self }
+    {
+        let bits = self.bits;
+        FormatOpts {
+            include_node: bits % 2 != 0,
+            skip_escape: bits / 2 % 2 != 0,
+            inline: bits / 4 % 2 != 0,
+            skip_md: bits / 8 % 2 != 0,
+            table_cell: bits / 16 % 2 != 0,
+            list_item: bits / 32 % 2 != 0,
+            link_body: bits / 64 % 2 != 0,
+            offset: bits / 32768,
+            emphasis_scope: EmphasisScope((bits / 128 % 256) as u8),
+        }
     }
 }

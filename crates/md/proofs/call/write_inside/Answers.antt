@@ -12,15 +12,15 @@ use Rattle.md.proofs.call.write_inside.Goals as goal
 pub returns : goal.returns
 returns c =
     let a = c.args in
-    inside_done (skip_of a.serializer.now.skip) a.serializer.now.sheet.now a.nodes.now a.start _ c.requires c.node_end-end.ensures a.text.now (c.packed-bits.ensures ∙ c.new.ensures) c.write_behind.ensures.writes_forest c.in_ok-n.was c.trimmed.ensures
+    inside_done (skip_of a.serializer.now.skip) a.serializer.now.sheet.now a.nodes.now a.start _ c.requires c.node_end-end.ensures a.text.now (c.of-bits.ensures ∙ c.new.ensures) c.write_behind.ensures.writes_forest c.in_ok-n.was c.trimmed.ensures
 
 pub returns-in_err-n : goal.returns-in_err-n
 returns-in_err-n c =
     stops c.from_residual.ensures.0 (let a = c.args in
-    inside_full (skip_of a.serializer.now.skip) a.serializer.now.sheet.now a.nodes.now a.start _ c.requires c.node_end-end.ensures a.text.now (c.packed-bits.ensures ∙ c.new.ensures) c.write_behind.ensures.writes_forest c.in_err-n.was)
+    inside_full (skip_of a.serializer.now.skip) a.serializer.now.sheet.now a.nodes.now a.start _ c.requires c.node_end-end.ensures a.text.now (c.of-bits.ensures ∙ c.new.ensures) c.write_behind.ensures.writes_forest c.in_err-n.was)
 
-pub packed-bits-requires : goal.packed-bits-requires
-packed-bits-requires c =
+pub of-bits-requires : goal.of-bits-requires
+of-bits-requires c =
     subst (λ (o : FormatOpts). o.offset < 2 ^ 48) (sym c.new.ensures) (lit< tt)
 
 pub write_behind-requires : goal.write_behind-requires
@@ -28,10 +28,10 @@ write_behind-requires c =
     let a = c.args in (
       (without (skip_of a.serializer.now.skip) a.serializer.now.sheet.now a.nodes.now a.start _ c.requires c.node_end-end.ensures).at,
       c.requires.short,
-      subst (λ (o : FormatOpts). Fits o 101) (sym (c.packed-bits.ensures ∙ c.new.ensures)) (lit< tt),
+      subst (λ (o : FormatOpts). Fits o 101) (sym (c.of-bits.ensures ∙ c.new.ensures)) (lit< tt),
     )
 
 pub trimmed-requires : goal.trimmed-requires
 trimmed-requires c =
     let a = c.args in
-    inside_reaches (skip_of a.serializer.now.skip) a.serializer.now.sheet.now a.nodes.now a.start _ c.requires c.node_end-end.ensures a.text.now (c.packed-bits.ensures ∙ c.new.ensures) c.write_behind.ensures.writes_forest c.in_ok-n.was
+    inside_reaches (skip_of a.serializer.now.skip) a.serializer.now.sheet.now a.nodes.now a.start _ c.requires c.node_end-end.ensures a.text.now (c.of-bits.ensures ∙ c.new.ensures) c.write_behind.ensures.writes_forest c.in_ok-n.was

@@ -16,8 +16,8 @@ returns-then-start-eq0 c =
     let a = c.args in
     alike (fragment (skip_of a.serializer.now.skip) a.serializer.now.sheet.now a.start c.if-start-eq0.true) (record { says = keeps a.text.now 0 (omega arith) })
 
-pub packed-bits-requires : goal.packed-bits-requires
-packed-bits-requires c =
+pub of-bits-requires : goal.of-bits-requires
+of-bits-requires c =
     subst (λ (o : FormatOpts). o.offset < 2 ^ 48) (sym (c.include_node.ensures ∙ ap include_node c.new.ensures)) (lit< tt)
 
 pub write_behind-requires : goal.write_behind-requires
@@ -25,11 +25,11 @@ write_behind-requires c =
     let a = c.args in (
       (with_node (skip_of a.serializer.now.skip) a.serializer.now.sheet.now a.nodes.now a.start _ c.requires (pos_of_ne-zero c.if-start-eq0.false) c.node_end-to.ensures).at,
       c.requires.short,
-      subst (λ (o : FormatOpts). Fits o 101) (sym (c.packed-bits.ensures ∙ c.include_node.ensures ∙ ap include_node c.new.ensures)) (lit< tt),
+      subst (λ (o : FormatOpts). Fits o 101) (sym (c.of-bits.ensures ∙ c.include_node.ensures ∙ ap include_node c.new.ensures)) (lit< tt),
     )
 
 pub returns : goal.returns
 returns c =
     let a = c.args in
     whole_wrote (skip_of a.serializer.now.skip) a.serializer.now.sheet.now a.nodes.now a.start _ c.requires (pos_of_ne-zero c.if-start-eq0.false) c.node_end-to.ensures
-    (c.packed-bits.ensures ∙ c.include_node.ensures ∙ ap include_node c.new.ensures) refl c.write_behind.ensures.writes_forest
+    (c.of-bits.ensures ∙ c.include_node.ensures ∙ ap include_node c.new.ensures) refl c.write_behind.ensures.writes_forest

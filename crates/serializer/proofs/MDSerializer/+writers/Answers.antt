@@ -235,13 +235,13 @@ pub body-node_place-place-requires : goal.body-node_place-place-requires
 body-node_place-place-requires t c =
     (placed_node c.args.self.now.sheet.now c.args.nodes.now c.args.at c.requires.0).inside
 
-pub body-packed-bits-requires : goal.body-packed-bits-requires
-body-packed-bits-requires t c =
+pub body-of-bits-requires : goal.body-of-bits-requires
+body-of-bits-requires t c =
     omega (arith, c.requires.2)
 
 pub body-kids_behind-requires : goal.body-kids_behind-requires
 body-kids_behind-requires t c =
-    (falls_in c.args.levels c.decreases (lit< tt), (c.requires.0, c.requires.1, subst (λ (o : FormatOpts). Fits o c.args.levels) (sym c.packed-bits.ensures) c.requires.2))
+    (falls_in c.args.levels c.decreases (lit< tt), (c.requires.0, c.requires.1, subst (λ (o : FormatOpts). Fits o c.args.levels) (sym c.of-bits.ensures) c.requires.2))
 
 pub body-push_link-requires : goal.body-push_link-requires
 body-push_link-requires t c =
@@ -260,7 +260,7 @@ body-returns t c =
       writes_element = record {
         for = λ name attrs kids anc x h. let link = write_kids (self_at a.self.now.skip a.levels) anc a.opts (element name attrs kids nothing) [] in
             alike (ap (λ (f : Step). f (take a.text.now.len a.text.now.room.now)) (link_is attrs href link push))
-            (nest-done a.text.now.room.now a.text.now.len c.args.text.now.fits (subst (λ (o : FormatOpts). Writes (length (lent a.text.now.room.now a.text.now.len)) c.kids_behind.new.room c.kids_behind.result (write_kids (self_at a.self.now.skip a.levels) anc o (element name attrs kids nothing) [])) c.packed-bits.ensures (c.kids_behind.ensures.writes_element.for name attrs kids anc x h)) (λ z. link_step attrs href z push) c.in_ok-n.was
+            (nest-done a.text.now.room.now a.text.now.len c.args.text.now.fits (subst (λ (o : FormatOpts). Writes (length (lent a.text.now.room.now a.text.now.len)) c.kids_behind.new.room c.kids_behind.result (write_kids (self_at a.self.now.skip a.levels) anc o (element name attrs kids nothing) [])) c.of-bits.ensures (c.kids_behind.ensures.writes_element.for name attrs kids anc x h)) (λ z. link_step attrs href z push) c.in_ok-n.was
             (subst (λ (l : List Attr). Writes (length (back a.text.now.room.now a.text.now.len c.kids_behind.new.room)) c.push_link.new.text.room.now (wrote c.push_link.new.text c.push_link.result) (link_step l href (take c.in_ok-n.n (drop a.text.now.len (back a.text.now.room.now a.text.now.len c.kids_behind.new.room))) push (take a.text.now.len (back a.text.now.room.now a.text.now.len c.kids_behind.new.room)))) (ap (attrs_behind a.self.now.sheet.now) c.node_place-place.ensures ∙ sym x.attrs_are) c.push_link.ensures.writes));
       };
     }
@@ -274,22 +274,22 @@ body-returns-in_err-n t c =
       writes_element = stops_element (wrote_err _ _ c.from_residual.ensures.0) (record {
         for = λ name attrs kids anc x h. let link = write_kids (self_at a.self.now.skip a.levels) anc a.opts (element name attrs kids nothing) [] in
             alike (ap (λ (f : Step). f (take a.text.now.len a.text.now.room.now)) (link_is attrs href link push))
-            (nest-full a.text.now.room.now a.text.now.len c.args.text.now.fits (subst (λ (o : FormatOpts). Writes (length (lent a.text.now.room.now a.text.now.len)) c.kids_behind.new.room c.kids_behind.result (write_kids (self_at a.self.now.skip a.levels) anc o (element name attrs kids nothing) [])) c.packed-bits.ensures (c.kids_behind.ensures.writes_element.for name attrs kids anc x h)) (link_step attrs href link.text push) c.in_err-n.was);
+            (nest-full a.text.now.room.now a.text.now.len c.args.text.now.fits (subst (λ (o : FormatOpts). Writes (length (lent a.text.now.room.now a.text.now.len)) c.kids_behind.new.room c.kids_behind.result (write_kids (self_at a.self.now.skip a.levels) anc o (element name attrs kids nothing) [])) c.of-bits.ensures (c.kids_behind.ensures.writes_element.for name attrs kids anc x h)) (link_step attrs href link.text push) c.in_err-n.was);
       });
     }
 
-pub cell-packed-bits-requires : goal.cell-packed-bits-requires
-cell-packed-bits-requires t c =
+pub cell-of-bits-requires : goal.cell-of-bits-requires
+cell-of-bits-requires t c =
     omega (arith, subst (λ (o : FormatOpts). Fits o c.args.levels) (sym (c.table_cell.ensures ∙ ap table_cell c.fresh.ensures)) (omega (arith, c.requires.2)))
 
 pub cell-kids-requires : goal.cell-kids-requires
 cell-kids-requires t c =
-    (falls_in c.args.levels c.decreases (lit< tt), (c.requires.0, c.requires.1, subst (λ (o : FormatOpts). Fits o c.args.levels) (sym (c.packed-bits.ensures ∙ c.table_cell.ensures ∙ ap table_cell c.fresh.ensures)) (omega (arith, c.requires.2))))
+    (falls_in c.args.levels c.decreases (lit< tt), (c.requires.0, c.requires.1, subst (λ (o : FormatOpts). Fits o c.args.levels) (sym (c.of-bits.ensures ∙ c.table_cell.ensures ∙ ap table_cell c.fresh.ensures)) (omega (arith, c.requires.2))))
 
 pub cell-returns : goal.cell-returns
 unfolding cell_text trim_trailing_cell_break
 cell-returns t c =
-    let wrote_here : (name : Bytes) (attrs : List Attr) (kids : Forest) (anc : Ancestors) → ElementAt c.args.self.now.sheet.now c.args.nodes.now c.args.c name attrs kids → Around c.args.self.now.sheet.now c.args.nodes.now (parent_at c.args.nodes.now c.args.c) anc → Writes (length c.args.room.now) c.kids.new.text.room.now (wrote c.kids.new.text c.kids.result) (write_kids (self_at c.args.self.now.skip c.args.levels) anc (table_cell (fresh c.args.opts)) (element name attrs kids nothing) (take 0 c.args.room.now)) = λ name attrs kids anc x h. let a = c.args in subst (λ (o : FormatOpts). Writes (length a.room.now) c.kids.new.text.room.now (wrote c.kids.new.text c.kids.result) (write_kids (self_at a.self.now.skip a.levels) anc o (element name attrs kids nothing) (take 0 a.room.now))) (c.packed-bits.ensures ∙ c.table_cell.ensures ∙ ap table_cell c.fresh.ensures) (c.kids.ensures.writes_element.for name attrs kids anc x h) in
+    let wrote_here : (name : Bytes) (attrs : List Attr) (kids : Forest) (anc : Ancestors) → ElementAt c.args.self.now.sheet.now c.args.nodes.now c.args.c name attrs kids → Around c.args.self.now.sheet.now c.args.nodes.now (parent_at c.args.nodes.now c.args.c) anc → Writes (length c.args.room.now) c.kids.new.text.room.now (wrote c.kids.new.text c.kids.result) (write_kids (self_at c.args.self.now.skip c.args.levels) anc (table_cell (fresh c.args.opts)) (element name attrs kids nothing) (take 0 c.args.room.now)) = λ name attrs kids anc x h. let a = c.args in subst (λ (o : FormatOpts). Writes (length a.room.now) c.kids.new.text.room.now (wrote c.kids.new.text c.kids.result) (write_kids (self_at a.self.now.skip a.levels) anc o (element name attrs kids nothing) (take 0 a.room.now))) (c.of-bits.ensures ∙ c.table_cell.ensures ∙ ap table_cell c.fresh.ensures) (c.kids.ensures.writes_element.for name attrs kids anc x h) in
     let a = c.args in record {
       kept = c.kids.ensures.kept;
       writes = λ name attrs kids anc th x h.
@@ -305,7 +305,7 @@ cell-returns t c =
 pub cell-returns-in_err-escape_table_cell_inplace : goal.cell-returns-in_err-escape_table_cell_inplace
 unfolding cell_text trim_trailing_cell_break
 cell-returns-in_err-escape_table_cell_inplace t c =
-    let wrote_here : (name : Bytes) (attrs : List Attr) (kids : Forest) (anc : Ancestors) → ElementAt c.args.self.now.sheet.now c.args.nodes.now c.args.c name attrs kids → Around c.args.self.now.sheet.now c.args.nodes.now (parent_at c.args.nodes.now c.args.c) anc → Writes (length c.args.room.now) c.kids.new.text.room.now (wrote c.kids.new.text c.kids.result) (write_kids (self_at c.args.self.now.skip c.args.levels) anc (table_cell (fresh c.args.opts)) (element name attrs kids nothing) (take 0 c.args.room.now)) = λ name attrs kids anc x h. let a = c.args in subst (λ (o : FormatOpts). Writes (length a.room.now) c.kids.new.text.room.now (wrote c.kids.new.text c.kids.result) (write_kids (self_at a.self.now.skip a.levels) anc o (element name attrs kids nothing) (take 0 a.room.now))) (c.packed-bits.ensures ∙ c.table_cell.ensures ∙ ap table_cell c.fresh.ensures) (c.kids.ensures.writes_element.for name attrs kids anc x h) in
+    let wrote_here : (name : Bytes) (attrs : List Attr) (kids : Forest) (anc : Ancestors) → ElementAt c.args.self.now.sheet.now c.args.nodes.now c.args.c name attrs kids → Around c.args.self.now.sheet.now c.args.nodes.now (parent_at c.args.nodes.now c.args.c) anc → Writes (length c.args.room.now) c.kids.new.text.room.now (wrote c.kids.new.text c.kids.result) (write_kids (self_at c.args.self.now.skip c.args.levels) anc (table_cell (fresh c.args.opts)) (element name attrs kids nothing) (take 0 c.args.room.now)) = λ name attrs kids anc x h. let a = c.args in subst (λ (o : FormatOpts). Writes (length a.room.now) c.kids.new.text.room.now (wrote c.kids.new.text c.kids.result) (write_kids (self_at a.self.now.skip a.levels) anc o (element name attrs kids nothing) (take 0 a.room.now))) (c.of-bits.ensures ∙ c.table_cell.ensures ∙ ap table_cell c.fresh.ensures) (c.kids.ensures.writes_element.for name attrs kids anc x h) in
     let a = c.args in record {
       kept = c.kids.ensures.kept;
       writes = λ name attrs kids anc th x h.
@@ -321,7 +321,7 @@ cell-returns-in_err-escape_table_cell_inplace t c =
 pub cell-returns-in_err-kids : goal.cell-returns-in_err-kids
 unfolding cell_text
 cell-returns-in_err-kids t c =
-    let wrote_here : (name : Bytes) (attrs : List Attr) (kids : Forest) (anc : Ancestors) → ElementAt c.args.self.now.sheet.now c.args.nodes.now c.args.c name attrs kids → Around c.args.self.now.sheet.now c.args.nodes.now (parent_at c.args.nodes.now c.args.c) anc → Writes (length c.args.room.now) c.kids.new.text.room.now (wrote c.kids.new.text c.kids.result) (write_kids (self_at c.args.self.now.skip c.args.levels) anc (table_cell (fresh c.args.opts)) (element name attrs kids nothing) (take 0 c.args.room.now)) = λ name attrs kids anc x h. let a = c.args in subst (λ (o : FormatOpts). Writes (length a.room.now) c.kids.new.text.room.now (wrote c.kids.new.text c.kids.result) (write_kids (self_at a.self.now.skip a.levels) anc o (element name attrs kids nothing) (take 0 a.room.now))) (c.packed-bits.ensures ∙ c.table_cell.ensures ∙ ap table_cell c.fresh.ensures) (c.kids.ensures.writes_element.for name attrs kids anc x h) in
+    let wrote_here : (name : Bytes) (attrs : List Attr) (kids : Forest) (anc : Ancestors) → ElementAt c.args.self.now.sheet.now c.args.nodes.now c.args.c name attrs kids → Around c.args.self.now.sheet.now c.args.nodes.now (parent_at c.args.nodes.now c.args.c) anc → Writes (length c.args.room.now) c.kids.new.text.room.now (wrote c.kids.new.text c.kids.result) (write_kids (self_at c.args.self.now.skip c.args.levels) anc (table_cell (fresh c.args.opts)) (element name attrs kids nothing) (take 0 c.args.room.now)) = λ name attrs kids anc x h. let a = c.args in subst (λ (o : FormatOpts). Writes (length a.room.now) c.kids.new.text.room.now (wrote c.kids.new.text c.kids.result) (write_kids (self_at a.self.now.skip a.levels) anc o (element name attrs kids nothing) (take 0 a.room.now))) (c.of-bits.ensures ∙ c.table_cell.ensures ∙ ap table_cell c.fresh.ensures) (c.kids.ensures.writes_element.for name attrs kids anc x h) in
     let a = c.args in record {
       kept = c.kids.ensures.kept;
       writes = λ name attrs kids anc th x h.
@@ -517,31 +517,31 @@ pub flat-start_item-requires : goal.flat-start_item-requires
 flat-start_item-requires t c =
     fits_in c.args.levels c.args.ctx.now c.requires.2
 
-pub flat-packed-bits-requires : goal.flat-packed-bits-requires
-flat-packed-bits-requires t c =
+pub flat-of-bits-requires : goal.flat-of-bits-requires
+flat-of-bits-requires t c =
     omega (arith, fits_item c.args.levels c.args.ctx.now c.start_item.new.ctx c.list_item.result c.start_item.ensures.1 c.list_item.ensures c.requires.2)
 
 pub flat-kids-requires : goal.flat-kids-requires
 flat-kids-requires t c =
-    (falls_in c.args.levels c.decreases (lit< tt), (c.requires.0, c.requires.1, fits_item c.args.levels c.args.ctx.now c.start_item.new.ctx (unpacked c.packed-bits.result) c.start_item.ensures.1 (c.packed-bits.ensures ∙ c.list_item.ensures) c.requires.2))
+    (falls_in c.args.levels c.decreases (lit< tt), (c.requires.0, c.requires.1, fits_item c.args.levels c.args.ctx.now c.start_item.new.ctx (unpacked c.of-bits.result) c.start_item.ensures.1 (c.of-bits.ensures ∙ c.list_item.ensures) c.requires.2))
 
 pub flat-returns : goal.flat-returns
 flat-returns t c =
-    let begun_here : (anc : Ancestors) (node : Forest) → let self = self_at c.args.self.now.skip c.args.levels in Owes (length c.args.text.now.room.now) c.start_item.new.text.room.now c.start_item.new.text.len (λ u. and_then (write_kids self anc (unpacked c.packed-bits.result) node u) (push (break_of c.start_item.new.ctx))) (write_list_item self anc node c.args.ctx.now (take c.args.text.now.len c.args.text.now.room.now)) = λ anc node. let self = self_at c.args.self.now.skip c.args.levels in owes_step (owes_all c.args.text.now.room.now c.args.text.now.len (write_list_item self anc node c.args.ctx.now) c.args.text.now.fits refl) (begin_item false c.args.ctx.now) (λ u. and_then (write_kids self anc (unpacked c.packed-bits.result) node u) (push (break_of c.start_item.new.ctx))) (item_parts self anc node c.args.ctx.now c.start_item.new.ctx (unpacked c.packed-bits.result) (take c.args.text.now.len c.args.text.now.room.now) c.start_item.ensures.1 (c.packed-bits.ensures ∙ c.list_item.ensures)) (ap (wrote c.start_item.new.text) c.in_ok-start_item.was) c.start_item.ensures.0.writes in
+    let begun_here : (anc : Ancestors) (node : Forest) → let self = self_at c.args.self.now.skip c.args.levels in Owes (length c.args.text.now.room.now) c.start_item.new.text.room.now c.start_item.new.text.len (λ u. and_then (write_kids self anc (unpacked c.of-bits.result) node u) (push (break_of c.start_item.new.ctx))) (write_list_item self anc node c.args.ctx.now (take c.args.text.now.len c.args.text.now.room.now)) = λ anc node. let self = self_at c.args.self.now.skip c.args.levels in owes_step (owes_all c.args.text.now.room.now c.args.text.now.len (write_list_item self anc node c.args.ctx.now) c.args.text.now.fits refl) (begin_item false c.args.ctx.now) (λ u. and_then (write_kids self anc (unpacked c.of-bits.result) node u) (push (break_of c.start_item.new.ctx))) (item_parts self anc node c.args.ctx.now c.start_item.new.ctx (unpacked c.of-bits.result) (take c.args.text.now.len c.args.text.now.room.now) c.start_item.ensures.1 (c.of-bits.ensures ∙ c.list_item.ensures)) (ap (wrote c.start_item.new.text) c.in_ok-start_item.was) c.start_item.ensures.0.writes in
     let self = self_at c.args.self.now.skip c.args.levels in record {
       room = room_on (leaf_room c.start_item.ensures.0) (room_on (c.kids.ensures.room) (leaf_room c.push_linebreak.ensures));
       kept = c.kids.ensures.kept;
-      writes_element = record { for = λ name attrs kids anc x a. owes_last (owes_step (begun_here anc (element name attrs kids nothing)) (write_kids self anc (unpacked c.packed-bits.result) (element name attrs kids nothing)) (push (break_of c.start_item.new.ctx)) refl (ap (wrote c.kids.new.text) c.in_ok-kids.was) (c.kids.ensures.writes_element.for name attrs kids anc x a)) c.push_linebreak.ensures.writes };
+      writes_element = record { for = λ name attrs kids anc x a. owes_last (owes_step (begun_here anc (element name attrs kids nothing)) (write_kids self anc (unpacked c.of-bits.result) (element name attrs kids nothing)) (push (break_of c.start_item.new.ctx)) refl (ap (wrote c.kids.new.text) c.in_ok-kids.was) (c.kids.ensures.writes_element.for name attrs kids anc x a)) c.push_linebreak.ensures.writes };
       ctx_value = c.start_item.ensures.1;
     }
 
 pub flat-returns-in_err-kids : goal.flat-returns-in_err-kids
 flat-returns-in_err-kids t c =
-    let begun_here : (anc : Ancestors) (node : Forest) → let self = self_at c.args.self.now.skip c.args.levels in Owes (length c.args.text.now.room.now) c.start_item.new.text.room.now c.start_item.new.text.len (λ u. and_then (write_kids self anc (unpacked c.packed-bits.result) node u) (push (break_of c.start_item.new.ctx))) (write_list_item self anc node c.args.ctx.now (take c.args.text.now.len c.args.text.now.room.now)) = λ anc node. let self = self_at c.args.self.now.skip c.args.levels in owes_step (owes_all c.args.text.now.room.now c.args.text.now.len (write_list_item self anc node c.args.ctx.now) c.args.text.now.fits refl) (begin_item false c.args.ctx.now) (λ u. and_then (write_kids self anc (unpacked c.packed-bits.result) node u) (push (break_of c.start_item.new.ctx))) (item_parts self anc node c.args.ctx.now c.start_item.new.ctx (unpacked c.packed-bits.result) (take c.args.text.now.len c.args.text.now.room.now) c.start_item.ensures.1 (c.packed-bits.ensures ∙ c.list_item.ensures)) (ap (wrote c.start_item.new.text) c.in_ok-start_item.was) c.start_item.ensures.0.writes in
+    let begun_here : (anc : Ancestors) (node : Forest) → let self = self_at c.args.self.now.skip c.args.levels in Owes (length c.args.text.now.room.now) c.start_item.new.text.room.now c.start_item.new.text.len (λ u. and_then (write_kids self anc (unpacked c.of-bits.result) node u) (push (break_of c.start_item.new.ctx))) (write_list_item self anc node c.args.ctx.now (take c.args.text.now.len c.args.text.now.room.now)) = λ anc node. let self = self_at c.args.self.now.skip c.args.levels in owes_step (owes_all c.args.text.now.room.now c.args.text.now.len (write_list_item self anc node c.args.ctx.now) c.args.text.now.fits refl) (begin_item false c.args.ctx.now) (λ u. and_then (write_kids self anc (unpacked c.of-bits.result) node u) (push (break_of c.start_item.new.ctx))) (item_parts self anc node c.args.ctx.now c.start_item.new.ctx (unpacked c.of-bits.result) (take c.args.text.now.len c.args.text.now.room.now) c.start_item.ensures.1 (c.of-bits.ensures ∙ c.list_item.ensures)) (ap (wrote c.start_item.new.text) c.in_ok-start_item.was) c.start_item.ensures.0.writes in
     let self = self_at c.args.self.now.skip c.args.levels in record {
       room = room_on (leaf_room c.start_item.ensures.0) (c.kids.ensures.room);
       kept = c.kids.ensures.kept;
-      writes_element = stops_element (wrote_err _ _ c.from_residual-in_err-kids.ensures.0) (record { for = λ name attrs kids anc x a. owes_stop (begun_here anc (element name attrs kids nothing)) (write_kids self anc (unpacked c.packed-bits.result) (element name attrs kids nothing)) (push (break_of c.start_item.new.ctx)) refl (ap (wrote c.kids.new.text) c.in_err-kids.was) (c.kids.ensures.writes_element.for name attrs kids anc x a) });
+      writes_element = stops_element (wrote_err _ _ c.from_residual-in_err-kids.ensures.0) (record { for = λ name attrs kids anc x a. owes_stop (begun_here anc (element name attrs kids nothing)) (write_kids self anc (unpacked c.of-bits.result) (element name attrs kids nothing)) (push (break_of c.start_item.new.ctx)) refl (ap (wrote c.kids.new.text) c.in_err-kids.was) (c.kids.ensures.writes_element.for name attrs kids anc x a) });
       ctx_value = c.start_item.ensures.1;
     }
 
@@ -563,8 +563,8 @@ pub flow-indented-requires : goal.flow-indented-requires
 flow-indented-requires t c =
     (falls_in c.args.levels c.decreases (lit< tt), (c.requires.0, c.requires.2, c.requires.3))
 
-pub flow-packed-bits-requires : goal.flow-packed-bits-requires
-flow-packed-bits-requires t c =
+pub flow-of-bits-requires : goal.flow-of-bits-requires
+flow-of-bits-requires t c =
     omega (arith, fits_alike c.list_item.result c.args.item.ctx.opts c.args.levels (ap (λ (o : FormatOpts). o.offset) c.list_item.ensures) c.requires.3.0)
 
 pub flow-kids-requires : goal.flow-kids-requires
@@ -573,7 +573,7 @@ flow-kids-requires t c = (
   (
     c.requires.0,
     c.requires.2,
-    fits_alike (unpacked c.packed-bits.result) c.args.item.ctx.opts c.args.levels (ap (λ (o : FormatOpts). o.offset) (c.packed-bits.ensures ∙ c.list_item.ensures)) c.requires.3.0,
+    fits_alike (unpacked c.of-bits.result) c.args.item.ctx.opts c.args.levels (ap (λ (o : FormatOpts). o.offset) (c.of-bits.ensures ∙ c.list_item.ensures)) c.requires.3.0,
   ),
 )
 
@@ -590,7 +590,7 @@ flow-returns t c =
     record {
       room = room_on (leaf_room c.push_heading_prefix.ensures) (room_on (c.kids.ensures.room) (leaf_room c.end_flow.ensures));
       kept = c.kids.ensures.kept;
-      writes_element = flow_done c.args.self.now.sheet.now c.args.nodes.now c.args.c c.requires.1 (self_at c.args.self.now.skip c.args.levels) (item_of c.args.item) c.if-name-eq-PRE.false c.args.text.now.room.now c.args.text.now.len c.args.text.now.fits c.push_heading_prefix.ensures.writes (ap (wrote c.push_heading_prefix.new.text) c.in_ok-push_heading_prefix.was) (c.packed-bits.ensures ∙ c.list_item.ensures) c.kids.ensures.writes_element (ap (wrote c.kids.new.text) c.in_ok-kids.was) c.end_flow.ensures.writes;
+      writes_element = flow_done c.args.self.now.sheet.now c.args.nodes.now c.args.c c.requires.1 (self_at c.args.self.now.skip c.args.levels) (item_of c.args.item) c.if-name-eq-PRE.false c.args.text.now.room.now c.args.text.now.len c.args.text.now.fits c.push_heading_prefix.ensures.writes (ap (wrote c.push_heading_prefix.new.text) c.in_ok-push_heading_prefix.was) (c.of-bits.ensures ∙ c.list_item.ensures) c.kids.ensures.writes_element (ap (wrote c.kids.new.text) c.in_ok-kids.was) c.end_flow.ensures.writes;
     }
 
 pub flow-returns-in_err-kids : goal.flow-returns-in_err-kids
@@ -598,7 +598,7 @@ flow-returns-in_err-kids t c =
     record {
       room = room_on (leaf_room c.push_heading_prefix.ensures) (c.kids.ensures.room);
       kept = c.kids.ensures.kept;
-      writes_element = stops_element (wrote_err _ _ c.from_residual-in_err-kids.ensures.0) (flow_full c.args.self.now.sheet.now c.args.nodes.now c.args.c c.requires.1 (self_at c.args.self.now.skip c.args.levels) (item_of c.args.item) c.if-name-eq-PRE.false c.args.text.now.room.now c.args.text.now.len c.args.text.now.fits c.push_heading_prefix.ensures.writes (ap (wrote c.push_heading_prefix.new.text) c.in_ok-push_heading_prefix.was) (c.packed-bits.ensures ∙ c.list_item.ensures) c.kids.ensures.writes_element (ap (wrote c.kids.new.text) c.in_err-kids.was));
+      writes_element = stops_element (wrote_err _ _ c.from_residual-in_err-kids.ensures.0) (flow_full c.args.self.now.sheet.now c.args.nodes.now c.args.c c.requires.1 (self_at c.args.self.now.skip c.args.levels) (item_of c.args.item) c.if-name-eq-PRE.false c.args.text.now.room.now c.args.text.now.len c.args.text.now.fits c.push_heading_prefix.ensures.writes (ap (wrote c.push_heading_prefix.new.text) c.in_ok-push_heading_prefix.was) (c.of-bits.ensures ∙ c.list_item.ensures) c.kids.ensures.writes_element (ap (wrote c.kids.new.text) c.in_err-kids.was));
     }
 
 pub flow-returns-in_err-push_heading_prefix : goal.flow-returns-in_err-push_heading_prefix
@@ -613,8 +613,8 @@ pub indented-node_end-to-requires : goal.indented-node_end-to-requires
 indented-node_end-to-requires t c =
     (placed_node c.args.self.now.sheet.now c.args.nodes.now c.args.c c.requires.0).inside
 
-pub indented-packed-bits-requires : goal.indented-packed-bits-requires
-indented-packed-bits-requires t c =
+pub indented-of-bits-requires : goal.indented-of-bits-requires
+indented-of-bits-requires t c =
     omega (arith, fits_alike c.include_node.result c.args.item.ctx.opts c.args.levels (ap (λ (o : FormatOpts). o.offset) c.include_node.ensures) c.requires.2.0)
 
 pub indented-write_behind-requires : goal.indented-write_behind-requires
@@ -623,20 +623,20 @@ indented-write_behind-requires t c = (
   (
     node_range c.node_end-to.ensures (placed_alone c.args.self.now.sheet.now c.args.nodes.now c.args.c c.requires.0),
     c.requires.1,
-    fits_alike (unpacked c.packed-bits.result) c.args.item.ctx.opts c.args.levels (ap (λ (o : FormatOpts). o.offset) (c.packed-bits.ensures ∙ c.include_node.ensures)) c.requires.2.0,
+    fits_alike (unpacked c.of-bits.result) c.args.item.ctx.opts c.args.levels (ap (λ (o : FormatOpts). o.offset) (c.of-bits.ensures ∙ c.include_node.ensures)) c.requires.2.0,
   ),
 )
 
 pub indented-push_indented-requires : goal.indented-push_indented-requires
 indented-push_indented-requires t c =
-    indented_fits (tags_to_skip (skip_of c.args.self.now.skip)) c.args.levels (item_of c.args.item) c.node_end-to.ensures (c.packed-bits.ensures ∙ c.include_node.ensures) c.args.text.now.room.now c.args.text.now.len c.args.text.now.fits c.write_behind.ensures.writes_forest c.requires.0 c.in_ok-n.was
+    indented_fits (tags_to_skip (skip_of c.args.self.now.skip)) c.args.levels (item_of c.args.item) c.node_end-to.ensures (c.of-bits.ensures ∙ c.include_node.ensures) c.args.text.now.room.now c.args.text.now.len c.args.text.now.fits c.write_behind.ensures.writes_forest c.requires.0 c.in_ok-n.was
 
 pub indented-returns : goal.indented-returns
 indented-returns t c =
     record {
       room = room_on (room_behind _ refl refl c.write_behind.auto.room) (leaf_room c.push_indented.ensures);
       kept = subst (λ (k : ℕ). Kept c.args.c k c.args.nodes.now c.write_behind.new.nodes) c.node_end-to.ensures c.write_behind.ensures.kept;
-      writes_element = indented_done (tags_to_skip (skip_of c.args.self.now.skip)) c.args.levels (item_of c.args.item) c.node_end-to.ensures (c.packed-bits.ensures ∙ c.include_node.ensures) c.args.text.now.room.now c.args.text.now.len c.args.text.now.fits c.write_behind.ensures.writes_forest c.in_ok-n.was c.push_indented.ensures.writes;
+      writes_element = indented_done (tags_to_skip (skip_of c.args.self.now.skip)) c.args.levels (item_of c.args.item) c.node_end-to.ensures (c.of-bits.ensures ∙ c.include_node.ensures) c.args.text.now.room.now c.args.text.now.len c.args.text.now.fits c.write_behind.ensures.writes_forest c.in_ok-n.was c.push_indented.ensures.writes;
     }
 
 pub indented-returns-in_err-n : goal.indented-returns-in_err-n
@@ -644,15 +644,15 @@ indented-returns-in_err-n t c =
     record {
       room = room_behind _ refl refl c.write_behind.auto.room;
       kept = subst (λ (k : ℕ). Kept c.args.c k c.args.nodes.now c.write_behind.new.nodes) c.node_end-to.ensures c.write_behind.ensures.kept;
-      writes_element = stops_element (wrote_err _ _ c.from_residual.ensures.0) (indented_full (tags_to_skip (skip_of c.args.self.now.skip)) c.args.levels (item_of c.args.item) c.node_end-to.ensures (c.packed-bits.ensures ∙ c.include_node.ensures) c.args.text.now.room.now c.args.text.now.len c.args.text.now.fits c.write_behind.ensures.writes_forest c.in_err-n.was);
+      writes_element = stops_element (wrote_err _ _ c.from_residual.ensures.0) (indented_full (tags_to_skip (skip_of c.args.self.now.skip)) c.args.levels (item_of c.args.item) c.node_end-to.ensures (c.of-bits.ensures ∙ c.include_node.ensures) c.args.text.now.room.now c.args.text.now.len c.args.text.now.fits c.write_behind.ensures.writes_forest c.in_err-n.was);
     }
 
 pub inline-node_end-to-requires : goal.inline-node_end-to-requires
 inline-node_end-to-requires t c =
     (placeds_at c.requires.0.alone c.requires.0.later).inside
 
-pub inline-packed-bits-requires : goal.inline-packed-bits-requires
-inline-packed-bits-requires t c =
+pub inline-of-bits-requires : goal.inline-of-bits-requires
+inline-of-bits-requires t c =
     omega (arith, fits_alike c.child_opts.result c.args.item.ctx.opts c.args.levels (ap (λ (o : FormatOpts). o.offset) c.child_opts.ensures ∙ child_offset c.args.name c.args.item.ctx.opts) c.requires.3.0)
 
 pub inline-write-requires : goal.inline-write-requires
@@ -661,7 +661,7 @@ inline-write-requires t c = (
   (
     node_range c.node_end-to.ensures c.requires.0,
     c.requires.2,
-    fits_alike (unpacked c.packed-bits.result) c.args.item.ctx.opts c.args.levels (ap (λ (o : FormatOpts). o.offset) (c.packed-bits.ensures ∙ c.child_opts.ensures) ∙ child_offset c.args.name c.args.item.ctx.opts) c.requires.3.0,
+    fits_alike (unpacked c.of-bits.result) c.args.item.ctx.opts c.args.levels (ap (λ (o : FormatOpts). o.offset) (c.of-bits.ensures ∙ c.child_opts.ensures) ∙ child_offset c.args.name c.args.item.ctx.opts) c.requires.3.0,
   ),
 )
 
@@ -670,7 +670,7 @@ inline-returns t c =
     record {
       room = room_on (leaf_room c.push_inline_lead.ensures) (c.write.ensures.room);
       kept = subst (λ (k : ℕ). Kept c.args.c k c.args.nodes.now c.write.new.nodes) c.node_end-to.ensures c.write.ensures.kept;
-      writes_forest = inline_done c.args.self.now.sheet.now c.args.nodes.now c.args.c c.requires.1 (tags_to_skip (skip_of c.args.self.now.skip)) c.args.levels (item_of c.args.item) c.args.blank c.requires.0.later c.args.text.now.room.now c.args.text.now.len c.args.text.now.fits c.push_inline_lead.ensures.writes (ap (wrote c.push_inline_lead.new.text) c.in_ok-push_inline_lead.was) c.node_end-to.ensures (c.packed-bits.ensures ∙ c.child_opts.ensures) c.write.ensures.writes_forest;
+      writes_forest = inline_done c.args.self.now.sheet.now c.args.nodes.now c.args.c c.requires.1 (tags_to_skip (skip_of c.args.self.now.skip)) c.args.levels (item_of c.args.item) c.args.blank c.requires.0.later c.args.text.now.room.now c.args.text.now.len c.args.text.now.fits c.push_inline_lead.ensures.writes (ap (wrote c.push_inline_lead.new.text) c.in_ok-push_inline_lead.was) c.node_end-to.ensures (c.of-bits.ensures ∙ c.child_opts.ensures) c.write.ensures.writes_forest;
     }
 
 pub inline-returns-in_err-push_inline_lead : goal.inline-returns-in_err-push_inline_lead
@@ -695,7 +695,7 @@ inside-write_element-requires-then-flags-has_writer t c =
 
 pub inside-returns-then-name-lt-A : goal.inside-returns-then-name-lt-A
 inside-returns-then-name-lt-A t c =
-    let by_writer_here : (name : Bytes) (attrs : List Attr) (kids : Forest) (anc : Ancestors) → ElementAt c.args.self.now.sheet.now c.args.nodes.now c.args.at name attrs kids → in_element (self_at c.args.self.now.skip c.args.levels) anc (unpacked c.args.bits) name attrs kids (take c.args.text.now.len c.args.text.now.room.now) ≡ write_element (self_at c.args.self.now.skip c.args.levels) anc (unpacked c.args.bits) name attrs kids (take c.args.text.now.len c.args.text.now.room.now) = λ name attrs kids anc x. let a = c.args in let u = c.unpacked-flags in subst (λ (o : FormatOpts). in_element (self_at a.self.now.skip a.levels) anc o name attrs kids (take a.text.now.len a.text.now.room.now) ≡ write_element (self_at a.self.now.skip a.levels) anc o name attrs kids (take a.text.now.len a.text.now.room.now)) u.ensures (inside_writer (self_at a.self.now.skip a.levels) anc u.result name attrs kids (take a.text.now.len a.text.now.room.now) (ap (λ (k : ℕ). not u.result.skip_md && has_writer u.result k) (sym (c.node_name-name.ensures ∙ element_name x)) ∙ ap (λ (b : Bool). not u.result.skip_md && b) (sym c.has_writer.ensures) ∙ c.if-flags-has_writer.true)) in
+    let by_writer_here : (name : Bytes) (attrs : List Attr) (kids : Forest) (anc : Ancestors) → ElementAt c.args.self.now.sheet.now c.args.nodes.now c.args.at name attrs kids → in_element (self_at c.args.self.now.skip c.args.levels) anc (unpacked c.args.bits) name attrs kids (take c.args.text.now.len c.args.text.now.room.now) ≡ write_element (self_at c.args.self.now.skip c.args.levels) anc (unpacked c.args.bits) name attrs kids (take c.args.text.now.len c.args.text.now.room.now) = λ name attrs kids anc x. let a = c.args in let u = c.opts-flags in subst (λ (o : FormatOpts). in_element (self_at a.self.now.skip a.levels) anc o name attrs kids (take a.text.now.len a.text.now.room.now) ≡ write_element (self_at a.self.now.skip a.levels) anc o name attrs kids (take a.text.now.len a.text.now.room.now)) u.ensures (inside_writer (self_at a.self.now.skip a.levels) anc u.result name attrs kids (take a.text.now.len a.text.now.room.now) (ap (λ (k : ℕ). not u.result.skip_md && has_writer u.result k) (sym (c.node_name-name.ensures ∙ element_name x)) ∙ ap (λ (b : Bool). not u.result.skip_md && b) (sym c.has_writer.ensures) ∙ c.if-flags-has_writer.true)) in
     record {
       room = c.write_element.ensures.room;
       kept = c.write_element.ensures.kept;
@@ -704,7 +704,7 @@ inside-returns-then-name-lt-A t c =
 
 pub inside-returns-then-flags-has_writer : goal.inside-returns-then-flags-has_writer
 inside-returns-then-flags-has_writer t c =
-    let by_writer_here : (name : Bytes) (attrs : List Attr) (kids : Forest) (anc : Ancestors) → ElementAt c.args.self.now.sheet.now c.args.nodes.now c.args.at name attrs kids → in_element (self_at c.args.self.now.skip c.args.levels) anc (unpacked c.args.bits) name attrs kids (take c.args.text.now.len c.args.text.now.room.now) ≡ write_element (self_at c.args.self.now.skip c.args.levels) anc (unpacked c.args.bits) name attrs kids (take c.args.text.now.len c.args.text.now.room.now) = λ name attrs kids anc x. let a = c.args in let u = c.unpacked-flags in subst (λ (o : FormatOpts). in_element (self_at a.self.now.skip a.levels) anc o name attrs kids (take a.text.now.len a.text.now.room.now) ≡ write_element (self_at a.self.now.skip a.levels) anc o name attrs kids (take a.text.now.len a.text.now.room.now)) u.ensures (inside_writer (self_at a.self.now.skip a.levels) anc u.result name attrs kids (take a.text.now.len a.text.now.room.now) (ap (λ (k : ℕ). not u.result.skip_md && has_writer u.result k) (sym (c.node_name-name.ensures ∙ element_name x)) ∙ ap (λ (b : Bool). not u.result.skip_md && b) (sym c.has_writer.ensures) ∙ c.if-flags-has_writer.true)) in
+    let by_writer_here : (name : Bytes) (attrs : List Attr) (kids : Forest) (anc : Ancestors) → ElementAt c.args.self.now.sheet.now c.args.nodes.now c.args.at name attrs kids → in_element (self_at c.args.self.now.skip c.args.levels) anc (unpacked c.args.bits) name attrs kids (take c.args.text.now.len c.args.text.now.room.now) ≡ write_element (self_at c.args.self.now.skip c.args.levels) anc (unpacked c.args.bits) name attrs kids (take c.args.text.now.len c.args.text.now.room.now) = λ name attrs kids anc x. let a = c.args in let u = c.opts-flags in subst (λ (o : FormatOpts). in_element (self_at a.self.now.skip a.levels) anc o name attrs kids (take a.text.now.len a.text.now.room.now) ≡ write_element (self_at a.self.now.skip a.levels) anc o name attrs kids (take a.text.now.len a.text.now.room.now)) u.ensures (inside_writer (self_at a.self.now.skip a.levels) anc u.result name attrs kids (take a.text.now.len a.text.now.room.now) (ap (λ (k : ℕ). not u.result.skip_md && has_writer u.result k) (sym (c.node_name-name.ensures ∙ element_name x)) ∙ ap (λ (b : Bool). not u.result.skip_md && b) (sym c.has_writer.ensures) ∙ c.if-flags-has_writer.true)) in
     record {
       room = c.write_element-then-flags-has_writer.ensures.room;
       kept = c.write_element-then-flags-has_writer.ensures.kept;
@@ -725,7 +725,7 @@ inside-siblings-requires t c =
 
 pub inside-returns-in_err-siblings : goal.inside-returns-in_err-siblings
 inside-returns-in_err-siblings t c =
-    let plain_here : (name : Bytes) (attrs : List Attr) (kids : Forest) (anc : Ancestors) → ElementAt c.args.self.now.sheet.now c.args.nodes.now c.args.at name attrs kids → in_element (self_at c.args.self.now.skip c.args.levels) anc (unpacked c.args.bits) name attrs kids (take c.args.text.now.len c.args.text.now.room.now) ≡ and_then ((self_at c.args.self.now.skip c.args.levels).below (attrs ∷ anc) (unpacked c.args.bits) kids (take c.args.text.now.len c.args.text.now.room.now)) (closed (unpacked c.args.bits) (tag_of name)) = λ name attrs kids anc x. let a = c.args in let u = c.unpacked-flags in subst (λ (o : FormatOpts). in_element (self_at a.self.now.skip a.levels) anc o name attrs kids (take a.text.now.len a.text.now.room.now) ≡ and_then ((self_at a.self.now.skip a.levels).below (attrs ∷ anc) o kids (take a.text.now.len a.text.now.room.now)) (closed o (tag_of name))) u.ensures (inside_plain (self_at a.self.now.skip a.levels) anc u.result name attrs kids (take a.text.now.len a.text.now.room.now) (ap (λ (k : ℕ). not u.result.skip_md && has_writer u.result k) (sym (c.node_name-name.ensures ∙ element_name x)) ∙ ap (λ (b : Bool). not u.result.skip_md && b) (sym c.has_writer.ensures) ∙ c.if-flags-has_writer.false)) in
+    let plain_here : (name : Bytes) (attrs : List Attr) (kids : Forest) (anc : Ancestors) → ElementAt c.args.self.now.sheet.now c.args.nodes.now c.args.at name attrs kids → in_element (self_at c.args.self.now.skip c.args.levels) anc (unpacked c.args.bits) name attrs kids (take c.args.text.now.len c.args.text.now.room.now) ≡ and_then ((self_at c.args.self.now.skip c.args.levels).below (attrs ∷ anc) (unpacked c.args.bits) kids (take c.args.text.now.len c.args.text.now.room.now)) (closed (unpacked c.args.bits) (tag_of name)) = λ name attrs kids anc x. let a = c.args in let u = c.opts-flags in subst (λ (o : FormatOpts). in_element (self_at a.self.now.skip a.levels) anc o name attrs kids (take a.text.now.len a.text.now.room.now) ≡ and_then ((self_at a.self.now.skip a.levels).below (attrs ∷ anc) o kids (take a.text.now.len a.text.now.room.now)) (closed o (tag_of name))) u.ensures (inside_plain (self_at a.self.now.skip a.levels) anc u.result name attrs kids (take a.text.now.len a.text.now.room.now) (ap (λ (k : ℕ). not u.result.skip_md && has_writer u.result k) (sym (c.node_name-name.ensures ∙ element_name x)) ∙ ap (λ (b : Bool). not u.result.skip_md && b) (sym c.has_writer.ensures) ∙ c.if-flags-has_writer.false)) in
     let a = c.args in record {
       room = c.siblings.ensures.room;
       kept = kept_in (omega arith) (omega (arith, c.node_end-to.ensures)) c.siblings.ensures.kept;
@@ -734,14 +734,14 @@ inside-returns-in_err-siblings t c =
 
 pub inside-returns : goal.inside-returns
 inside-returns t c =
-    let plain_here : (name : Bytes) (attrs : List Attr) (kids : Forest) (anc : Ancestors) → ElementAt c.args.self.now.sheet.now c.args.nodes.now c.args.at name attrs kids → in_element (self_at c.args.self.now.skip c.args.levels) anc (unpacked c.args.bits) name attrs kids (take c.args.text.now.len c.args.text.now.room.now) ≡ and_then ((self_at c.args.self.now.skip c.args.levels).below (attrs ∷ anc) (unpacked c.args.bits) kids (take c.args.text.now.len c.args.text.now.room.now)) (closed (unpacked c.args.bits) (tag_of name)) = λ name attrs kids anc x. let a = c.args in let u = c.unpacked-flags in subst (λ (o : FormatOpts). in_element (self_at a.self.now.skip a.levels) anc o name attrs kids (take a.text.now.len a.text.now.room.now) ≡ and_then ((self_at a.self.now.skip a.levels).below (attrs ∷ anc) o kids (take a.text.now.len a.text.now.room.now)) (closed o (tag_of name))) u.ensures (inside_plain (self_at a.self.now.skip a.levels) anc u.result name attrs kids (take a.text.now.len a.text.now.room.now) (ap (λ (k : ℕ). not u.result.skip_md && has_writer u.result k) (sym (c.node_name-name.ensures ∙ element_name x)) ∙ ap (λ (b : Bool). not u.result.skip_md && b) (sym c.has_writer.ensures) ∙ c.if-flags-has_writer.false)) in
+    let plain_here : (name : Bytes) (attrs : List Attr) (kids : Forest) (anc : Ancestors) → ElementAt c.args.self.now.sheet.now c.args.nodes.now c.args.at name attrs kids → in_element (self_at c.args.self.now.skip c.args.levels) anc (unpacked c.args.bits) name attrs kids (take c.args.text.now.len c.args.text.now.room.now) ≡ and_then ((self_at c.args.self.now.skip c.args.levels).below (attrs ∷ anc) (unpacked c.args.bits) kids (take c.args.text.now.len c.args.text.now.room.now)) (closed (unpacked c.args.bits) (tag_of name)) = λ name attrs kids anc x. let a = c.args in let u = c.opts-flags in subst (λ (o : FormatOpts). in_element (self_at a.self.now.skip a.levels) anc o name attrs kids (take a.text.now.len a.text.now.room.now) ≡ and_then ((self_at a.self.now.skip a.levels).below (attrs ∷ anc) o kids (take a.text.now.len a.text.now.room.now)) (closed o (tag_of name))) u.ensures (inside_plain (self_at a.self.now.skip a.levels) anc u.result name attrs kids (take a.text.now.len a.text.now.room.now) (ap (λ (k : ℕ). not u.result.skip_md && has_writer u.result k) (sym (c.node_name-name.ensures ∙ element_name x)) ∙ ap (λ (b : Bool). not u.result.skip_md && b) (sym c.has_writer.ensures) ∙ c.if-flags-has_writer.false)) in
     let a = c.args in record {
       room = room_on (c.siblings.ensures.room) (leaf_room c.closed.ensures);
       kept = kept_in (omega arith) (omega (arith, c.node_end-to.ensures)) c.siblings.ensures.kept;
       writes_element = record {
         for = λ name attrs kids anc x h. both-done a.text.now.room.now a.text.now.len c.args.text.now.fits (in_element (self_at a.self.now.skip a.levels) anc (unpacked a.bits) name attrs kids) ((self_at a.self.now.skip a.levels).below (attrs ∷ anc) (unpacked a.bits) kids) (closed (unpacked a.bits) (tag_of name)) (plain_here _ _ _ anc x) (below-wrote a.self.now.skip a.levels (unpacked a.bits) anc x h c.node_end-to.ensures c.siblings.ensures.writes_forest) (ap (wrote c.siblings.new.text) c.in_ok-siblings.was)
-            (subst (λ (o : FormatOpts). Writes (length c.siblings.new.text.room.now) c.closed.new.text.room.now (wrote c.closed.new.text c.closed.result) (closed o (tag_of name) (take c.siblings.new.text.len c.siblings.new.text.room.now))) c.unpacked.ensures
-            (subst (λ (k : ℕ). Writes (length c.siblings.new.text.room.now) c.closed.new.text.room.now (wrote c.closed.new.text c.closed.result) (closed c.unpacked.result k (take c.siblings.new.text.len c.siblings.new.text.room.now))) (c.node_name-name.ensures ∙ element_name x) c.closed.ensures.writes));
+            (subst (λ (o : FormatOpts). Writes (length c.siblings.new.text.room.now) c.closed.new.text.room.now (wrote c.closed.new.text c.closed.result) (closed o (tag_of name) (take c.siblings.new.text.len c.siblings.new.text.room.now))) c.opts.ensures
+            (subst (λ (k : ℕ). Writes (length c.siblings.new.text.room.now) c.closed.new.text.room.now (wrote c.closed.new.text c.closed.result) (closed c.opts.result k (take c.siblings.new.text.len c.siblings.new.text.room.now))) (c.node_name-name.ensures ∙ element_name x) c.closed.ensures.writes));
       };
     }
 
@@ -750,15 +750,15 @@ item-node_end-to-requires t c =
     let node_here : NodeAt c.args.self.now.sheet.now c.args.nodes.now c.args.c = placeds_at c.requires.0.alone c.requires.0.later in
     (node_here).inside
 
-pub item-packed-requires : goal.item-packed-requires
-item-packed-requires t c =
+pub item-of-requires : goal.item-of-requires
+item-of-requires t c =
     let inner_here : c.include_node-inner.result ≡ include_node (fresh c.args.ctx.now.opts) = c.include_node-inner.ensures ∙ ap include_node c.fresh.ensures in
     omega (arith, fits_plain c.args.levels c.args.ctx.now c.include_node-inner.result (inner_here) c.requires.3)
 
 pub item-write-requires : goal.item-write-requires
 item-write-requires t c =
     let inner_here : c.include_node-inner.result ≡ include_node (fresh c.args.ctx.now.opts) = c.include_node-inner.ensures ∙ ap include_node c.fresh.ensures in
-    (falls_in c.args.levels c.decreases (lit< tt), (subst (λ (e : ℕ). Placeds c.args.self.now.sheet.now c.args.nodes.now c.args.c e) (sym c.node_end-to.ensures) c.requires.0.alone, c.requires.2, fits_plain c.args.levels c.args.ctx.now (unpacked c.packed.result) (c.packed.ensures ∙ inner_here) c.requires.3))
+    (falls_in c.args.levels c.decreases (lit< tt), (subst (λ (e : ℕ). Placeds c.args.self.now.sheet.now c.args.nodes.now c.args.c e) (sym c.node_end-to.ensures) c.requires.0.alone, c.requires.2, fits_plain c.args.levels c.args.ctx.now (unpacked c.of.result) (c.of.ensures ∙ inner_here) c.requires.3))
 
 pub item-returns-then-not-li : goal.item-returns-then-not-li
 item-returns-then-not-li t c =
@@ -770,7 +770,7 @@ item-returns-then-not-li t c =
       writes_forest = record {
         for = λ parent f anc h x.
             alike (head_other skips a.levels anc a.ctx.now (take a.text.now.len a.text.now.room.now) a.self.now.sheet.now a.nodes.now parent a.c f h c.requires.0.later (sym c.requires.1 ∙ c.if-not-li.true)
-            ∙ ap (λ (o : FormatOpts). write_at skips a.levels anc o f (take a.text.now.len a.text.now.room.now)) (sym (c.packed.ensures ∙ inner_here)))
+            ∙ ap (λ (o : FormatOpts). write_at skips a.levels anc o f (take a.text.now.len a.text.now.room.now)) (sym (c.of.ensures ∙ inner_here)))
             (c.write.ensures.writes_forest.for parent f anc (subst (λ (e : ℕ). Rep a.self.now.sheet.now a.nodes.now parent a.c e f) (sym c.node_end-to.ensures) h) x);
       };
       ctx_value = sym (ap (λ (b : Bool). cond b (advance_ol_number a.ctx.now) a.ctx.now) (c.if-not-li.true));
@@ -936,7 +936,7 @@ pub kids-returns-then-levels-is_one_text : goal.kids-returns-then-levels-is_one_
 unfolding serializer
 kids-returns-then-levels-is_one_text t c =
     let a = c.args in
-    let u = c.unpacked in
+    let u = c.opts in
     let b = some_one a.levels c.is_one_text.result c.if-levels-is_one_text.true in
     let o = c.is_one_text.ensures b.1 in record {
       room = leaf_room c.trim_behind_text.ensures;
@@ -1134,7 +1134,7 @@ node-write_text_node-requires t c =
 pub node-returns-then-tag_at-ne-OPEN : goal.node-returns-then-tag_at-ne-OPEN
 node-returns-then-tag_at-ne-OPEN t c =
     let a = c.args in
-    let u = c.unpacked in
+    let u = c.opts in
     record {
       room = leaf_room c.write_text_node.ensures;
       kept = kept_none a.nodes.now;
@@ -1179,7 +1179,7 @@ node-returns t c =
     let skips_here : among (body_at c.args.self.now.sheet.now (place_at c.args.nodes.now c.args.at)) (tags_to_skip (skip_of c.args.self.now.skip)) ≡ c.node_is_skipped.result = let a = c.args in sym (first_skipped a.self.now.sheet.now (place_at a.nodes.now a.at) (tags_to_skip (skip_of a.self.now.skip)) (tagged_here_2)) ∙ sym c.node_is_skipped.ensures in
     let goes_here : (parent : ℕ) (f : Forest) (anc : Ancestors) → Rep c.args.self.now.sheet.now c.args.nodes.now parent c.args.at (end_at c.args.nodes.now c.args.at) f → write_nodes (self_at c.args.self.now.skip c.args.levels) anc (unpacked c.args.bits) f (take c.args.text.now.len c.args.text.now.room.now) ≡ and_then (opened (unpacked c.args.bits) (tag_of (body_at c.args.self.now.sheet.now (place_at c.args.nodes.now c.args.at))) (attrs_behind c.args.self.now.sheet.now (place_at c.args.nodes.now c.args.at)) (kids_of f) (take c.args.text.now.len c.args.text.now.room.now)) (in_element (self_at c.args.self.now.skip c.args.levels) anc (unpacked c.args.bits) (body_at c.args.self.now.sheet.now (place_at c.args.nodes.now c.args.at)) (attrs_behind c.args.self.now.sheet.now (place_at c.args.nodes.now c.args.at)) (kids_of f)) = λ parent f anc h. let a = c.args in ap (λ (g : Forest). write_nodes (self_at a.self.now.skip a.levels) anc (unpacked a.bits) g (take a.text.now.len a.text.now.room.now)) (alone_element a.self.now.sheet.now a.nodes.now parent a.at c.requires.0.later f h (tagged_here)) ∙ element_opened (self_at a.self.now.skip a.levels) anc (unpacked a.bits) (body_at a.self.now.sheet.now (place_at a.nodes.now a.at)) (attrs_behind a.self.now.sheet.now (place_at a.nodes.now a.at)) (kids_of f) (take a.text.now.len a.text.now.room.now) (skips_here ∙ c.if-node_is_skipped.false) in
     let tagged_here_3 : get_or c.args.self.now.sheet.now (place_at c.args.nodes.now c.args.at) 0 ≡ 1 = omega (arith, c.if-tag_at-ne-OPEN.false, c.tag_at.ensures ∙ ap (λ (k : ℕ). get_or c.args.self.now.sheet.now k 0) c.node_place-place.ensures) in
-    let opens_here : (parent : ℕ) (f : Forest) → Rep c.args.self.now.sheet.now c.args.nodes.now parent c.args.at (end_at c.args.nodes.now c.args.at) f → Writes (length c.args.text.now.room.now) c.opened.new.text.room.now (wrote c.opened.new.text c.opened.result) (opened (unpacked c.args.bits) (tag_of (body_at c.args.self.now.sheet.now (place_at c.args.nodes.now c.args.at))) (attrs_behind c.args.self.now.sheet.now (place_at c.args.nodes.now c.args.at)) (kids_of f) (take c.args.text.now.len c.args.text.now.room.now)) = λ parent f h. let a = c.args in subst (λ (o : FormatOpts). Writes (length a.text.now.room.now) c.opened.new.text.room.now (wrote c.opened.new.text c.opened.result) (opened o (tag_of (body_at a.self.now.sheet.now (place_at a.nodes.now a.at))) (attrs_behind a.self.now.sheet.now (place_at a.nodes.now a.at)) (kids_of f) (take a.text.now.len a.text.now.room.now))) c.unpacked-2.ensures ((c.opened.ensures (body_at c.args.self.now.sheet.now (place_at c.args.nodes.now c.args.at)) (attrs_behind c.args.self.now.sheet.now (place_at c.args.nodes.now c.args.at)) (kids_of f) (node_element c.args.self.now.sheet.now c.args.nodes.now parent c.args.at (end_at c.args.nodes.now c.args.at) f h c.requires.0.later c.requires.0.alone.positive (tagged_here_3))).writes) in
+    let opens_here : (parent : ℕ) (f : Forest) → Rep c.args.self.now.sheet.now c.args.nodes.now parent c.args.at (end_at c.args.nodes.now c.args.at) f → Writes (length c.args.text.now.room.now) c.opened.new.text.room.now (wrote c.opened.new.text c.opened.result) (opened (unpacked c.args.bits) (tag_of (body_at c.args.self.now.sheet.now (place_at c.args.nodes.now c.args.at))) (attrs_behind c.args.self.now.sheet.now (place_at c.args.nodes.now c.args.at)) (kids_of f) (take c.args.text.now.len c.args.text.now.room.now)) = λ parent f h. let a = c.args in subst (λ (o : FormatOpts). Writes (length a.text.now.room.now) c.opened.new.text.room.now (wrote c.opened.new.text c.opened.result) (opened o (tag_of (body_at a.self.now.sheet.now (place_at a.nodes.now a.at))) (attrs_behind a.self.now.sheet.now (place_at a.nodes.now a.at)) (kids_of f) (take a.text.now.len a.text.now.room.now))) c.opts-2.ensures ((c.opened.ensures (body_at c.args.self.now.sheet.now (place_at c.args.nodes.now c.args.at)) (attrs_behind c.args.self.now.sheet.now (place_at c.args.nodes.now c.args.at)) (kids_of f) (node_element c.args.self.now.sheet.now c.args.nodes.now parent c.args.at (end_at c.args.nodes.now c.args.at) f h c.requires.0.later c.requires.0.alone.positive (tagged_here_3))).writes) in
     let tagged_here_4 : get_or c.args.self.now.sheet.now (place_at c.args.nodes.now c.args.at) 0 ≡ 1 = omega (arith, c.if-tag_at-ne-OPEN.false, c.tag_at.ensures ∙ ap (λ (k : ℕ). get_or c.args.self.now.sheet.now k 0) c.node_place-place.ensures) in
     let a = c.args in record {
       room = room_on (let e = (node_placed c.requires.0 (tagged_here)).0 in leaf_room (c.opened.ensures e.0 e.1 e.2 e.3)) (c.inside.ensures.room);
@@ -1200,7 +1200,7 @@ node-returns-in_err-opened t c =
     let skips_here : among (body_at c.args.self.now.sheet.now (place_at c.args.nodes.now c.args.at)) (tags_to_skip (skip_of c.args.self.now.skip)) ≡ c.node_is_skipped.result = let a = c.args in sym (first_skipped a.self.now.sheet.now (place_at a.nodes.now a.at) (tags_to_skip (skip_of a.self.now.skip)) (tagged_here_2)) ∙ sym c.node_is_skipped.ensures in
     let goes_here : (parent : ℕ) (f : Forest) (anc : Ancestors) → Rep c.args.self.now.sheet.now c.args.nodes.now parent c.args.at (end_at c.args.nodes.now c.args.at) f → write_nodes (self_at c.args.self.now.skip c.args.levels) anc (unpacked c.args.bits) f (take c.args.text.now.len c.args.text.now.room.now) ≡ and_then (opened (unpacked c.args.bits) (tag_of (body_at c.args.self.now.sheet.now (place_at c.args.nodes.now c.args.at))) (attrs_behind c.args.self.now.sheet.now (place_at c.args.nodes.now c.args.at)) (kids_of f) (take c.args.text.now.len c.args.text.now.room.now)) (in_element (self_at c.args.self.now.skip c.args.levels) anc (unpacked c.args.bits) (body_at c.args.self.now.sheet.now (place_at c.args.nodes.now c.args.at)) (attrs_behind c.args.self.now.sheet.now (place_at c.args.nodes.now c.args.at)) (kids_of f)) = λ parent f anc h. let a = c.args in ap (λ (g : Forest). write_nodes (self_at a.self.now.skip a.levels) anc (unpacked a.bits) g (take a.text.now.len a.text.now.room.now)) (alone_element a.self.now.sheet.now a.nodes.now parent a.at c.requires.0.later f h (tagged_here)) ∙ element_opened (self_at a.self.now.skip a.levels) anc (unpacked a.bits) (body_at a.self.now.sheet.now (place_at a.nodes.now a.at)) (attrs_behind a.self.now.sheet.now (place_at a.nodes.now a.at)) (kids_of f) (take a.text.now.len a.text.now.room.now) (skips_here ∙ c.if-node_is_skipped.false) in
     let tagged_here_3 : get_or c.args.self.now.sheet.now (place_at c.args.nodes.now c.args.at) 0 ≡ 1 = omega (arith, c.if-tag_at-ne-OPEN.false, c.tag_at.ensures ∙ ap (λ (k : ℕ). get_or c.args.self.now.sheet.now k 0) c.node_place-place.ensures) in
-    let opens_here : (parent : ℕ) (f : Forest) → Rep c.args.self.now.sheet.now c.args.nodes.now parent c.args.at (end_at c.args.nodes.now c.args.at) f → Writes (length c.args.text.now.room.now) c.opened.new.text.room.now (wrote c.opened.new.text c.opened.result) (opened (unpacked c.args.bits) (tag_of (body_at c.args.self.now.sheet.now (place_at c.args.nodes.now c.args.at))) (attrs_behind c.args.self.now.sheet.now (place_at c.args.nodes.now c.args.at)) (kids_of f) (take c.args.text.now.len c.args.text.now.room.now)) = λ parent f h. let a = c.args in subst (λ (o : FormatOpts). Writes (length a.text.now.room.now) c.opened.new.text.room.now (wrote c.opened.new.text c.opened.result) (opened o (tag_of (body_at a.self.now.sheet.now (place_at a.nodes.now a.at))) (attrs_behind a.self.now.sheet.now (place_at a.nodes.now a.at)) (kids_of f) (take a.text.now.len a.text.now.room.now))) c.unpacked-2.ensures ((c.opened.ensures (body_at c.args.self.now.sheet.now (place_at c.args.nodes.now c.args.at)) (attrs_behind c.args.self.now.sheet.now (place_at c.args.nodes.now c.args.at)) (kids_of f) (node_element c.args.self.now.sheet.now c.args.nodes.now parent c.args.at (end_at c.args.nodes.now c.args.at) f h c.requires.0.later c.requires.0.alone.positive (tagged_here_3))).writes) in
+    let opens_here : (parent : ℕ) (f : Forest) → Rep c.args.self.now.sheet.now c.args.nodes.now parent c.args.at (end_at c.args.nodes.now c.args.at) f → Writes (length c.args.text.now.room.now) c.opened.new.text.room.now (wrote c.opened.new.text c.opened.result) (opened (unpacked c.args.bits) (tag_of (body_at c.args.self.now.sheet.now (place_at c.args.nodes.now c.args.at))) (attrs_behind c.args.self.now.sheet.now (place_at c.args.nodes.now c.args.at)) (kids_of f) (take c.args.text.now.len c.args.text.now.room.now)) = λ parent f h. let a = c.args in subst (λ (o : FormatOpts). Writes (length a.text.now.room.now) c.opened.new.text.room.now (wrote c.opened.new.text c.opened.result) (opened o (tag_of (body_at a.self.now.sheet.now (place_at a.nodes.now a.at))) (attrs_behind a.self.now.sheet.now (place_at a.nodes.now a.at)) (kids_of f) (take a.text.now.len a.text.now.room.now))) c.opts-2.ensures ((c.opened.ensures (body_at c.args.self.now.sheet.now (place_at c.args.nodes.now c.args.at)) (attrs_behind c.args.self.now.sheet.now (place_at c.args.nodes.now c.args.at)) (kids_of f) (node_element c.args.self.now.sheet.now c.args.nodes.now parent c.args.at (end_at c.args.nodes.now c.args.at) f h c.requires.0.later c.requires.0.alone.positive (tagged_here_3))).writes) in
     let a = c.args in record {
       room = let e = (node_placed c.requires.0 (tagged_here)).0 in leaf_room (c.opened.ensures e.0 e.1 e.2 e.3);
       kept = kept_none a.nodes.now;
@@ -1294,7 +1294,7 @@ siblings-write_text_node-requires t c =
 pub siblings-returns-then-levels-is_one_text : goal.siblings-returns-then-levels-is_one_text
 siblings-returns-then-levels-is_one_text t c =
     let a = c.args in
-    let u = c.unpacked in
+    let u = c.opts in
     let b = some_one a.levels c.is_one_text.result c.if-levels-is_one_text.true in
     let o = c.is_one_text.ensures b.1 in record {
       room = leaf_room c.write_text_node.ensures;
@@ -1395,13 +1395,13 @@ write-returns t c =
 
 pub write_element-write_list-requires : goal.write_element-write_list-requires
 write_element-write_list-requires t c =
-    let u = c.unpacked-opts in
+    let u = c.opts-opts in
     (falls_in c.args.levels c.decreases (lit< tt), (c.requires.0, c.requires.1, c.requires.2, subst (λ (o : FormatOpts). Fits o (c.args.levels + 1)) (sym u.ensures) c.requires.3))
 
 pub write_element-returns-then-is_list : goal.write_element-returns-then-is_list
 write_element-returns-then-is_list t c =
     let named_here : (name : Bytes) (attrs : List Attr) (kids : Forest) → ElementAt c.args.self.now.sheet.now c.args.nodes.now c.args.at name attrs kids → c.args.name ≡ tag_of name = λ _ _ _ x. c.requires.1 ∙ element_name x in
-    let u = c.unpacked-opts in
+    let u = c.opts-opts in
     let a = c.args in record {
       room = c.write_list.ensures.room;
       kept = c.write_list.ensures.kept;
@@ -1419,8 +1419,8 @@ pub write_emphasis-overflow_add-at : goal.write_emphasis-overflow_add-at
 write_emphasis-overflow_add-at t c =
     omega (arith, (placed_node c.args.self.now.sheet.now c.args.nodes.now c.args.at c.requires.0).inside, c.well_formed)
 
-pub write_emphasis-packed-bits-requires : goal.write_emphasis-packed-bits-requires
-write_emphasis-packed-bits-requires t c =
+pub write_emphasis-of-bits-requires : goal.write_emphasis-of-bits-requires
+write_emphasis-of-bits-requires t c =
     omega (arith, subst (λ (o : FormatOpts). Fits o c.args.levels) (sym c.emphasis_opts.ensures) (omega (arith, c.requires.3)))
 
 pub write_emphasis-write_behind-requires : goal.write_emphasis-write_behind-requires
@@ -1429,19 +1429,19 @@ write_emphasis-write_behind-requires t c = (
   (
     placed_kids c.args.self.now.sheet.now c.args.nodes.now c.args.at c.requires.0 c.node_end-to.ensures,
     c.requires.2,
-    subst (λ (o : FormatOpts). Fits o c.args.levels) (sym (c.packed-bits.ensures ∙ c.emphasis_opts.ensures)) (omega (arith, c.requires.3)),
+    subst (λ (o : FormatOpts). Fits o c.args.levels) (sym (c.of-bits.ensures ∙ c.emphasis_opts.ensures)) (omega (arith, c.requires.3)),
   ),
 )
 
 pub write_emphasis-push_emphasis_by-requires : goal.write_emphasis-push_emphasis_by-requires
 write_emphasis-push_emphasis_by-requires t c =
-    let wrote_here : (name : Bytes) (attrs : List Attr) (kids : Forest) (anc : Ancestors) → ElementAt c.args.self.now.sheet.now c.args.nodes.now c.args.at name attrs kids → Around c.args.self.now.sheet.now c.args.nodes.now (parent_at c.args.nodes.now c.args.at) anc → Writes (length (lent c.args.text.now.room.now c.args.text.now.len)) c.write_behind.new.room c.write_behind.result ((self_at c.args.self.now.skip c.args.levels).below (attrs ∷ anc) (emphasis_scope (scope_of (md_emphasis (tag_of name))) (inline (include_node c.args.opts))) kids []) = λ name attrs kids anc x h. let a = c.args in subst (λ (o : FormatOpts). Writes (length (lent a.text.now.room.now a.text.now.len)) c.write_behind.new.room c.write_behind.result ((self_at a.self.now.skip a.levels).below (attrs ∷ anc) o kids [])) (c.packed-bits.ensures ∙ c.emphasis_opts.ensures ∙ ap (λ (k : ℕ). emphasis_scope (scope_of (md_emphasis k)) (inline (include_node a.opts))) (c.requires.1 ∙ element_name x)) (below-wrote a.self.now.skip a.levels (unpacked c.packed-bits.result) anc x h c.node_end-to.ensures c.write_behind.ensures.writes_forest) in
+    let wrote_here : (name : Bytes) (attrs : List Attr) (kids : Forest) (anc : Ancestors) → ElementAt c.args.self.now.sheet.now c.args.nodes.now c.args.at name attrs kids → Around c.args.self.now.sheet.now c.args.nodes.now (parent_at c.args.nodes.now c.args.at) anc → Writes (length (lent c.args.text.now.room.now c.args.text.now.len)) c.write_behind.new.room c.write_behind.result ((self_at c.args.self.now.skip c.args.levels).below (attrs ∷ anc) (emphasis_scope (scope_of (md_emphasis (tag_of name))) (inline (include_node c.args.opts))) kids []) = λ name attrs kids anc x h. let a = c.args in subst (λ (o : FormatOpts). Writes (length (lent a.text.now.room.now a.text.now.len)) c.write_behind.new.room c.write_behind.result ((self_at a.self.now.skip a.levels).below (attrs ∷ anc) o kids [])) (c.of-bits.ensures ∙ c.emphasis_opts.ensures ∙ ap (λ (k : ℕ). emphasis_scope (scope_of (md_emphasis k)) (inline (include_node a.opts))) (c.requires.1 ∙ element_name x)) (below-wrote a.self.now.skip a.levels (unpacked c.of-bits.result) anc x h c.node_end-to.ensures c.write_behind.ensures.writes_forest) in
     let p = c.requires.0 in
     nest-fits c.args.text.now.room.now c.args.text.now.len c.args.text.now.fits (wrote_here _ _ _ p.1.0 p.0.3 p.1.1) c.in_ok-n.was
 
 pub write_emphasis-returns : goal.write_emphasis-returns
 write_emphasis-returns t c =
-    let wrote_here : (name : Bytes) (attrs : List Attr) (kids : Forest) (anc : Ancestors) → ElementAt c.args.self.now.sheet.now c.args.nodes.now c.args.at name attrs kids → Around c.args.self.now.sheet.now c.args.nodes.now (parent_at c.args.nodes.now c.args.at) anc → Writes (length (lent c.args.text.now.room.now c.args.text.now.len)) c.write_behind.new.room c.write_behind.result ((self_at c.args.self.now.skip c.args.levels).below (attrs ∷ anc) (emphasis_scope (scope_of (md_emphasis (tag_of name))) (inline (include_node c.args.opts))) kids []) = λ name attrs kids anc x h. let a = c.args in subst (λ (o : FormatOpts). Writes (length (lent a.text.now.room.now a.text.now.len)) c.write_behind.new.room c.write_behind.result ((self_at a.self.now.skip a.levels).below (attrs ∷ anc) o kids [])) (c.packed-bits.ensures ∙ c.emphasis_opts.ensures ∙ ap (λ (k : ℕ). emphasis_scope (scope_of (md_emphasis k)) (inline (include_node a.opts))) (c.requires.1 ∙ element_name x)) (below-wrote a.self.now.skip a.levels (unpacked c.packed-bits.result) anc x h c.node_end-to.ensures c.write_behind.ensures.writes_forest) in
+    let wrote_here : (name : Bytes) (attrs : List Attr) (kids : Forest) (anc : Ancestors) → ElementAt c.args.self.now.sheet.now c.args.nodes.now c.args.at name attrs kids → Around c.args.self.now.sheet.now c.args.nodes.now (parent_at c.args.nodes.now c.args.at) anc → Writes (length (lent c.args.text.now.room.now c.args.text.now.len)) c.write_behind.new.room c.write_behind.result ((self_at c.args.self.now.skip c.args.levels).below (attrs ∷ anc) (emphasis_scope (scope_of (md_emphasis (tag_of name))) (inline (include_node c.args.opts))) kids []) = λ name attrs kids anc x h. let a = c.args in subst (λ (o : FormatOpts). Writes (length (lent a.text.now.room.now a.text.now.len)) c.write_behind.new.room c.write_behind.result ((self_at a.self.now.skip a.levels).below (attrs ∷ anc) o kids [])) (c.of-bits.ensures ∙ c.emphasis_opts.ensures ∙ ap (λ (k : ℕ). emphasis_scope (scope_of (md_emphasis k)) (inline (include_node a.opts))) (c.requires.1 ∙ element_name x)) (below-wrote a.self.now.skip a.levels (unpacked c.of-bits.result) anc x h c.node_end-to.ensures c.write_behind.ensures.writes_forest) in
     let a = c.args in record {
       room = room_on (room_behind _ refl refl c.write_behind.auto.room) (leaf_room c.push_emphasis_by.ensures);
       kept = kept_in (omega arith) (omega (arith, c.node_end-to.ensures)) c.write_behind.ensures.kept;
@@ -1454,7 +1454,7 @@ write_emphasis-returns t c =
 
 pub write_emphasis-returns-in_err-n : goal.write_emphasis-returns-in_err-n
 write_emphasis-returns-in_err-n t c =
-    let wrote_here : (name : Bytes) (attrs : List Attr) (kids : Forest) (anc : Ancestors) → ElementAt c.args.self.now.sheet.now c.args.nodes.now c.args.at name attrs kids → Around c.args.self.now.sheet.now c.args.nodes.now (parent_at c.args.nodes.now c.args.at) anc → Writes (length (lent c.args.text.now.room.now c.args.text.now.len)) c.write_behind.new.room c.write_behind.result ((self_at c.args.self.now.skip c.args.levels).below (attrs ∷ anc) (emphasis_scope (scope_of (md_emphasis (tag_of name))) (inline (include_node c.args.opts))) kids []) = λ name attrs kids anc x h. let a = c.args in subst (λ (o : FormatOpts). Writes (length (lent a.text.now.room.now a.text.now.len)) c.write_behind.new.room c.write_behind.result ((self_at a.self.now.skip a.levels).below (attrs ∷ anc) o kids [])) (c.packed-bits.ensures ∙ c.emphasis_opts.ensures ∙ ap (λ (k : ℕ). emphasis_scope (scope_of (md_emphasis k)) (inline (include_node a.opts))) (c.requires.1 ∙ element_name x)) (below-wrote a.self.now.skip a.levels (unpacked c.packed-bits.result) anc x h c.node_end-to.ensures c.write_behind.ensures.writes_forest) in
+    let wrote_here : (name : Bytes) (attrs : List Attr) (kids : Forest) (anc : Ancestors) → ElementAt c.args.self.now.sheet.now c.args.nodes.now c.args.at name attrs kids → Around c.args.self.now.sheet.now c.args.nodes.now (parent_at c.args.nodes.now c.args.at) anc → Writes (length (lent c.args.text.now.room.now c.args.text.now.len)) c.write_behind.new.room c.write_behind.result ((self_at c.args.self.now.skip c.args.levels).below (attrs ∷ anc) (emphasis_scope (scope_of (md_emphasis (tag_of name))) (inline (include_node c.args.opts))) kids []) = λ name attrs kids anc x h. let a = c.args in subst (λ (o : FormatOpts). Writes (length (lent a.text.now.room.now a.text.now.len)) c.write_behind.new.room c.write_behind.result ((self_at a.self.now.skip a.levels).below (attrs ∷ anc) o kids [])) (c.of-bits.ensures ∙ c.emphasis_opts.ensures ∙ ap (λ (k : ℕ). emphasis_scope (scope_of (md_emphasis k)) (inline (include_node a.opts))) (c.requires.1 ∙ element_name x)) (below-wrote a.self.now.skip a.levels (unpacked c.of-bits.result) anc x h c.node_end-to.ensures c.write_behind.ensures.writes_forest) in
     let a = c.args in record {
       room = room_behind _ refl refl c.write_behind.auto.room;
       kept = kept_in (omega arith) (omega (arith, c.node_end-to.ensures)) c.write_behind.ensures.kept;
@@ -1490,13 +1490,13 @@ write_link-returns-in-Some t c =
       };
     }
 
-pub write_link-packed-requires : goal.write_link-packed-requires
-write_link-packed-requires t c =
+pub write_link-of-requires : goal.write_link-of-requires
+write_link-of-requires t c =
     omega (arith, subst (λ (o : FormatOpts). Fits o c.args.levels) (sym c.fresh.ensures) (omega (arith, c.requires.2)))
 
 pub write_link-kids-requires : goal.write_link-kids-requires
 write_link-kids-requires t c =
-    (falls_in c.args.levels c.decreases (lit< tt), (c.requires.0, c.requires.1, subst (λ (o : FormatOpts). Fits o c.args.levels) (sym (c.packed.ensures ∙ c.fresh.ensures)) (omega (arith, c.requires.2))))
+    (falls_in c.args.levels c.decreases (lit< tt), (c.requires.0, c.requires.1, subst (λ (o : FormatOpts). Fits o c.args.levels) (sym (c.of.ensures ∙ c.fresh.ensures)) (omega (arith, c.requires.2))))
 
 pub write_link-returns-in-None : goal.write_link-returns-in-None
 write_link-returns-in-None t c =
@@ -1507,7 +1507,7 @@ write_link-returns-in-None t c =
         for = λ name attrs kids anc x h.
             alike (link_none (self_at a.self.now.skip a.levels) anc a.opts name attrs kids (take a.text.now.len a.text.now.room.now)
             (ap (attr (ascii "href")) (x.attrs_are ∙ ap (attrs_behind a.self.now.sheet.now) (sym c.node_place-place.ensures)) ∙ (c.in-None.ensures).value_is))
-            (subst (λ (o : FormatOpts). Writes (length a.text.now.room.now) c.kids.new.text.room.now (wrote c.kids.new.text c.kids.result) (write_kids (self_at a.self.now.skip a.levels) anc o (element name attrs kids nothing) (take a.text.now.len a.text.now.room.now))) (c.packed.ensures ∙ c.fresh.ensures) (c.kids.ensures.writes_element.for name attrs kids anc x h));
+            (subst (λ (o : FormatOpts). Writes (length a.text.now.room.now) c.kids.new.text.room.now (wrote c.kids.new.text c.kids.result) (write_kids (self_at a.self.now.skip a.levels) anc o (element name attrs kids nothing) (take a.text.now.len a.text.now.room.now))) (c.of.ensures ∙ c.fresh.ensures) (c.kids.ensures.writes_element.for name attrs kids anc x h));
       };
     }
 
@@ -1593,13 +1593,13 @@ write_table-is_table_node_writable-requires t c =
     let k = placed_kids c.args.self.now.sheet.now c.args.nodes.now c.args.at p c.node_end-to.ensures in
     ((k.parent, k.forest, k.rep), (from_cells (rows_of (p.0.1 ∷ p.1.0) p.0.2), filled_here _ _ _ p.1.0 p.0.3 p.1.1))
 
-pub write_table-packed-requires : goal.write_table-packed-requires
-write_table-packed-requires t c =
+pub write_table-of-requires : goal.write_table-of-requires
+write_table-of-requires t c =
     omega (arith, subst (λ (o : FormatOpts). Fits o c.args.levels) (sym c.fresh.ensures) (omega (arith, c.requires.2)))
 
 pub write_table-kids-requires : goal.write_table-kids-requires
 write_table-kids-requires t c =
-    (falls_in c.args.levels c.decreases (lit< tt), (c.requires.0, c.requires.1, subst (λ (o : FormatOpts). Fits o c.args.levels) (sym (c.packed.ensures ∙ c.fresh.ensures)) (omega (arith, c.requires.2))))
+    (falls_in c.args.levels c.decreases (lit< tt), (c.requires.0, c.requires.1, subst (λ (o : FormatOpts). Fits o c.args.levels) (sym (c.of.ensures ∙ c.fresh.ensures)) (omega (arith, c.requires.2))))
 
 pub write_table-returns-then-not-is_table_node_writable : goal.write_table-returns-then-not-is_table_node_writable
 write_table-returns-then-not-is_table_node_writable t c =
@@ -1612,7 +1612,7 @@ write_table-returns-then-not-is_table_node_writable t c =
       writes_element = record {
         for = λ name attrs kids anc x h.
             alike (table_flat (self_at a.self.now.skip a.levels) anc a.opts name attrs kids (take a.text.now.len a.text.now.room.now) (sym (writable_here _ _ _ anc x h) ∙ c.if-not-is_table_node_writable.true))
-            (subst (λ (o : FormatOpts). Writes (length a.text.now.room.now) c.kids.new.text.room.now (wrote c.kids.new.text c.kids.result) (write_kids (self_at a.self.now.skip a.levels) anc o (element name attrs kids nothing) (take a.text.now.len a.text.now.room.now))) (c.packed.ensures ∙ c.fresh.ensures) (c.kids.ensures.writes_element.for name attrs kids anc x h));
+            (subst (λ (o : FormatOpts). Writes (length a.text.now.room.now) c.kids.new.text.room.now (wrote c.kids.new.text c.kids.result) (write_kids (self_at a.self.now.skip a.levels) anc o (element name attrs kids nothing) (take a.text.now.len a.text.now.room.now))) (c.of.ensures ∙ c.fresh.ensures) (c.kids.ensures.writes_element.for name attrs kids anc x h));
       };
     }
 
@@ -1721,7 +1721,7 @@ write_table-returns-in_err-cells t c =
 pub write_element-returns-in-21 : goal.write_element-returns-in-21
 write_element-returns-in-21 t c =
     let named_here : (name : Bytes) (attrs : List Attr) (kids : Forest) → ElementAt c.args.self.now.sheet.now c.args.nodes.now c.args.at name attrs kids → c.args.name ≡ tag_of name = λ _ _ _ x. c.requires.1 ∙ element_name x in
-    let u = c.unpacked-opts in
+    let u = c.opts-opts in
     let a = c.args in
     record {
       room = c.write_link.ensures.room;
@@ -1736,7 +1736,7 @@ write_element-returns-in-21 t c =
 pub write_element-returns-in-22 : goal.write_element-returns-in-22
 write_element-returns-in-22 t c =
     let named_here : (name : Bytes) (attrs : List Attr) (kids : Forest) → ElementAt c.args.self.now.sheet.now c.args.nodes.now c.args.at name attrs kids → c.args.name ≡ tag_of name = λ _ _ _ x. c.requires.1 ∙ element_name x in
-    let u = c.unpacked-opts in
+    let u = c.opts-opts in
     let a = c.args in
     record {
       room = leaf_room c.write_img.ensures;
@@ -1752,7 +1752,7 @@ write_element-returns-in-22 t c =
 pub write_element-returns-in-23 : goal.write_element-returns-in-23
 write_element-returns-in-23 t c =
     let named_here : (name : Bytes) (attrs : List Attr) (kids : Forest) → ElementAt c.args.self.now.sheet.now c.args.nodes.now c.args.at name attrs kids → c.args.name ≡ tag_of name = λ _ _ _ x. c.requires.1 ∙ element_name x in
-    let u = c.unpacked-opts in
+    let u = c.opts-opts in
     let a = c.args in
     record {
       room = let p = c.requires.0 in leaf_room (c.write_pre.ensures p.0.0 p.0.1 p.0.2 p.1.0 p.0.3 p.1.1);
@@ -1767,7 +1767,7 @@ write_element-returns-in-23 t c =
 pub write_element-returns-in-14 : goal.write_element-returns-in-14
 write_element-returns-in-14 t c =
     let named_here : (name : Bytes) (attrs : List Attr) (kids : Forest) → ElementAt c.args.self.now.sheet.now c.args.nodes.now c.args.at name attrs kids → c.args.name ≡ tag_of name = λ _ _ _ x. c.requires.1 ∙ element_name x in
-    let u = c.unpacked-opts in
+    let u = c.opts-opts in
     let a = c.args in
     record {
       room = c.write_table.ensures.room;
@@ -1782,7 +1782,7 @@ write_element-returns-in-14 t c =
 pub write_element-returns-in-24 : goal.write_element-returns-in-24
 write_element-returns-in-24 t c =
     let named_here : (name : Bytes) (attrs : List Attr) (kids : Forest) → ElementAt c.args.self.now.sheet.now c.args.nodes.now c.args.at name attrs kids → c.args.name ≡ tag_of name = λ _ _ _ x. c.requires.1 ∙ element_name x in
-    let u = c.unpacked-opts in
+    let u = c.opts-opts in
     let a = c.args in
     record {
       room = let p = c.requires.0 in leaf_room (c.write_code.ensures a.levels p.0.0 p.0.1 p.0.2 p.1.0 p.0.3 p.1.1);
@@ -1797,7 +1797,7 @@ write_element-returns-in-24 t c =
 pub write_element-returns-in_default : goal.write_element-returns-in_default
 write_element-returns-in_default t c =
     let named_here : (name : Bytes) (attrs : List Attr) (kids : Forest) → ElementAt c.args.self.now.sheet.now c.args.nodes.now c.args.at name attrs kids → c.args.name ≡ tag_of name = λ _ _ _ x. c.requires.1 ∙ element_name x in
-    let u = c.unpacked-opts in
+    let u = c.opts-opts in
     let a = c.args in
     record {
       room = c.write_emphasis.ensures.room;

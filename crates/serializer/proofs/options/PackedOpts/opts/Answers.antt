@@ -1,6 +1,6 @@
 use mathlib.Core.Path.{refl}
 use Rattle.serializer.specs.Options.{unpacked}
-use Rattle.serializer.proofs.options.unpacked.Goals as goal
+use Rattle.serializer.proofs.options.PackedOpts.opts.Goals as goal
 
 pub returns : goal.returns
 unfolding unpacked

@@ -2,7 +2,7 @@ use Prim.Native.Nat.{◌/◌, ◌%◌}
 use mathlib.Core.Path.{◌≡◌, ap, ◌∙◌}
 use native.Mathlib.Omega.{arith}
 use Rattle.serializer.specs.Options.{odd, unpacked}
-use Rattle.serializer.proofs.options.packed.Goals as goal
+use Rattle.serializer.proofs.options.PackedOpts.of.Goals as goal
 
 pub returns : goal.returns
 unfolding unpacked
