@@ -7,8 +7,8 @@ ghost use Rattle.spec.specs.Tree.{attr, tail};
 ghost use Rattle.tree.specs.Represents.{attrs_behind};
 ghost use Rattle.tree.specs.Attributes.{ends_attrs, either_attr, language_attr, Valued};
 
-use crate::tags::{CLOSE, COMMENT, NAME, OPEN, TEXT};
 use input::fields::{is_same, span_at};
+use input::tag::{CLOSE, COMMENT, NAME, OPEN, TEXT};
 
 // Whether no attribute stands from a field with this tag on.
 #[tactic(auto, unfolding(spec::specs::Bytes::isin))]
