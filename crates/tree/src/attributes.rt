@@ -7,7 +7,7 @@ ghost use Rattle.spec.specs.Tree.{attr, tail};
 ghost use Rattle.tree.specs.Represents.{attrs_behind};
 ghost use Rattle.tree.specs.Attributes.{ends_attrs, either_attr, language_attr, Valued};
 
-use input::fields::{is_same, span_at};
+use input::fields::span_at;
 use input::tag::{CLOSE, COMMENT, NAME, OPEN, TEXT};
 
 // Whether no attribute stands from a field with this tag on.
@@ -19,10 +19,11 @@ fn ends_attributes(tag: u8) -> bool
 }
 
 // Whether a field with these bytes is an attribute name, and one of two.
+#[tactic(auto, using(input::proofs::Splitting::same_eq))]
 fn is_named(tag: u8, name: &[u8], a: &[u8], b: &[u8]) -> bool
     ensures { result ≡ (eqb tag 2 && (same a.now name.now || same b.now name.now)) }
 {
-    tag == NAME && (is_same(a, name) || is_same(b, name))
+    tag == NAME && (a == name || b == name)
 }
 
 // The value at p, where an attribute name stands in front; no bytes where the field there is no value.

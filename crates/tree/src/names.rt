@@ -9,7 +9,7 @@ ghost use Rattle.input.specs.Scans.{skip_of};
 ghost use Rattle.tree.specs.Nodes.{name_at, skipped_at};
 ghost use Rattle.spec.specs.ElementNumbers.{number_of};
 
-use input::fields::{Fields, is_same, span_at};
+use input::fields::{Fields, span_at};
 use input::tag::OPEN;
 use spec::element::Name;
 
@@ -17,7 +17,7 @@ use spec::element::Name;
 fn has_name(run: &[u8], name: &[u8]) -> bool
     ensures { result ≡ among name.now (bodies (fields run.now)) }
 {
-    Fields::new(run).any(|f| is_same(name, f.body))
+    Fields::new(run).any(|f| name == f.body)
 }
 
 // The element that a name means.
