@@ -1,4 +1,4 @@
-// heading.rs. A name is its number of specs/Names.antt.
+// heading.rs. A name is its number of `spec::element`.
 ghost use Rattle.std.specs.Prelude.{◌≡◌, ℕ};
 ghost use Rattle.spec.specs.Out.{push};
 ghost use Rattle.spec.specs.Md.Heading as def;

@@ -1,4 +1,5 @@
-// The element names that the writers know, and their numbers: node memory holds a name as its number, and the writers compare numbers.
+// The element names that the writers know, and their numbers. Node memory holds a name as its number, and the writers compare
+// numbers.
 
 ghost use Rattle.std.specs.Prelude.{◌≡◌};
 ghost use Rattle.spec.specs.ElementNumbers.{number_of, Numbers};
