@@ -10,10 +10,10 @@ ghost use Rattle.elements.specs.Languages.{Language, Within};
 ghost use Rattle.nodes.specs.Stands.{Siblings, ElementAt, Placed};
 
 use nodes::nodes::node_name;
+use spec::element::CODE;
 use text::buffer::starts_with;
 use text::class::{ByteClass, White};
 use tree::attributes::{attribute, language_attribute};
-use tree::element::CODE;
 use tree::nodes::Tree;
 
 // What begins a word of a class that says a language.

@@ -16,10 +16,10 @@ use input::tag::{OPEN, TEXT};
 use lists_links::list_number::parse_list_number;
 use nodes::nodes::{is_white_space, node_name};
 use spec::ctx::ListKind;
+use spec::element::{ARTICLE, DIV, HR, LI, OL, PRE, TABLE, UL};
 use text::buffer::all_in;
 use text::class::White;
 use tree::attributes::attribute;
-use tree::element::{ARTICLE, DIV, HR, LI, OL, PRE, TABLE, UL};
 use tree::nodes::{Tree, tag_at, text_at};
 
 // The number of the attribute of that name of the element at `place`.

@@ -28,11 +28,11 @@ use normalized::text_utils::{
     add_linebreaks, ends_with_double_linebreak, push_block_space, trim_trailing_space,
 };
 use spec::ctx::{EmphasisScope, FormatOpts};
-use text::buffer::Full;
-use text::text::Text;
-use tree::element::{
+use spec::element::{
     A, B, BR, CODE, EM, H1, HR, I, IMG, LI, OL, PRE, STRONG, TABLE, TD, TH, TR, UL,
 };
+use text::buffer::Full;
+use text::text::Text;
 use tree::nodes::Tree;
 
 #[tactic(auto, unfolding(spec::specs::Md::Elements::Blocks::is_link_block, spec::specs::Bytes::isin))]

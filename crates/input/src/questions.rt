@@ -25,7 +25,7 @@ ghost use Rattle.input.specs.Scans.{length_right, field_right, scan_of, begins_n
 ghost use Rattle.input.specs.Sound.{refusal_of_sound};
 ghost use Rattle.input.specs.Refusals.{number_told};
 
-use crate::fields::{Fields, is_same, is_whole};
+use crate::fields::{Fields, is_whole};
 use crate::refusal::Refusal;
 use crate::sound::sound_count;
 use crate::tag::{CLOSE, COMMENT, NAME, NO_TAG, OPEN, SKIP, TEXT, VALUE};
@@ -39,6 +39,9 @@ pub(crate) const MAX_NODES: usize = 65535;
 
 // The most elements that may be open.
 pub(crate) const MAX_OPEN: usize = 100;
+
+// The name that no element may have.
+pub(crate) const BLOCKQUOTE: &[u8] = b"blockquote";
 
 // 1: Is the sheet at most 1,048,576 bytes?
 pub fn is_short(sheet: &[u8]) -> bool
@@ -175,10 +178,11 @@ pub fn is_within_limits(sheet: &[u8]) -> bool
 }
 
 // Whether a field with these bytes opens a block quote.
+#[tactic(auto, using(crate::proofs::Splitting::same_eq))]
 fn opens_blockquote(tag: u8, body: &[u8]) -> bool
     ensures { result ≡ opens_blockquote tag body.now }
 {
-    tag == OPEN && is_same(body, b"blockquote")
+    tag == OPEN && body == BLOCKQUOTE
 }
 
 // 6: Is no element named `blockquote`?

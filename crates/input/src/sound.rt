@@ -4,8 +4,8 @@ ghost use Rattle.spec.specs.Bytes.{Bytes};
 ghost use Rattle.input.specs.Scans.{field_right};
 ghost use Rattle.input.specs.Sound.{ruled_field, sound_field, Ended, Sound};
 
-use crate::fields::{is_same, length_at};
-use crate::questions::{MAX_LENGTH, MAX_NODES, MAX_OPEN, count_after};
+use crate::fields::length_at;
+use crate::questions::{BLOCKQUOTE, MAX_LENGTH, MAX_NODES, MAX_OPEN, count_after};
 use crate::tag::{CLOSE, COMMENT, NAME, NO_TAG, OPEN, TEXT, VALUE};
 use crate::utf8::is_utf8_part;
 
@@ -43,7 +43,7 @@ fn is_ruled(before: u8, tag: u8, body: &[u8]) -> bool
         if (before == NAME) | body.is_empty() {
             return false;
         }
-        return !is_same(body, b"blockquote");
+        return body != BLOCKQUOTE;
     }
     is_ruled_other(before, tag, body.len())
 }

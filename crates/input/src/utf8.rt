@@ -130,14 +130,6 @@ fn is_ascii_part(s: &[u8], n: usize) -> bool
     blocks <= s.len() / 16 && is_ascii(&s[..blocks * 16])
 }
 
-// `is_utf8` for the first n bytes, however many.
-fn is_utf8_long(s: &[u8], n: usize) -> bool
-    requires { n ≤ length s.now }
-    ensures { result ≡ is_utf8 (take n s.now) }
-{
-    is_ascii_part(s, n) || is_well_formed(&s[..n])
-}
-
 // Whether the first n bytes are at most 16, and ASCII with those behind them up to 16.
 fn is_short_ascii(s: &[u8], n: usize) -> bool
     ensures { result ≡ true → every is_ascii (take n s.now) ≡ true }
@@ -154,5 +146,5 @@ pub fn is_utf8_part(s: &[u8], n: usize) -> bool
     requires { n ≤ length s.now }
     ensures { result ≡ is_utf8 (take n s.now) }
 {
-    is_short_ascii(s, n) || is_utf8_long(s, n)
+    is_short_ascii(s, n) || is_ascii_part(s, n) || is_well_formed(&s[..n])
 }

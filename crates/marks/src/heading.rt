@@ -1,27 +1,14 @@
-// heading.rs. A name is its number of specs/Names.antt.
+// heading.rs. A name is its number of `spec::element`.
 ghost use Rattle.std.specs.Prelude.{◌≡◌, ℕ};
 ghost use Rattle.spec.specs.Out.{push};
 ghost use Rattle.spec.specs.Md.Heading as def;
 ghost use Rattle.text.specs.Texts.{WritesTo};
 
+use spec::element::{H1, H2, H3, H4, H5, H6, HR};
 use text::buffer::{Full, ends_with_byte, trim_end_matches};
 use text::class::Only;
 use text::text::Text;
 use text::white_space::trim_end;
-
-const H1: usize = 5;
-
-const H2: usize = 6;
-
-const H3: usize = 7;
-
-const H4: usize = 8;
-
-const H5: usize = 9;
-
-const H6: usize = 10;
-
-const HR: usize = 15;
 
 #[tactic(auto, unfolding(spec::specs::Md::Heading::is_heading, spec::specs::Bytes::isin))]
 pub fn is_heading(name: usize) -> bool

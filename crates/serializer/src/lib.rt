@@ -50,13 +50,13 @@ use normalized::text_utils::{push_linebreak, trim_space};
 use options::PackedOpts;
 use progress::{Going, rule_block};
 use spec::ctx::{FormatOpts, ListContext};
+use spec::element::{A, CODE, HR, IMG, LI, PRE, TABLE};
 use tables::rows::{is_table_node_writable, next_filled_row, next_row};
 use tables::table::{next_cell, push_table, store_span};
 use text::buffer::{Full, Wrote};
 use text::text::Text;
 use texts::{is_blank_text, is_one_text, trim_behind_text, write_text_behind};
 use tree::attributes::attribute;
-use tree::element::{A, CODE, HR, IMG, LI, PRE, TABLE};
 use tree::nodes::{Tree, tag_at};
 
 pub mod options;

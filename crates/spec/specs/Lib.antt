@@ -7,6 +7,7 @@ pub mod Tree
 pub mod Questions
 pub mod Out
 pub mod Names
+pub mod ElementNumbers
 pub mod Md
 pub mod Levels
 pub mod SkipMd

@@ -8,7 +8,7 @@ ghost use Rattle.nodes.specs.Stands.{Siblings};
 ghost use Rattle.tables.specs.Rows.{MaybeRow, RowAt, Rows, RowsAt, SomeRow, SomeRows};
 
 use nodes::nodes::{has_element, node_name};
-use tree::element::{TABLE, TD, TH, TR};
+use spec::element::{TABLE, TD, TH, TR};
 use tree::nodes::Tree;
 
 #[tactic(auto, unfolding(spec::specs::Md::Elements::Table::is_table_cell))]

@@ -116,7 +116,7 @@ pub fn drop_front(text: &mut [u8], from: usize, n: usize)
     }
 }
 
-// Moves n bytes from `from` up to `to`.
+// Moves n bytes from `from` up to `to`. It is `copy_within` with `Lifted`, which the proofs of its callers need, as its promise.
 pub fn lift(text: &mut [u8], from: usize, n: usize, to: usize)
     requires { (from ≤ to) × (to + n ≤ length text.old) }
     ensures { Lifted text.old text.new from n to }

@@ -6,4 +6,3 @@ pub mod Accepted
 pub mod Attributes
 pub mod Nodes
 pub mod Siblings
-pub mod Names

@@ -1,14 +1,13 @@
 // The attributes of an element: those that the fields behind its opening say.
-ghost use Rattle.std.specs.Prelude.{◌≡◌, true, ◌&&◌, ◌||◌, [], ◌+◌, ◌≤◌, length, drop, eqb};
-ghost use Rattle.std.proofs.Math.Option.{some};
+ghost use Rattle.std.specs.Prelude.{◌≡◌, true, ◌&&◌, ◌||◌, [], ◌+◌, ◌≤◌, length, eqb};
 ghost use Rattle.spec.specs.Bytes.{same};
-ghost use Rattle.spec.specs.Fields.{fields};
-ghost use Rattle.spec.specs.Tree.{attr, tail};
+ghost use Rattle.spec.specs.Tree.{Tail, attr, field_then};
+ghost use Rattle.input.specs.Fields.{field};
 ghost use Rattle.tree.specs.Represents.{attrs_behind};
 ghost use Rattle.tree.specs.Attributes.{ends_attrs, either_attr, language_attr, Valued};
 
-use crate::tags::{CLOSE, COMMENT, NAME, OPEN, TEXT};
-use input::fields::{is_same, span_at};
+use input::fields::{Field, Fields, span_at};
+use input::tag::{CLOSE, COMMENT, NAME, OPEN, TEXT};
 
 // Whether no attribute stands from a field with this tag on.
 #[tactic(auto, unfolding(spec::specs::Bytes::isin))]
@@ -19,25 +18,21 @@ fn ends_attributes(tag: u8) -> bool
 }
 
 // Whether a field with these bytes is an attribute name, and one of two.
+#[tactic(auto, using(input::proofs::Splitting::same_eq))]
 fn is_named(tag: u8, name: &[u8], a: &[u8], b: &[u8]) -> bool
     ensures { result ≡ (eqb tag 2 && (same a.now name.now || same b.now name.now)) }
 {
-    tag == NAME && (is_same(a, name) || is_same(b, name))
+    tag == NAME && (a == name || b == name)
 }
 
-// The value at p, where an attribute name stands in front; no bytes where the field there is no value.
-fn value_at(s: &[u8], p: usize) -> &[u8]
-    requires { p ≤ length s.now }
-    ensures { Valued s.now (Some result) (some (tail (fields (drop p s.now))).value) }
+// The value that a field behind the name of an attribute says; no bytes where it is no value.
+fn value_of<'a>(f: Field<'a>) -> &'a [u8]
+    ensures { (t : Tail) → result.now ≡ (field_then (field f.entry) t).value }
 {
-    if s.len() - p < 3 {
-        return &s[p..p];
-    }
-    let f = span_at(s, p);
     if ends_attributes(f.tag) || f.tag == NAME {
-        return &s[p..p];
+        return &f.body[..0];
     }
-    &s[f.start..f.end]
+    f.body
 }
 
 // The value of the first attribute with one of two names, for the element that opens at `place`.
@@ -45,19 +40,15 @@ fn either_attribute<'a>(s: &'a [u8], place: usize, a: &[u8], b: &[u8]) -> Option
     requires { place + 3 ≤ length s.now }
     ensures { Valued s.now result (either_attr a.now b.now (attrs_behind s.now place)) }
 {
-    let e = span_at(s, place);
-    let mut p = e.end;
-    while 3 <= s.len() - p {
-        let f = span_at(s, p);
-        if ends_attributes(f.tag) {
-            return None;
-        }
-        if is_named(f.tag, &s[f.start..f.end], a, b) {
-            return Some(value_at(s, f.end));
-        }
-        p = f.end;
+    let mut fields = Fields::new(&s[span_at(s, place).end..]);
+    let found = fields.find(|f| ends_attributes(f.tag) || is_named(f.tag, f.body, a, b))?;
+    if ends_attributes(found.tag) {
+        return None;
     }
-    None
+    match fields.next() {
+        Some(f) => Some(value_of(f)),
+        None => Some(&[]),
+    }
 }
 
 // Whether the element that opens at `place` is known to have no attributes.

@@ -3,9 +3,7 @@
 #![tactic(auto)]
 
 pub mod attributes;
-pub mod element;
 pub mod memory;
 pub mod names;
 pub mod nodes;
 pub mod store;
-mod tags;

@@ -7,107 +7,17 @@ ghost use Rattle.spec.specs.Call.{bodies, tags_to_skip};
 ghost use Rattle.spec.specs.Md.Constants.{DEFAULT_SKIP_TAGS};
 ghost use Rattle.input.specs.Scans.{skip_of};
 ghost use Rattle.tree.specs.Nodes.{name_at, skipped_at};
-ghost use Rattle.tree.specs.Names.{number_of, Numbers};
+ghost use Rattle.spec.specs.ElementNumbers.{number_of};
 
-use crate::tags::OPEN;
-use input::fields::{Fields, is_same, span_at};
+use input::fields::{Fields, span_at};
+use input::tag::OPEN;
+use spec::element::Name;
 
 // Whether a name is one of the bytes of a run's fields.
 fn has_name(run: &[u8], name: &[u8]) -> bool
     ensures { result ≡ among name.now (bodies (fields run.now)) }
 {
-    Fields::new(run).any(|f| is_same(name, f.body))
-}
-
-// The element names that the writers know, by the numbers under which nodes store them; `Other` is every other name.
-#[derive(Clone, Copy, PartialEq, Eq, Debug)]
-pub enum Name {
-    Other = 0,
-    Article = 1,
-    Section = 2,
-    Div = 3,
-    P = 4,
-    H1 = 5,
-    H2 = 6,
-    H3 = 7,
-    H4 = 8,
-    H5 = 9,
-    H6 = 10,
-    Ul = 11,
-    Ol = 12,
-    Dl = 13,
-    Table = 14,
-    Hr = 15,
-    Li = 16,
-    Tr = 17,
-    Th = 18,
-    Td = 19,
-    Br = 20,
-    A = 21,
-    Img = 22,
-    Pre = 23,
-    Code = 24,
-    Strong = 25,
-    B = 26,
-    Em = 27,
-    I = 28,
-    Thead = 29,
-    Tbody = 30,
-}
-
-impl From<Name> for usize {
-    ghost from_gives = { λ name n. n ≡ number_of name };
-
-    fn from(name: Name) -> usize {
-        name as usize
-    }
-}
-
-// A number that no name has.
-#[derive(Clone, Copy, PartialEq, Eq, Debug)]
-pub struct UnknownNumber(pub usize);
-
-impl TryFrom<usize> for Name {
-    type Error = UnknownNumber;
-
-    ghost try_from_gives = { Numbers };
-
-    fn try_from(number: usize) -> Result<Self, UnknownNumber> {
-        match number {
-            0 => Ok(Name::Other),
-            1 => Ok(Name::Article),
-            2 => Ok(Name::Section),
-            3 => Ok(Name::Div),
-            4 => Ok(Name::P),
-            5 => Ok(Name::H1),
-            6 => Ok(Name::H2),
-            7 => Ok(Name::H3),
-            8 => Ok(Name::H4),
-            9 => Ok(Name::H5),
-            10 => Ok(Name::H6),
-            11 => Ok(Name::Ul),
-            12 => Ok(Name::Ol),
-            13 => Ok(Name::Dl),
-            14 => Ok(Name::Table),
-            15 => Ok(Name::Hr),
-            16 => Ok(Name::Li),
-            17 => Ok(Name::Tr),
-            18 => Ok(Name::Th),
-            19 => Ok(Name::Td),
-            20 => Ok(Name::Br),
-            21 => Ok(Name::A),
-            22 => Ok(Name::Img),
-            23 => Ok(Name::Pre),
-            24 => Ok(Name::Code),
-            25 => Ok(Name::Strong),
-            26 => Ok(Name::B),
-            27 => Ok(Name::Em),
-            28 => Ok(Name::I),
-            29 => Ok(Name::Thead),
-            30 => Ok(Name::Tbody),
-            _ => Err(UnknownNumber(number)),
-        }
-    }
+    Fields::new(run).any(|f| name == f.body)
 }
 
 // The element that a name means.

@@ -5,8 +5,8 @@ ghost use Rattle.tree.specs.Nodes.{text_at, PartIs, first_child, next_sibling};
 ghost use Rattle.tree.specs.Represents.{Nodes};
 
 use crate::memory::read;
-use crate::tags::TEXT;
 use input::fields::span_at;
+use input::tag::TEXT;
 use std::ops::Range;
 
 // A sheet, and the nodes of its tree in node memory.

@@ -7,8 +7,8 @@ ghost use Rattle.tree.specs.Kinds.{kind_of, Placed, FitsAs, TurnedAs, Storable};
 
 use crate::memory::{read, store};
 use crate::names::name_at;
-use crate::tags::{CLOSE, COMMENT, OPEN, TEXT};
 use input::fields::length_at;
+use input::tag::{CLOSE, COMMENT, OPEN, TEXT};
 
 // How far storing has come: the nodes begun, and the innermost open one.
 #[derive(Clone, Copy)]

@@ -1,35 +1,35 @@
-use mathlib.Core.Path.{sym, subst, ◌∙◌}
-use mathlib.Core.Option.{Option}
-use Rattle.spec.specs.Bytes.{Bytes}
-use Rattle.std.specs.Prelude.{Some}
-use Rattle.tree.specs.Attributes.{Valued}
-use Rattle.tree.proofs.Attrs.{either_ends, either_found, either_on, either_none}
-use native.Mathlib.Omega.{arith}
+use mathlib.Core.Path.{sym, ap, ◌∙◌}
+use mathlib.Core.List.{List}
+use Rattle.std.proofs.Common.{rules}
+use borrow.Author.Tests.{tests}
+use Rattle.spec.specs.Fields.{Field}
+use Rattle.spec.specs.Tree.{tail}
+use Rattle.tree.proofs.Attrs.{either_none, either_ends, either_value}
 use Rattle.tree.proofs.attributes.either_attribute.Goals as goal
+
+pub returns-in_err-found : goal.returns-in_err-found
+returns-in_err-found c =
+    let a = c.args in
+    either_none a.s.now a.place a.a.now a.b.now c.find.result c.find.new.self c.find.ensures.ran _ c.span_at.ensures.at c.new-fields.ensures (λ x t k h. search (rules, tests)) c.in_err-found.was c.from_residual.ensures
 
 pub returns-then-ends_attributes : goal.returns-then-ends_attributes
 returns-then-ends_attributes c =
-    let a = c.args in let l = c.loop-p in let h = c.span_at-f in
-    either_ends a.s.now l.p h.result (omega arith) h.ensures.at a.a.now a.b.now _ l.invariant.1
+    let a = c.args in
+    either_ends a.s.now a.place a.a.now a.b.now c.find.result c.find.new.self c.find.ensures.ran _ c.span_at.ensures.at c.new-fields.ensures (λ x t k h. search (rules, tests)) c.in_ok-found.found c.in_ok-found.was
     (sym c.ends_attributes.ensures ∙ c.if-ends_attributes.true)
 
-pub returns-then-is_named : goal.returns-then-is_named
-returns-then-is_named c =
-    let a = c.args in let l = c.loop-p in let h = c.span_at-f in
-    subst (λ (v : Option Bytes). Valued a.s.now (Some c.value_at.result) v)
-    (sym (either_found a.s.now l.p h.result (omega arith) h.ensures.at a.a.now a.b.now _ l.invariant.1
-    (sym c.is_named.ensures ∙ c.if-is_named.true)))
-    c.value_at.ensures
+pub returns-in-Some : goal.returns-in-Some
+unfolding tail
+returns-in-Some c =
+    let a = c.args in
+    either_value a.s.now a.place a.a.now a.b.now c.find.result c.find.new.self c.find.ensures.ran _ c.span_at.ensures.at c.new-fields.ensures (λ x t k h. search (rules, tests)) c.in_ok-found.found c.in_ok-found.was
+    (sym c.ends_attributes.ensures ∙ c.if-ends_attributes.false) c.value_of.result
+    (c.value_of.ensures _ ∙ ap (λ (l : List Field). (tail l).value) (sym c.in-Some.ensures.steps))
 
-pub loop-p-preserved : goal.loop-p-preserved
-loop-p-preserved c =
-    let a = c.args in let l = c.loop-p in let h = c.span_at-f in (
-      h.ensures.inside,
-      either_on a.s.now l.p h.result (omega arith) h.ensures.at a.a.now a.b.now _ l.invariant.1
-          (sym c.ends_attributes.ensures ∙ c.if-ends_attributes.false) (sym c.is_named.ensures ∙ c.if-is_named.false),
-    )
-
-pub returns : goal.returns
-returns c =
-    let a = c.args in let l = c.loop-p in
-    either_none a.s.now l.p a.a.now a.b.now _ l.invariant.1 (omega arith)
+pub returns-in-None : goal.returns-in-None
+unfolding tail
+returns-in-None c =
+    let a = c.args in
+    either_value a.s.now a.place a.a.now a.b.now c.find.result c.find.new.self c.find.ensures.ran _ c.span_at.ensures.at c.new-fields.ensures (λ x t k h. search (rules, tests)) c.in_ok-found.found c.in_ok-found.was
+    (sym c.ends_attributes.ensures ∙ c.if-ends_attributes.false) _
+    (ap (λ (l : List Field). (tail l).value) (sym c.in-None.ensures.steps.0))

@@ -1,8 +1,8 @@
 -- The element names as values, and their numbers. Assumes nothing.
 use Rattle.std.specs.Prelude.{ℕ, ◌<◌, ◌≡◌, Result, MatchResult}
-use Rattle.tree.specs.declared.names.Name.{Name}
-use Rattle.tree.specs.declared.names.Name.TheVariants.{Other, Article, Section, Div, P, H1, H2, H3, H4, H5, H6, Ul, Ol, Dl, Table, Hr, Li, Tr, Th, Td, Br, A, Img, Pre, Code, Strong, B, Em, I, Thead, Tbody}
-use Rattle.tree.specs.declared.names.UnknownNumber.{UnknownNumber}
+use Rattle.spec.specs.declared.element.Name.{Name}
+use Rattle.spec.specs.declared.element.Name.TheVariants.{Other, Article, Section, Div, P, H1, H2, H3, H4, H5, H6, Ul, Ol, Dl, Table, Hr, Li, Tr, Th, Td, Br, A, Img, Pre, Code, Strong, B, Em, I, Thead, Tbody}
+use Rattle.spec.specs.declared.element.UnknownNumber.{UnknownNumber}
 
 -- the number of a name, as `tag_of` counts them
 abbrev pub number_of : Name → ℕ
