@@ -1,6 +1,5 @@
 // The fields of a sheet or of a skip list, one after the other.
 ghost use Rattle.std.specs.Prelude.{◌≡◌, ◌+◌, ◌*◌, ◌≤◌, ◌<◌, length};
-ghost use Rattle.spec.specs.Bytes.{same};
 ghost use Rattle.spec.specs.Fields.{fields, whole};
 ghost use Rattle.std.specs.Iterator.{YieldsFirstBy, item_count};
 ghost use Rattle.input.specs.Fields.{field, fields_left};
@@ -104,11 +103,4 @@ pub fn is_whole(s: &[u8], low: u8, high: u8) -> bool
         rest = &behind[len..];
     }
     rest.is_empty()
-}
-
-// Whether two slices hold the same bytes.
-pub fn is_same(a: &[u8], b: &[u8]) -> bool
-    ensures { result ≡ same a.now b.now }
-{
-    a == b
 }

@@ -6,7 +6,6 @@ ghost use Rattle.normalized.specs.Layout.{Laid};
 
 use crate::line_start::line_sign;
 use crate::text_utils::ends_with_marker_digits;
-use input::fields::is_same;
 use spec::ctx::FormatOpts;
 use text::buffer::{ends_with_byte, ends_with_either, ends_with_white, trim_start_matches};
 use text::class::{Black, White};
@@ -22,10 +21,11 @@ pub struct Layout {
     pub last: bool,
 }
 
+#[tactic(auto, using(input::proofs::Splitting::same_eq))]
 fn is_dot(word: &[u8]) -> bool
     ensures { result ≡ same word.now (ascii ".") || same word.now (ascii ")") }
 {
-    is_same(word, b".") | is_same(word, b")")
+    word == b".".as_slice() || word == b")".as_slice()
 }
 
 // What stands before the first word, behind the text: a blank, a backslash before a `.` that would make a marker, or nothing.

@@ -9,7 +9,6 @@ ghost use Rattle.spec.specs.declared.ctx.FormatOpts as Opts;
 ghost use Rattle.text.specs.Trimmed.{Trimmed};
 ghost use Rattle.text.specs.Texts.{WritesTo};
 
-use input::fields::is_same;
 use text::buffer::{
     Full, all_in, drop_front, ends_with, ends_with_byte, ends_with_either, ends_with_white,
     trim_end_matches, trim_start_matches,
@@ -32,10 +31,11 @@ pub fn is_ordered_list_marker(chunk: &[u8]) -> bool
 }
 
 // The marker of a list item.
+#[tactic(auto, using(input::proofs::Splitting::same_eq))]
 fn is_marker(word: &[u8]) -> bool
     ensures { result ≡ same word.now (ascii "-") || (same word.now (ascii "+") || def.is_ordered_list_marker word.now) }
 {
-    is_same(word, b"-") | (is_same(word, b"+") | is_ordered_list_marker(word))
+    word == b"-".as_slice() || word == b"+".as_slice() || is_ordered_list_marker(word)
 }
 
 fn before_marker(stem: &[u8]) -> usize
