@@ -73,6 +73,7 @@ pub struct MDSerializer<'s, 'k> {
 impl<'s, 'k> MDSerializer<'s, 'k> {
     // serializer.rs: the nodes from number `from` up to `to`, siblings of one another, each with itself; `levels` falls.
     #[cycle(writers)]
+    #[inline(never)]
     pub fn write(
         &self,
         nodes: &mut [u8],
@@ -124,6 +125,7 @@ impl<'s, 'k> MDSerializer<'s, 'k> {
 
     // One node, with itself.
     #[cycle(writers)]
+    #[inline(always)]
     fn node(
         &self,
         nodes: &mut [u8],
@@ -151,6 +153,7 @@ impl<'s, 'k> MDSerializer<'s, 'k> {
 
     // What stands in an element that is opened, and its close.
     #[cycle(writers)]
+    #[inline(always)]
     fn inside(
         &self,
         nodes: &mut [u8],
@@ -168,11 +171,6 @@ impl<'s, 'k> MDSerializer<'s, 'k> {
         let name = node_name(&Tree { sheet, nodes }, at);
         let flags = bits.opts();
         if !flags.skip_md & has_writer(name, flags) {
-            // lists and tables, and the others: of two calls the compiler takes none into `write`, so that a level without a
-            // writer needs no frame for them
-            if name < A {
-                return self.write_element(nodes, text, at, name, bits, levels);
-            }
             return self.write_element(nodes, text, at, name, bits, levels);
         }
         let to = Tree { sheet, nodes }.node_end(at);
@@ -182,6 +180,7 @@ impl<'s, 'k> MDSerializer<'s, 'k> {
 
     // An element that has a writer of its own.
     #[cycle(writers)]
+    #[inline(never)]
     fn write_element(
         &self,
         nodes: &mut [u8],

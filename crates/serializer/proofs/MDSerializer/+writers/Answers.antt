@@ -689,26 +689,13 @@ pub inside-write_element-requires : goal.inside-write_element-requires
 inside-write_element-requires t c =
     (falls_in c.args.levels c.decreases (lit< tt), (c.requires.0, c.node_name-name.ensures, c.requires.1, c.requires.2))
 
-pub inside-write_element-requires-then-flags-has_writer : goal.inside-write_element-requires-then-flags-has_writer
-inside-write_element-requires-then-flags-has_writer t c =
-    (falls_in c.args.levels c.decreases (lit< tt), (c.requires.0, c.node_name-name.ensures, c.requires.1, c.requires.2))
-
-pub inside-returns-then-name-lt-A : goal.inside-returns-then-name-lt-A
-inside-returns-then-name-lt-A t c =
+pub inside-returns-then-flags-has_writer : goal.inside-returns-then-flags-has_writer
+inside-returns-then-flags-has_writer t c =
     let by_writer_here : (name : Bytes) (attrs : List Attr) (kids : Forest) (anc : Ancestors) → ElementAt c.args.self.now.sheet.now c.args.nodes.now c.args.at name attrs kids → in_element (self_at c.args.self.now.skip c.args.levels) anc (unpacked c.args.bits) name attrs kids (take c.args.text.now.len c.args.text.now.room.now) ≡ write_element (self_at c.args.self.now.skip c.args.levels) anc (unpacked c.args.bits) name attrs kids (take c.args.text.now.len c.args.text.now.room.now) = λ name attrs kids anc x. let a = c.args in let u = c.opts-flags in subst (λ (o : FormatOpts). in_element (self_at a.self.now.skip a.levels) anc o name attrs kids (take a.text.now.len a.text.now.room.now) ≡ write_element (self_at a.self.now.skip a.levels) anc o name attrs kids (take a.text.now.len a.text.now.room.now)) u.ensures (inside_writer (self_at a.self.now.skip a.levels) anc u.result name attrs kids (take a.text.now.len a.text.now.room.now) (ap (λ (k : ℕ). not u.result.skip_md && has_writer u.result k) (sym (c.node_name-name.ensures ∙ element_name x)) ∙ ap (λ (b : Bool). not u.result.skip_md && b) (sym c.has_writer.ensures) ∙ c.if-flags-has_writer.true)) in
     record {
       room = c.write_element.ensures.room;
       kept = c.write_element.ensures.kept;
       writes_element = record { for = λ name attrs kids anc x h. alike (by_writer_here _ _ _ anc x) (c.write_element.ensures.writes_element.for name attrs kids anc x h) };
-    }
-
-pub inside-returns-then-flags-has_writer : goal.inside-returns-then-flags-has_writer
-inside-returns-then-flags-has_writer t c =
-    let by_writer_here : (name : Bytes) (attrs : List Attr) (kids : Forest) (anc : Ancestors) → ElementAt c.args.self.now.sheet.now c.args.nodes.now c.args.at name attrs kids → in_element (self_at c.args.self.now.skip c.args.levels) anc (unpacked c.args.bits) name attrs kids (take c.args.text.now.len c.args.text.now.room.now) ≡ write_element (self_at c.args.self.now.skip c.args.levels) anc (unpacked c.args.bits) name attrs kids (take c.args.text.now.len c.args.text.now.room.now) = λ name attrs kids anc x. let a = c.args in let u = c.opts-flags in subst (λ (o : FormatOpts). in_element (self_at a.self.now.skip a.levels) anc o name attrs kids (take a.text.now.len a.text.now.room.now) ≡ write_element (self_at a.self.now.skip a.levels) anc o name attrs kids (take a.text.now.len a.text.now.room.now)) u.ensures (inside_writer (self_at a.self.now.skip a.levels) anc u.result name attrs kids (take a.text.now.len a.text.now.room.now) (ap (λ (k : ℕ). not u.result.skip_md && has_writer u.result k) (sym (c.node_name-name.ensures ∙ element_name x)) ∙ ap (λ (b : Bool). not u.result.skip_md && b) (sym c.has_writer.ensures) ∙ c.if-flags-has_writer.true)) in
-    record {
-      room = c.write_element-then-flags-has_writer.ensures.room;
-      kept = c.write_element-then-flags-has_writer.ensures.kept;
-      writes_element = record { for = λ name attrs kids anc x h. alike (by_writer_here _ _ _ anc x) (c.write_element-then-flags-has_writer.ensures.writes_element.for name attrs kids anc x h) };
     }
 
 pub inside-node_end-to-requires : goal.inside-node_end-to-requires
