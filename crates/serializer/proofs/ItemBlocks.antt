@@ -26,7 +26,7 @@ use Rattle.text.specs.Writes.{Writes}
 use Rattle.text.specs.Writes.{Wrote, no_room}
 use Rattle.std.specs.Prelude.{Ok}
 use Rattle.text.proofs.Temporary.{lent, back, temp_full, temp_fits}
-use Rattle.text.proofs.Writing.{Owes, owes_all, owes_step, owes_stop, owes_last, alike, done, full, reaches, then_assoc, yes, no}
+use Rattle.text.proofs.Writing.{Owes, owes_all, owes_step, owes_stop, owes_last, alike, done, full, then_assoc, yes, no}
 use Rattle.elements.specs.ItemStep.{child_opts, flow_prefix, ended_flow}
 use Rattle.serializer.specs.ListStep.{inline_step, body_step, led_step}
 use Rattle.nodes.specs.Stands.{ElementAt, Placed, Placeds, PlacedNode}
@@ -58,11 +58,6 @@ node_range {sh} {ns} {i} q p = subst (λ (e : ℕ). Placeds sh ns i e) (sym q) p
 pub named : {sh ns : Bytes} {i name : ℕ} → name ≡ name_at sh (place_at ns i) → {nm : Bytes} {attrs : List Attr} {kids : Forest} → ElementAt sh ns i nm attrs kids → name_of (element nm attrs kids nothing) ≡ name
 unfolding name_of
 named q x = sym (q ∙ element_name x)
-
--- what is written of an element stands in the memory
-pub element_reaches : {sh ns : Bytes} {i : ℕ} {step : Ancestors → Bytes → List Attr → Forest → Step} {t : Bytes} {room : ℕ} {after : Bytes} {r : Wrote} {n : ℕ} → Placed sh ns i
-    → WritesElement sh ns i step t room after r → r ≡ Ok n → n ≤ length after
-element_reaches p w q = reaches (done q (w.for p.0.0 p.0.1 p.0.2 p.1.0 p.0.3 p.1.1))
 
 -- ---- a code block
 

@@ -8,7 +8,7 @@ use lib.ListN.{get_or}
 use Rattle.spec.specs.Bytes.{Bytes}
 use Rattle.spec.specs.Tree.{Attr, Forest, nothing, text, comment, element}
 use Rattle.tree.specs.Memory.{long_at, Stored, entry_at, place_at, end_at, parent_at, Kept}
-use Rattle.tree.specs.Represents.{FieldAt, attrs_behind, Rep, Stands, Around, Holds}
+use Rattle.tree.specs.Represents.{FieldAt, attrs_behind, Rep, Around}
 use Rattle.tree.proofs.Numbers.{word_same, quad_same}
 use Rattle.spec.proofs.Order.{le_or_lt}
 
@@ -82,9 +82,6 @@ module _ {from to : ℕ} {a b : Bytes} (p : Kept from to a b) where
     subst (λ (j : ℕ). Rep sh b parent j e r) (sym (end_kept i)) (rep_kept sh parent (end_at a i) e r h.5),
   )
 
-  pub stands_kept : (sh : Bytes) (parent i e levels : ℕ) → Stands sh a parent i e levels → Stands sh b parent i e levels
-  stands_kept sh parent i e levels s = (s.0, rep_kept sh parent i e s.0 s.1, s.2)
-
   pub around_kept : (sh : Bytes) (q : ℕ) (anc : List (List Attr)) → Around sh a q anc → Around sh b q anc
   unfolding Around
   around_kept sh q [] h = h
@@ -95,12 +92,3 @@ module _ {from to : ℕ} {a b : Bytes} (p : Kept from to a b) where
     h.3 ∙ ap (attrs_behind sh) (sym (place_kept q)),
     subst (λ (j : ℕ). Around sh b j anc) (sym (parent_kept q)) (around_kept sh (parent_at a q) anc h.4),
   )
-
-  pub holds_kept : (sh : Bytes) (n : ℕ) → Holds sh a n → Holds sh b n
-  holds_kept sh n h =
-      record {
-        fits = omega (arith, p.long, h.fits);
-        root_end = end_kept 0 ∙ h.root_end;
-        root_parent = parent_kept 0 ∙ h.root_parent;
-        tree = rep_kept sh 0 1 n _ h.tree;
-      }

@@ -15,8 +15,8 @@ use Rattle.serializer.proofs.Answers.{stops_element, stops_forest, stops_row, st
 use Rattle.serializer.proofs.Dispatch.{by_list, by_link, by_img, by_pre, by_table, by_code, by_emphasis}
 use Rattle.serializer.proofs.Falls.{falls_in, falls_out}
 use Rattle.serializer.proofs.Gathered.{behind_count, behind_bytes}
-use Rattle.serializer.proofs.Goings.{stops_forest as stops_going, err_is, went, went_full, going_first, going_on, going_stop, going_last}
-use Rattle.serializer.proofs.ItemBlocks.{block_rule, block_led, fits_alike, element_reaches, body_pre, flow_none, flow_full, flow_done, node_range, indented_fits, indented_done, indented_full, child_offset, inline_none, inline_done, led_none, led_full, led_done}
+use Rattle.serializer.proofs.Goings.{stops_forest as stops_going, went, went_full, going_first, going_on, going_stop, going_last}
+use Rattle.serializer.proofs.ItemBlocks.{block_rule, block_led, fits_alike, body_pre, flow_none, flow_full, flow_done, node_range, indented_fits, indented_done, indented_full, child_offset, inline_none, inline_done, led_none, led_full, led_done}
 use Rattle.serializer.proofs.ItemChild.{block_tag_lem, alone_none, alone_inline, alone_block, child_comment, child_skipped, child_wrapper, child_alone, wrapper_kids, kids_fall, alone_falls, child_falls, goes_before}
 use Rattle.serializer.proofs.Levels.{write_some, write_none, nodes_first, nodes_none}
 use Rattle.serializer.proofs.LinkTo.{shown_text, to_image, to_body, to_text, text_grown, shown_null, null_none, null_more, link_some, link_none}
@@ -24,7 +24,7 @@ use Rattle.serializer.proofs.Lists.{fits_in, fits_blocks, falls_children, blocks
 use Rattle.serializer.proofs.NodeSteps.{inside_writer, inside_plain, some_one, kids_is, one_is, alone_element, node_text, element_skipped, element_opened}
 use Rattle.serializer.proofs.Placing.{placeds_at, node_placed, placed_node, placed_kids, placeds_first, placeds_on, placeds_later, placeds_within, node_kept, placed_alone, writes_before, node_element, alone_writes}
 use Rattle.serializer.proofs.RowWriting.{row_start, row_reach, row_long, row_end, row_placed, row_inside, row_kept, row_behind, row_later, row_writes, row_stop, row_on}
-use Rattle.serializer.proofs.RowsWriting.{rows_start, rows_reach, rows_long, rows_end, rows_row, rows_keep, rows_behind, rows_stop, rows_on}
+use Rattle.serializer.proofs.RowsWriting.{rows_start, rows_end, rows_row, rows_keep, rows_behind, rows_stop, rows_on}
 use Rattle.serializer.proofs.TableChoice.{table_written, table_flat, first_before}
 use Rattle.serializer.proofs.TableWriting.{table_at, table_full, table_done, table_sum, ends_in}
 use Rattle.serializer.proofs.Turns.{turn_first, turn_on, turn_stop, turn_last}
