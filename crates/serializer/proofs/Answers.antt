@@ -24,27 +24,13 @@ use Rattle.std.specs.Prelude.{Ok, Err, Option}
 use Rattle.std.specs.Borrow.{Bor}
 use Rattle.std.specs.Result.{IsErr}
 use Rattle.text.proofs.Temporary.{lent, back, temp_full, temp_fits}
-use Rattle.text.proofs.Writing.{done, full, reaches, Owes, owes_all, owes_step, owes_stop, owes_last, stops}
+use Rattle.text.proofs.Writing.{done, full, Owes, owes_all, owes_step, owes_stop, owes_last, stops}
 use Rattle.tables.specs.TableSteps.{RowWrites, RowsWrites}
-use Rattle.nodes.specs.Stands.{ElementAt, Placed, Placeds}
+use Rattle.nodes.specs.Stands.{ElementAt}
 use Rattle.serializer.specs.Writers.{self_at, WritesForest, WritesElement}
 use Rattle.nodes.proofs.Interrupts.{element_kids, element_name}
 use Rattle.elements.proofs.Nesting.{nest_writes}
 use Rattle.elements.proofs.Languages.{around_it}
-
--- the text that is written stands in the memory, which is as long as before
-module _ {sh ns : Bytes} {i e : ℕ} {step : Ancestors → Forest → Step} {t : Bytes} {room : ℕ} {after : Bytes} {r : Wrote} {m : ℕ}
-    (w : WritesForest sh ns i e step t room after r) (p : Placeds sh ns i e) (q : r ≡ Ok m) where
-  pub forest-reaches : m ≤ length after
-  forest-reaches = reaches (done q (w.for p.parent p.forest p.anc p.rep p.around))
-
-  pub forest-long : length after ≡ room
-  forest-long = (done q (w.for p.parent p.forest p.anc p.rep p.around)).long
-
-module _ {sh ns : Bytes} {i : ℕ} {step : Ancestors → Bytes → List Attr → Forest → Step} {t : Bytes} {room : ℕ} {after : Bytes} {r : Wrote} {m : ℕ}
-    (w : WritesElement sh ns i step t room after r) (p : Placed sh ns i) (q : r ≡ Ok m) where
-  pub written-reaches : m ≤ length after
-  written-reaches = reaches (done q (w.for p.0.0 p.0.1 p.0.2 p.1.0 p.0.3 p.1.1))
 
 -- what stands below an element is written by the serializer's `below`
 pub below-wrote : (skip : Option (Bor Bytes)) (levels : ℕ) (opts : FormatOpts) {sh ns : Bytes} {i d room : ℕ} {t after : Bytes} {r : Wrote}

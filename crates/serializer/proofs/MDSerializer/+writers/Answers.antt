@@ -6,7 +6,6 @@ use Rattle.elements.specs.EmphasisStep.{emphasis_step}
 use Rattle.elements.specs.ItemStep.{ended_list}
 use Rattle.elements.specs.LinkStep.{link_step, text_link_step}
 use Rattle.input.specs.Scans.{skip_of}
-use Rattle.tree.proofs.Values.{part_short}
 use Rattle.lists_links.specs.Items.{item_of, ended_item}
 use Rattle.nodes.proofs.Interrupts.{element_kids, element_name}
 use Rattle.nodes.specs.Stands.{Placeds}
@@ -16,11 +15,11 @@ use Rattle.serializer.proofs.Dispatch.{by_list, by_link, by_img, by_pre, by_tabl
 use Rattle.serializer.proofs.Falls.{falls_in, falls_out}
 use Rattle.serializer.proofs.Gathered.{behind_count, behind_bytes}
 use Rattle.serializer.proofs.Goings.{stops_forest as stops_going, went, went_full, going_first, going_on, going_stop, going_last}
-use Rattle.serializer.proofs.ItemBlocks.{block_rule, block_led, fits_alike, body_pre, flow_none, flow_full, flow_done, node_range, indented_fits, indented_done, indented_full, child_offset, inline_none, inline_done, led_none, led_full, led_done}
-use Rattle.serializer.proofs.ItemChild.{block_tag_lem, alone_none, alone_inline, alone_block, child_comment, child_skipped, child_wrapper, child_alone, wrapper_kids, kids_fall, alone_falls, child_falls, goes_before}
+use Rattle.serializer.proofs.ItemBlocks.{block_rule, block_led, fits_alike, body_pre, flow_none, flow_full, flow_done, node_range, indented_fits, indented_done, indented_full, inline_none, inline_done, led_none, led_full, led_done}
+use Rattle.serializer.proofs.ItemChild.{block_tag_lem, alone_none, alone_inline, alone_block, child_comment, child_skipped, child_wrapper, child_alone, wrapper_kids, kids_fall, child_falls, goes_before}
 use Rattle.serializer.proofs.Levels.{write_some, write_none, nodes_first, nodes_none}
 use Rattle.serializer.proofs.LinkTo.{shown_text, to_image, to_body, to_text, text_grown, shown_null, null_none, null_more, link_some, link_none, shown_below, no_image_below}
-use Rattle.serializer.proofs.Lists.{fits_in, fits_blocks, falls_children, blocks_parts, fits_item, item_parts, fits_plain, head_other, item_placed, head_item, fits_child, fits_behind, list_none, list_first, fits_begun, list_parts}
+use Rattle.serializer.proofs.Lists.{fits_blocks, falls_children, blocks_parts, fits_item, item_parts, head_other, item_placed, head_item, fits_child, fits_behind, list_none, list_first, fits_begun, list_parts}
 use Rattle.serializer.proofs.NodeSteps.{inside_writer, inside_plain, some_one, kids_is, one_is, alone_element, node_text, element_skipped, writer_wanted, node_goes, opened_as}
 use Rattle.serializer.proofs.Placing.{placeds_at, node_placed, placed_node, placed_kids, placeds_first, placeds_on, placeds_later, placeds_within, node_kept, placed_alone, writes_before, node_element, alone_writes, node_stands, tag_is, kept_on, kids_as}
 use Rattle.serializer.proofs.RowWriting.{row_start, row_reach, row_long, row_end, row_placed, row_inside, row_kept, row_behind, row_later, row_writes, row_stop, row_on}
@@ -86,12 +85,6 @@ alone-block-requires t c = (
   ),
 )
 
-pub alone-inline-requires : goal.alone-inline-requires
-alone-inline-requires t c = (
-  falls_in c.args.levels c.decreases (lit< tt),
-  (c.requires.0, c.node_name-name.ensures, c.requires.1, c.requires.2),
-)
-
 pub alone-returns-then-node_is_list_item_block : goal.alone-returns-then-node_is_list_item_block
 alone-returns-then-node_is_list_item_block t c =
     record {
@@ -123,10 +116,6 @@ alone-returns-in_err-due_line t c =
       kept = kept_none c.args.nodes.now;
       goes_forest = stops_going (gone_err _ _ c.from_residual.ensures.0) (alone_none c.args.self.now.sheet.now c.args.nodes.now c.args.c c.node_name-name.ensures c.requires.0.later (self_at c.args.self.now.skip c.args.levels) (item_of c.args.item) c.args.before.first c.args.before.due c.args.blank c.args.text.now.room.now c.args.text.now.len c.due_line.ensures.writes (ap (wrote c.due_line.new.text) c.in_err-due_line.was));
     }
-
-pub block-led-requires : goal.block-led-requires
-block-led-requires t c =
-    (falls_in c.args.levels c.decreases (lit< tt), c.requires)
 
 pub block-returns-then-name-eq-HR : goal.block-returns-then-name-eq-HR
 block-returns-then-name-eq-HR t c =
@@ -166,22 +155,6 @@ blocks-returns-in_err-start_item t c =
       });
       ctx_value = c.start_item.ensures.1;
     }
-
-pub blocks-node_end-to-requires : goal.blocks-node_end-to-requires
-blocks-node_end-to-requires t c =
-    (placed_node c.requires.0).inside
-
-pub blocks-start_item-requires : goal.blocks-start_item-requires
-blocks-start_item-requires t c =
-    fits_in c.args.levels c.args.ctx.now c.requires.2
-
-pub blocks-item_from-item-requires : goal.blocks-item_from-item-requires
-blocks-item_from-item-requires t c =
-    (fits_in c.args.levels c.args.ctx.now c.requires.2, c.start_item.ensures.1)
-
-pub blocks-overflow_add-c : goal.blocks-overflow_add-c
-blocks-overflow_add-c t c =
-    omega (arith, (placed_node c.requires.0).inside, c.well_formed)
 
 pub blocks-children-requires : goal.blocks-children-requires
 blocks-children-requires t c =
@@ -226,18 +199,6 @@ blocks-returns-in_err-children t c =
       ctx_value = c.start_item.ensures.1;
     }
 
-pub body-node_place-place-requires : goal.body-node_place-place-requires
-body-node_place-place-requires t c =
-    (placed_node c.requires.0).inside
-
-pub body-packed-bits-requires : goal.body-packed-bits-requires
-body-packed-bits-requires t c =
-    omega (arith, c.requires.2)
-
-pub body-kids_behind-requires : goal.body-kids_behind-requires
-body-kids_behind-requires t c =
-    (falls_in c.args.levels c.decreases (lit< tt), (c.requires.0, c.requires.1, subst (λ (o : FormatOpts). Fits o c.args.levels) (sym c.packed-bits.ensures) c.requires.2))
-
 pub body-push_link-requires : goal.body-push_link-requires
 body-push_link-requires t c =
     let p = c.requires.0 in (
@@ -272,14 +233,6 @@ body-returns-in_err-n t c =
             (nest-full a.text.now.room.now a.text.now.len c.args.text.now.fits (kids_as (self_at c.args.self.now.skip c.args.levels) c.packed-bits.ensures c.kids_behind.ensures.writes_element name attrs kids anc x h) (link_step attrs href link.text push) c.in_err-n.was);
       });
     }
-
-pub cell-packed-bits-requires : goal.cell-packed-bits-requires
-cell-packed-bits-requires t c =
-    omega (arith, subst (λ (o : FormatOpts). Fits o c.args.levels) (sym (c.table_cell.ensures ∙ ap table_cell c.fresh.ensures)) (omega (arith, c.requires.2)))
-
-pub cell-kids-requires : goal.cell-kids-requires
-cell-kids-requires t c =
-    (falls_in c.args.levels c.decreases (lit< tt), (c.requires.0, c.requires.1, subst (λ (o : FormatOpts). Fits o c.args.levels) (sym (c.packed-bits.ensures ∙ c.table_cell.ensures ∙ ap table_cell c.fresh.ensures)) (omega (arith, c.requires.2))))
 
 pub cell-returns : goal.cell-returns
 unfolding cell_text trim_trailing_cell_break
@@ -324,10 +277,6 @@ cell-returns-in_err-kids t c =
           stops c.from_residual.ensures.0 (owes_stop (owes_all a.room.now 0 (λ u. and_then (and_then (f u) trim_trailing_cell_break) escape_table_cell_inplace) (omega arith) refl) f (λ u. and_then (trim_trailing_cell_break u) escape_table_cell_inplace) (then_assoc (f (take 0 a.room.now)) trim_trailing_cell_break escape_table_cell_inplace) (ap (wrote c.kids.new.text) c.in_err-kids.was) (written _ _ _ anc x h));
     }
 
-pub cells-next_row-r-requires : goal.cells-next_row-r-requires
-cells-next_row-r-requires t c =
-    c.requires.0
-
 pub cells-loop-r-init : goal.cells-loop-r-init
 cells-loop-r-init t c =
     let a = c.args in
@@ -350,17 +299,9 @@ pub cells-next_row-r-requires-in-loop-r : goal.cells-next_row-r-requires-in-loop
 cells-next_row-r-requires-in-loop-r t c =
     rows_behind c.loop-r.invariant.1 c.loop-r-test.true c.row.ensures.kept
 
-pub cells-loop-r-smaller : goal.cells-loop-r-smaller
-cells-loop-r-smaller t c =
-    omega (arith, c.next_row-r-in-loop-r.ensures.later, c.loop-r-test.true)
-
 pub cells-loop-r-preserved : goal.cells-loop-r-preserved
 cells-loop-r-preserved t c =
     (room_on c.loop-r.invariant.0 c.row.ensures.room, rows_on c.loop-r.invariant.1 c.loop-r-test.true _ c.row.ensures.row_writes (ap (wrote c.row.new.text) c.in_ok-row.was) c.row.ensures.kept _ c.next_row-r-in-loop-r.ensures.later c.next_row-r-in-loop-r.ensures.rows)
-
-pub cells-shape_of-nodes : goal.cells-shape_of-nodes
-cells-shape_of-nodes t c =
-    c.loop-r.invariant.1.kept.long
 
 pub cells-returns : goal.cells-returns
 cells-returns t c =
@@ -382,17 +323,9 @@ pub child-node_is_skipped-requires : goal.child-node_is_skipped-requires
 child-node_is_skipped-requires t c =
     node_stands c.requires.0
 
-pub child-node_is_block_wrapper-requires : goal.child-node_is_block_wrapper-requires
-child-node_is_block_wrapper-requires t c =
-    let a = c.requires.0 in (_, a.later, (a.alone.parent, a.alone.forest, a.alone.rep))
-
 pub child-node_end-end-requires : goal.child-node_end-end-requires
 child-node_end-end-requires t c =
     (node_stands c.requires.0).inside
-
-pub child-overflow_add-c : goal.child-overflow_add-c
-child-overflow_add-c t c =
-    omega (arith, c.node_end-end.ensures, c.requires.0.later)
 
 pub child-children-requires : goal.child-children-requires
 child-children-requires t c = (
@@ -403,10 +336,6 @@ child-children-requires t c = (
 pub child-is_blank_text-blank-requires : goal.child-is_blank_text-blank-requires
 child-is_blank_text-blank-requires t c =
     omega (arith, c.node_place-place.ensures, (node_stands c.requires.0).placed)
-
-pub child-alone-requires : goal.child-alone-requires
-child-alone-requires t c =
-    (alone_falls c.args.levels c.args.c c.args.to c.decreases, (c.requires.0, c.requires.2, c.requires.3))
 
 pub child-returns-then-tag : goal.child-returns-then-tag
 child-returns-then-tag t c =
@@ -497,10 +426,6 @@ children-returns t c =
       goes_forest = record { for = λ parent f anc h a. going_last c.loop-c.invariant.4 c.loop-c-test.false parent f anc h a };
     }
 
-pub flat-start_item-requires : goal.flat-start_item-requires
-flat-start_item-requires t c =
-    fits_in c.args.levels c.args.ctx.now c.requires.2
-
 pub flat-packed-bits-requires : goal.flat-packed-bits-requires
 flat-packed-bits-requires t c =
     omega (arith, fits_item c.args.levels c.args.ctx.now c.start_item.new.ctx c.list_item.result c.start_item.ensures.1 c.list_item.ensures c.requires.2)
@@ -547,24 +472,6 @@ flat-returns-in_err-start_item t c =
       ctx_value = c.start_item.ensures.1;
     }
 
-pub flow-indented-requires : goal.flow-indented-requires
-flow-indented-requires t c =
-    (falls_in c.args.levels c.decreases (lit< tt), (c.requires.0, c.requires.2, c.requires.3))
-
-pub flow-packed-bits-requires : goal.flow-packed-bits-requires
-flow-packed-bits-requires t c =
-    omega (arith, fits_alike c.list_item.result c.args.item.ctx.opts c.args.levels (ap (λ (o : FormatOpts). o.offset) c.list_item.ensures) c.requires.3.0)
-
-pub flow-kids-requires : goal.flow-kids-requires
-flow-kids-requires t c = (
-  falls_in c.args.levels c.decreases (lit< tt),
-  (
-    c.requires.0,
-    c.requires.2,
-    fits_alike (unpacked c.packed-bits.result) c.args.item.ctx.opts c.args.levels (ap (λ (o : FormatOpts). o.offset) (c.packed-bits.ensures ∙ c.list_item.ensures)) c.requires.3.0,
-  ),
-)
-
 pub flow-returns-then-name-eq-PRE : goal.flow-returns-then-name-eq-PRE
 flow-returns-then-name-eq-PRE t c =
     record {
@@ -596,14 +503,6 @@ flow-returns-in_err-push_heading_prefix t c =
       kept = kept_none c.args.nodes.now;
       writes_element = stops_element (wrote_err _ _ c.from_residual.ensures.0) (flow_none c.args.self.now.sheet.now c.args.nodes.now c.args.c c.requires.1 (self_at c.args.self.now.skip c.args.levels) (item_of c.args.item) c.if-name-eq-PRE.false c.args.text.now.room.now c.args.text.now.len c.args.text.now.fits c.push_heading_prefix.ensures.writes (ap (wrote c.push_heading_prefix.new.text) c.in_err-push_heading_prefix.was));
     }
-
-pub indented-node_end-to-requires : goal.indented-node_end-to-requires
-indented-node_end-to-requires t c =
-    (placed_node c.requires.0).inside
-
-pub indented-packed-bits-requires : goal.indented-packed-bits-requires
-indented-packed-bits-requires t c =
-    omega (arith, fits_alike c.include_node.result c.args.item.ctx.opts c.args.levels (ap (λ (o : FormatOpts). o.offset) c.include_node.ensures) c.requires.2.0)
 
 pub indented-write_behind-requires : goal.indented-write_behind-requires
 indented-write_behind-requires t c = (
@@ -639,20 +538,6 @@ pub inline-node_end-to-requires : goal.inline-node_end-to-requires
 inline-node_end-to-requires t c =
     (node_stands c.requires.0).inside
 
-pub inline-packed-bits-requires : goal.inline-packed-bits-requires
-inline-packed-bits-requires t c =
-    omega (arith, fits_alike c.child_opts.result c.args.item.ctx.opts c.args.levels (ap (λ (o : FormatOpts). o.offset) c.child_opts.ensures ∙ child_offset c.args.name c.args.item.ctx.opts) c.requires.3.0)
-
-pub inline-write-requires : goal.inline-write-requires
-inline-write-requires t c = (
-  falls_in c.args.levels c.decreases (lit< tt),
-  (
-    node_range c.node_end-to.ensures c.requires.0,
-    c.requires.2,
-    fits_alike (unpacked c.packed-bits.result) c.args.item.ctx.opts c.args.levels (ap (λ (o : FormatOpts). o.offset) (c.packed-bits.ensures ∙ c.child_opts.ensures) ∙ child_offset c.args.name c.args.item.ctx.opts) c.requires.3.0,
-  ),
-)
-
 pub inline-returns : goal.inline-returns
 inline-returns t c =
     record {
@@ -669,18 +554,6 @@ inline-returns-in_err-push_inline_lead t c =
       writes_forest = stops_forest (wrote_err _ _ c.from_residual.ensures.0) (inline_none c.args.self.now.sheet.now c.args.nodes.now c.args.c c.requires.1 (tags_to_skip (skip_of c.args.self.now.skip)) c.args.levels (item_of c.args.item) c.args.blank c.requires.0.later c.args.text.now.room.now c.args.text.now.len c.args.text.now.fits c.push_inline_lead.ensures.writes (ap (wrote c.push_inline_lead.new.text) c.in_err-push_inline_lead.was));
     }
 
-pub inside-node_name-name-requires : goal.inside-node_name-name-requires
-inside-node_name-name-requires t c =
-    placed_node c.requires.0
-
-pub inside-write_element-requires : goal.inside-write_element-requires
-inside-write_element-requires t c =
-    (falls_in c.args.levels c.decreases (lit< tt), (c.requires.0, c.node_name-name.ensures, c.requires.1, c.requires.2))
-
-pub inside-write_element-requires-then-flags-has_writer : goal.inside-write_element-requires-then-flags-has_writer
-inside-write_element-requires-then-flags-has_writer t c =
-    (falls_in c.args.levels c.decreases (lit< tt), (c.requires.0, c.node_name-name.ensures, c.requires.1, c.requires.2))
-
 pub inside-returns-then-name-lt-A : goal.inside-returns-then-name-lt-A
 inside-returns-then-name-lt-A t c =
     record {
@@ -696,14 +569,6 @@ inside-returns-then-flags-has_writer t c =
       kept = c.write_element-then-flags-has_writer.ensures.kept;
       writes_element = record { for = λ name attrs kids anc x h. alike (inside_writer (self_at c.args.self.now.skip c.args.levels) anc (unpacked c.args.bits) name attrs kids (bytes c.args.text.now) (writer_wanted name c.unpacked-flags.ensures (c.node_name-name.ensures ∙ element_name x) c.has_writer.ensures c.if-flags-has_writer.true)) (c.write_element-then-flags-has_writer.ensures.writes_element.for name attrs kids anc x h) };
     }
-
-pub inside-node_end-to-requires : goal.inside-node_end-to-requires
-inside-node_end-to-requires t c =
-    (placed_node c.requires.0).inside
-
-pub inside-overflow_add-at : goal.inside-overflow_add-at
-inside-overflow_add-at t c =
-    omega (arith, (placed_node c.requires.0).inside, c.well_formed)
 
 pub inside-siblings-requires : goal.inside-siblings-requires
 inside-siblings-requires t c =
@@ -733,14 +598,6 @@ pub item-node_end-to-requires : goal.item-node_end-to-requires
 item-node_end-to-requires t c =
     (node_stands c.requires.0).inside
 
-pub item-packed-requires : goal.item-packed-requires
-item-packed-requires t c =
-    omega (arith, fits_plain c.args.levels c.args.ctx.now c.include_node-inner.result (c.include_node-inner.ensures ∙ ap include_node c.fresh.ensures) c.requires.3)
-
-pub item-write-requires : goal.item-write-requires
-item-write-requires t c =
-    (falls_in c.args.levels c.decreases (lit< tt), (subst (λ (e : ℕ). Placeds c.args.self.now.sheet.now c.args.nodes.now c.args.c e) (sym c.node_end-to.ensures) c.requires.0.alone, c.requires.2, fits_plain c.args.levels c.args.ctx.now (unpacked c.packed.result) (c.packed.ensures ∙ (c.include_node-inner.ensures ∙ ap include_node c.fresh.ensures)) c.requires.3))
-
 pub item-returns-then-not-li : goal.item-returns-then-not-li
 item-returns-then-not-li t c =
     let a = c.args in
@@ -755,10 +612,6 @@ item-returns-then-not-li t c =
       };
       ctx_value = sym (ap (λ (b : Bool). cond b (advance_ol_number a.ctx.now) a.ctx.now) (c.if-not-li.true));
     }
-
-pub item-overflow_add-c : goal.item-overflow_add-c
-item-overflow_add-c t c =
-    omega (arith, (node_stands c.requires.0).inside, c.well_formed)
 
 pub item-has_blocks-requires : goal.item-has_blocks-requires
 item-has_blocks-requires t c =
@@ -865,22 +718,10 @@ items-returns t c =
       };
     }
 
-pub kids-node_end-to-requires : goal.kids-node_end-to-requires
-kids-node_end-to-requires t c =
-    (placed_node c.requires.0).inside
-
-pub kids-overflow_add-at : goal.kids-overflow_add-at
-kids-overflow_add-at t c =
-    omega (arith, (placed_node c.requires.0).inside, c.well_formed)
-
 pub kids-is_one_text-requires : goal.kids-is_one_text-requires
 kids-is_one_text-requires t c =
     let p = placed_kids c.requires.0 c.node_end-to.ensures in
     (rep_le c.args.self.now.sheet.now c.args.nodes.now p.parent (c.args.at + 1) c.node_end-to.result p.forest p.rep, λ l. placeds_at p l)
-
-pub kids-overflow_add-at-then-levels-is_one_text : goal.kids-overflow_add-at-then-levels-is_one_text
-kids-overflow_add-at-then-levels-is_one_text t c =
-    omega (arith, (placed_node c.requires.0).inside, c.well_formed)
 
 pub kids-trim_behind_text-requires : goal.kids-trim_behind_text-requires
 kids-trim_behind_text-requires t c =
@@ -905,10 +746,6 @@ kids-returns-then-levels-is_one_text t c =
       };
     }
 
-pub kids-overflow_add-at-2 : goal.kids-overflow_add-at-2
-kids-overflow_add-at-2 t c =
-    omega (arith, (placed_node c.requires.0).inside, c.well_formed)
-
 pub kids-write-requires : goal.kids-write-requires
 kids-write-requires t c =
     (falls_in c.args.levels c.decreases (lit< tt), (placed_kids c.requires.0 c.node_end-to.ensures, c.requires.1, c.requires.2))
@@ -928,12 +765,6 @@ kids-returns t c =
       kept = kept_in (omega arith) (omega (arith, c.node_end-to.ensures)) c.write.ensures.kept;
       writes_element = record { for = λ name attrs kids anc x h. both-done a.text.now.room.now a.text.now.len c.args.text.now.fits (write_kids (self_at a.self.now.skip a.levels) anc (unpacked a.bits) (element name attrs kids nothing)) ((self_at a.self.now.skip a.levels).below (attrs ∷ anc) (unpacked a.bits) kids) trim_space (kids_is (self_at a.self.now.skip a.levels) anc (unpacked a.bits) name attrs kids (take a.text.now.len a.text.now.room.now)) (below-wrote a.self.now.skip a.levels (unpacked a.bits) anc x h c.node_end-to.ensures c.write.ensures.writes_forest) (ap (wrote c.write.new.text) c.in_ok-write.was) c.trim_space.ensures.writes };
     }
-
-pub led-flow-requires : goal.led-flow-requires
-led-flow-requires t c = (
-  falls_in c.args.levels c.decreases (lit< tt),
-  (c.requires.0, c.requires.1, c.requires.2, c.requires.3),
-)
 
 pub led-returns : goal.led-returns
 led-returns t c =
@@ -959,27 +790,6 @@ led-returns-in_err-push_block_lead t c =
       writes_element = stops_element (wrote_err _ _ c.from_residual.ensures.0) (led_none c.args.self.now.sheet.now c.args.nodes.now c.args.c c.requires.1 (self_at c.args.self.now.skip c.args.levels) (item_of c.args.item) c.args.first c.args.text.now.room.now c.args.text.now.len c.args.text.now.fits c.push_block_lead.ensures.writes (ap (wrote c.push_block_lead.new.text) c.in_err-push_block_lead.was));
     }
 
-pub link-node_end-end-requires : goal.link-node_end-end-requires
-link-node_end-end-requires t c =
-    (placed_node c.requires.0).inside
-
-pub link-overflow_add-at : goal.link-overflow_add-at
-link-overflow_add-at t c =
-    omega (arith, (placed_node c.requires.0).inside, c.well_formed)
-
-pub link-overflow_add-at-2 : goal.link-overflow_add-at-2
-link-overflow_add-at-2 t c =
-    omega (arith, (placed_node c.requires.0).inside, c.well_formed)
-
-pub link-has_element-requires : goal.link-has_element-requires
-link-has_element-requires t c =
-    let k = placed_kids c.requires.0 c.node_end-end.ensures in
-    ((k.parent, k.forest, k.rep), lit< tt)
-
-pub link-body-requires : goal.link-body-requires
-link-body-requires t c =
-    (falls_in c.args.levels c.decreases (lit< tt), (c.requires.0, c.requires.1, subst (λ (o : FormatOpts). Fits o c.args.levels) (sym (c.link_body.ensures ∙ ap link_body c.fresh-fresh.ensures)) (omega (arith, c.requires.2)), c.requires.3))
-
 pub link-returns-then-has_element : goal.link-returns-then-has_element
 link-returns-then-has_element t c =
     let a = c.args in
@@ -992,11 +802,6 @@ link-returns-then-has_element t c =
             (subst (λ (o : FormatOpts). Writes (length a.text.now.room.now) c.body.new.text.room.now (wrote c.body.new.text c.body.result) (link_of attrs href (write_kids (self_at a.self.now.skip a.levels) anc o (element name attrs kids nothing) []) push (take a.text.now.len a.text.now.room.now))) (c.link_body.ensures ∙ ap link_body c.fresh-fresh.ensures) (c.body.ensures.writes_element.for name attrs kids anc x h));
       };
     }
-
-pub link-write_text_behind-requires : goal.link-write_text_behind-requires
-link-write_text_behind-requires t c =
-    let k = placed_kids c.requires.0 c.node_end-end.ensures in
-    (k.parent, k.forest, k.rep)
 
 pub link-body-requires-then-n-eq0 : goal.link-body-requires-then-n-eq0
 link-body-requires-then-n-eq0 t c =
@@ -1022,16 +827,6 @@ link-returns-then-n-eq0 t c =
             (subst (λ (o : FormatOpts). Writes (length (back a.text.now.room.now a.text.now.len c.write_text_behind.new.room)) c.body-then-n-eq0.new.text.room.now (wrote c.body-then-n-eq0.new.text c.body-then-n-eq0.result) (link_of attrs href (write_kids (self_at a.self.now.skip a.levels) anc o (element name attrs kids nothing) []) push (take a.text.now.len (back a.text.now.room.now a.text.now.len c.write_text_behind.new.room)))) c.fresh-fresh.ensures (c.body-then-n-eq0.ensures.writes_element.for name attrs kids anc x h)));
       };
     }
-
-pub link-node_place-place-requires : goal.link-node_place-place-requires
-link-node_place-place-requires t c =
-    (placed_node c.requires.0).inside
-
-pub link-push_text_link-requires : goal.link-push_text_link-requires
-link-push_text_link-requires t c =
-    let written = shown_below c.args.opts c.fresh-fresh.ensures c.include_node.ensures c.skip_escape-plain.ensures c.node_end-end.ensures c.write_text_behind.ensures in
-    let p = c.requires.0 in
-    (nest-fits c.args.text.now.room.now c.args.text.now.len c.args.text.now.fits (written _ _ _ p.0.3) c.in_ok-n.was, omega (arith, c.node_place-place.ensures, (placed_node p).placed), c.requires.3)
 
 pub link-returns : goal.link-returns
 link-returns t c =
@@ -1148,20 +943,6 @@ node-returns-in_err-opened t c =
       });
     }
 
-pub row-node_end-to-requires : goal.row-node_end-to-requires
-row-node_end-to-requires t c =
-    c.requires.0.1.is_element.inside
-
-pub row-overflow_add-tr : goal.row-overflow_add-tr
-row-overflow_add-tr t c =
-    let x = c.requires.0.1 in
-    omega (arith, rep_le c.args.self.now.sheet.now c.args.nodes.now c.args.tr (c.args.tr + 1) (end_at c.args.nodes.now c.args.tr) x.kids x.is_element.kids_are, c.node_end-to.ensures)
-
-pub row-next_cell-c-requires : goal.row-next_cell-c-requires
-row-next_cell-c-requires t c =
-    let x = c.requires.0.1 in
-    (c.args.tr, x.kids, subst (λ (j : ℕ). Rep c.args.self.now.sheet.now c.args.nodes.now c.args.tr (c.args.tr + 1) j x.kids) (sym c.node_end-to.ensures) x.is_element.kids_are)
-
 pub row-loop-c-init : goal.row-loop-c-init
 row-loop-c-init t c =
     let a = c.args in
@@ -1207,10 +988,6 @@ row-loop-c-preserved t c =
     let p = c.loop-c.invariant.1 in
     (room_on c.loop-c.invariant.0 (room_behind _ refl refl c.cell.auto.room), row_on p c.loop-c-test.true (row_writes p c.loop-c-test.true c.cell.ensures.writes) c.in_ok-n.was c.cell.ensures.kept c.store_span.ensures.0 c.store_span.ensures.2 c.node_end-after.ensures c.next_cell-c-in-loop-c.ensures.later c.next_cell-c-in-loop-c.ensures.cells)
 
-pub row-shape_of-nodes : goal.row-shape_of-nodes
-row-shape_of-nodes t c =
-    c.loop-c.invariant.1.kept.long
-
 pub row-returns : goal.row-returns
 row-returns t c =
     record {
@@ -1245,10 +1022,6 @@ siblings-returns-then-levels-is_one_text t c =
       };
     }
 
-pub siblings-write-requires : goal.siblings-write-requires
-siblings-write-requires t c =
-    (falls_in c.args.levels c.decreases (lit< tt), c.requires)
-
 pub siblings-returns : goal.siblings-returns
 siblings-returns t c =
     c.write.ensures
@@ -1269,10 +1042,6 @@ write-loop-at-init t c = (
   c.requires.0,
   turn_first c.args.self.now.sheet.now c.args.nodes.now c.args.from c.args.to (λ anc f. write_nodes (self_at c.args.self.now.skip (c.args.levels - 1)) anc (unpacked c.args.bits) f) c.args.text.now.room.now c.args.text.now.len c.args.text.now.fits,
 )
-
-pub write-overflow_sub-levels : goal.write-overflow_sub-levels
-write-overflow_sub-levels t c =
-    omega (arith, c.if-levels-eq0.false)
 
 pub write-node-requires : goal.write-node-requires
 write-node-requires t c =
@@ -1324,11 +1093,6 @@ write-returns t c =
       };
     }
 
-pub write_element-write_list-requires : goal.write_element-write_list-requires
-write_element-write_list-requires t c =
-    let u = c.unpacked-opts in
-    (falls_in c.args.levels c.decreases (lit< tt), (c.requires.0, c.requires.1, c.requires.2, subst (λ (o : FormatOpts). Fits o (c.args.levels + 1)) (sym u.ensures) c.requires.3))
-
 pub write_element-returns-then-is_list : goal.write_element-returns-then-is_list
 write_element-returns-then-is_list t c =
     let u = c.unpacked-opts in
@@ -1341,18 +1105,6 @@ write_element-returns-then-is_list t c =
             (by_list (self_at a.self.now.skip a.levels) anc u.result name attrs kids (take a.text.now.len a.text.now.room.now) (c.requires.1 ∙ element_name x) (sym c.is_list.ensures ∙ c.if-is_list.true)) (c.write_list.ensures.writes_element.for name attrs kids anc x h);
       };
     }
-
-pub write_emphasis-node_end-to-requires : goal.write_emphasis-node_end-to-requires
-write_emphasis-node_end-to-requires t c =
-    (placed_node c.requires.0).inside
-
-pub write_emphasis-overflow_add-at : goal.write_emphasis-overflow_add-at
-write_emphasis-overflow_add-at t c =
-    omega (arith, (placed_node c.requires.0).inside, c.well_formed)
-
-pub write_emphasis-packed-bits-requires : goal.write_emphasis-packed-bits-requires
-write_emphasis-packed-bits-requires t c =
-    omega (arith, subst (λ (o : FormatOpts). Fits o c.args.levels) (sym c.emphasis_opts.ensures) (omega (arith, c.requires.3)))
 
 pub write_emphasis-write_behind-requires : goal.write_emphasis-write_behind-requires
 write_emphasis-write_behind-requires t c = (
@@ -1395,19 +1147,6 @@ write_emphasis-returns-in_err-n t c =
       });
     }
 
-pub write_link-node_place-place-requires : goal.write_link-node_place-place-requires
-write_link-node_place-place-requires t c =
-    (placed_node c.requires.0).inside
-
-pub write_link-attribute-requires : goal.write_link-attribute-requires
-write_link-attribute-requires t c =
-    omega (arith, c.node_place-place.ensures, (placed_node c.requires.0).placed)
-
-pub write_link-link-requires : goal.write_link-link-requires
-write_link-link-requires t c =
-    let k = c.in-Some.ensures in
-    (falls_in c.args.levels c.decreases (lit< tt), (c.requires.0, c.requires.1, c.requires.2, omega (arith, part_short c.args.self.now.sheet.now c.in-Some.dest.now k.inside, c.requires.1)))
-
 pub write_link-returns-in-Some : goal.write_link-returns-in-Some
 write_link-returns-in-Some t c =
     let a = c.args in
@@ -1421,14 +1160,6 @@ write_link-returns-in-Some t c =
       };
     }
 
-pub write_link-packed-requires : goal.write_link-packed-requires
-write_link-packed-requires t c =
-    omega (arith, subst (λ (o : FormatOpts). Fits o c.args.levels) (sym c.fresh.ensures) (omega (arith, c.requires.2)))
-
-pub write_link-kids-requires : goal.write_link-kids-requires
-write_link-kids-requires t c =
-    (falls_in c.args.levels c.decreases (lit< tt), (c.requires.0, c.requires.1, subst (λ (o : FormatOpts). Fits o c.args.levels) (sym (c.packed.ensures ∙ c.fresh.ensures)) (omega (arith, c.requires.2))))
-
 pub write_link-returns-in-None : goal.write_link-returns-in-None
 write_link-returns-in-None t c =
     let a = c.args in record {
@@ -1441,26 +1172,6 @@ write_link-returns-in-None t c =
             (kids_as (self_at c.args.self.now.skip c.args.levels) (c.packed.ensures ∙ c.fresh.ensures) c.kids.ensures.writes_element name attrs kids anc x h);
       };
     }
-
-pub write_list-node_place-place-requires : goal.write_list-node_place-place-requires
-write_list-node_place-place-requires t c =
-    (placed_node c.requires.0).inside
-
-pub write_list-node_end-to-requires : goal.write_list-node_end-to-requires
-write_list-node_end-to-requires t c =
-    (placed_node c.requires.0).inside
-
-pub write_list-kind_of-kind-requires : goal.write_list-kind_of-kind-requires
-write_list-kind_of-kind-requires t c =
-    omega (arith, c.node_place-place.ensures, (placed_node c.requires.0).placed)
-
-pub write_list-new-ctx-requires : goal.write_list-new-ctx-requires
-write_list-new-ctx-requires t c =
-    omega (arith, c.requires.3)
-
-pub write_list-overflow_add-at : goal.write_list-overflow_add-at
-write_list-overflow_add-at t c =
-    omega (arith, (placed_node c.requires.0).inside, c.well_formed)
 
 pub write_list-items-requires : goal.write_list-items-requires
 write_list-items-requires t c =
@@ -1494,18 +1205,6 @@ write_list-returns-in_err-items t c =
       });
     }
 
-pub write_table-node_end-to-requires : goal.write_table-node_end-to-requires
-write_table-node_end-to-requires t c =
-    (placed_node c.requires.0).inside
-
-pub write_table-overflow_add-at : goal.write_table-overflow_add-at
-write_table-overflow_add-at t c =
-    omega (arith, (placed_node c.requires.0).inside, c.well_formed)
-
-pub write_table-overflow_add-at-2 : goal.write_table-overflow_add-at-2
-write_table-overflow_add-at-2 t c =
-    omega (arith, (placed_node c.requires.0).inside, c.well_formed)
-
 pub write_table-next_filled_row-first-requires : goal.write_table-next_filled_row-first-requires
 write_table-next_filled_row-first-requires t c =
     let rows = rows_below c.args.self.now.sheet.now c.node_end-to.ensures in
@@ -1518,14 +1217,6 @@ write_table-is_table_node_writable-requires t c =
     let p = c.requires.0 in
     let k = placed_kids p c.node_end-to.ensures in
     ((k.parent, k.forest, k.rep), (from_cells (rows_of (p.0.1 ∷ p.1.0) p.0.2), filled _ _ _ p.1.0 p.0.3 p.1.1))
-
-pub write_table-packed-requires : goal.write_table-packed-requires
-write_table-packed-requires t c =
-    omega (arith, subst (λ (o : FormatOpts). Fits o c.args.levels) (sym c.fresh.ensures) (omega (arith, c.requires.2)))
-
-pub write_table-kids-requires : goal.write_table-kids-requires
-write_table-kids-requires t c =
-    (falls_in c.args.levels c.decreases (lit< tt), (c.requires.0, c.requires.1, subst (λ (o : FormatOpts). Fits o c.args.levels) (sym (c.packed.ensures ∙ c.fresh.ensures)) (omega (arith, c.requires.2))))
 
 pub write_table-returns-then-not-is_table_node_writable : goal.write_table-returns-then-not-is_table_node_writable
 write_table-returns-then-not-is_table_node_writable t c =
