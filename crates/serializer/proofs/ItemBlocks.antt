@@ -2,7 +2,7 @@
 use Prim.Native.Nat.{ℕ, ◌+◌, ◌≤◌, ◌<◌}
 use native.Mathlib.Omega.{arith}
 use mathlib.Core.Path.{◌≡◌, refl, ap, sym, subst, ◌∙◌}
-use mathlib.Core.Bool.{Bool, true, false, cond, ◌||◌}
+use mathlib.Core.Bool.{Bool, false, ◌||◌}
 use mathlib.Core.List.{List, []}
 use lib.Dec.{eqb}
 use lib.ListN.{length, take, drop}
@@ -14,7 +14,6 @@ use Rattle.spec.specs.Md.Ctx.{include_node, list_item, break_of}
 use Rattle.spec.specs.Md.LineBreak.{linebreak}
 use Rattle.spec.specs.Md.MDSerializer.{Ancestors, MDSerializer, write, write_kids}
 use Rattle.spec.specs.Md.Serializer.{write_at, serializer}
-use Rattle.spec.specs.Md.Elements.Blocks.{is_list}
 use Rattle.spec.specs.Md.Elements.List.{Item, going, name_of, block_lead, flow_block, block_child, rule_block, write_list_item_indented}
 use Rattle.spec.specs.declared.ctx.FormatOpts.{FormatOpts}
 use Rattle.tree.specs.Memory.{place_at, end_at, parent_at}
@@ -42,13 +41,6 @@ use Rattle.serializer.proofs.Placing.{element_alone}
 -- options with the same offset fit alike
 pub fits_alike : (o p : FormatOpts) (levels : ℕ) → o.offset ≡ p.offset → Fits p levels → Fits o levels
 fits_alike o p levels q l = omega (arith, q, l)
-
-pub child_offset : (name : ℕ) (opts : FormatOpts) → (child_opts name opts).offset ≡ opts.offset
-child_offset name opts = go (is_list name)
-  where
-    go : (b : Bool) → (include_node (cond b opts (list_item opts))).offset ≡ opts.offset
-    go true = refl
-    go false = refl
 
 -- the node itself, where it ends at `to`
 pub node_range : {sh ns : Bytes} {i to : ℕ} → to ≡ end_at ns i → PlacedNode sh ns i → Placeds sh ns i to

@@ -1,5 +1,5 @@
 -- What the access functions find at the first node of a forest: its name, whether it is skipped, and its text. Assumes nothing.
-use Prim.Native.Nat.{ℕ, ◌-◌, ◌<◌}
+use Prim.Native.Nat.{ℕ, ◌<◌}
 use native.Mathlib.Omega.{arith}
 use mathlib.Core.Path.{◌≡◌, ap, sym}
 use mathlib.Core.List.{List}
@@ -12,7 +12,7 @@ use Rattle.spec.specs.Md.Elements.List.{name_of}
 use Rattle.tree.specs.Memory.{place_at}
 use Rattle.tree.specs.Represents.{Rep}
 use Rattle.tree.specs.Nodes.{body_at, name_at, skipped_at, text_at}
-use Rattle.tree.proofs.Firsts.{first, its_tag, its_body}
+use Rattle.tree.proofs.Firsts.{its_tag, its_body}
 
 -- the number of its name
 pub first_name : (sh ns : Bytes) (parent i e : ℕ) (f : Forest) → Rep sh ns parent i e f → i < e → name_at sh (place_at ns i) ≡ name_of f

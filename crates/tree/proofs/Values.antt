@@ -4,7 +4,7 @@ use mathlib.Core.Path.{◌≡◌, refl, ap, ◌∙◌, sym}
 use mathlib.Core.Bool.{Bool, true, false, cond, ◌||◌, or-false, or_self}
 use mathlib.Core.List.{List, [], ◌∷◌}
 use mathlib.Core.Option.{Option, some, map}
-use lib.ListN.{length, take, drop, length-take, length-drop}
+use lib.ListN.{length, take, drop, length-drop}
 use lib.Seq.{length-take-le, take-take, drop-drop}
 use Rattle.std.proofs.lemmas.List.{drop-take}
 use native.Mathlib.Omega.{arith}
@@ -21,9 +21,6 @@ module _ {sh : Bytes} {r : Answer (Bor Bytes)} {v : Option Bytes} (h : Valued sh
   valued_as e = record { inside = h.inside; value_is = sym e ∙ h.value_is }
 
 -- ---- parts of the sheet
-
-pub part_short : (sh x : Bytes) → PartOf sh x → length x ≤ length sh
-part_short sh x p = omega (arith, ap length p.4, length-take (p.1 - p.0) (drop p.0 sh), length-drop p.0 sh)
 
 -- the bytes from a up to b of a part
 pub part_of_part : (sh x : Bytes) (a b : ℕ) → PartOf sh x → a ≤ b → b ≤ length x → PartOf sh (take (b - a) (drop a x))
