@@ -7,9 +7,6 @@ use Rattle.tables.proofs.RowTests.{some_row, filled_here, filled_on}
 use Rattle.tables.proofs.rows.next_filled_row.Goals.{else-node_name-eq-TR-via-then-node_name-eq-TR+else-count_cells-ne0, else-node_name-eq-TR-via-else-node_name-eq-TR}
 use Rattle.tables.proofs.rows.next_filled_row.Goals as goal
 
-pub loop-r-init : goal.loop-r-init
-loop-r-init c = (omega arith, λ rows x. (rows, x, refl))
-
 pub node_name-requires : goal.node_name-requires
 node_name-requires c =
     let q = c.loop-r.invariant.1 c.requires.0 c.requires.1 in
