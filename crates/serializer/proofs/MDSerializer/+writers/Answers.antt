@@ -122,7 +122,7 @@ block-returns-then-name-eq-HR t c =
     record {
       room = c.rule_block.ensures.room;
       kept = kept_none c.args.nodes.now;
-      goes_element = block_rule c.args.self.now.sheet.now c.args.nodes.now c.args.c c.requires.1 (self_at c.args.self.now.skip c.args.levels) (item_of c.args.item) c.args.before.first c.args.before.due (take c.args.text.now.len c.args.text.now.room.now) c.if-name-eq-HR.true c.rule_block.ensures.goes;
+      goes_element = block_rule c.args.self.now.sheet.now c.args.nodes.now c.args.c c.requires.1 (self_at c.args.self.now.skip c.args.levels) (item_of c.args.item) c.args.before.first c.args.before.due (bytes c.args.text.now) c.if-name-eq-HR.true c.rule_block.ensures.goes;
     }
 
 pub block-returns : goal.block-returns
@@ -130,7 +130,7 @@ block-returns t c =
     record {
       room = c.led.ensures.room;
       kept = c.led.ensures.kept;
-      goes_element = block_led c.args.self.now.sheet.now c.args.nodes.now c.args.c c.requires.1 (self_at c.args.self.now.skip c.args.levels) (item_of c.args.item) c.args.before.first c.args.before.due (take c.args.text.now.len c.args.text.now.room.now) c.if-name-eq-HR.false (going_ok c.led.new.text _ _ c.in_ok-led.was) c.led.ensures.writes_element;
+      goes_element = block_led c.args.self.now.sheet.now c.args.nodes.now c.args.c c.requires.1 (self_at c.args.self.now.skip c.args.levels) (item_of c.args.item) c.args.before.first c.args.before.due (bytes c.args.text.now) c.if-name-eq-HR.false (going_ok c.led.new.text _ _ c.in_ok-led.was) c.led.ensures.writes_element;
     }
 
 pub block-returns-in_err-led : goal.block-returns-in_err-led
@@ -138,38 +138,38 @@ block-returns-in_err-led t c =
     record {
       room = c.led.ensures.room;
       kept = c.led.ensures.kept;
-      goes_element = block_led c.args.self.now.sheet.now c.args.nodes.now c.args.c c.requires.1 (self_at c.args.self.now.skip c.args.levels) (item_of c.args.item) c.args.before.first c.args.before.due (take c.args.text.now.len c.args.text.now.room.now) c.if-name-eq-HR.false (going_err _ _ _ _ _ c.from_residual.ensures.0 c.in_err-led.was) c.led.ensures.writes_element;
+      goes_element = block_led c.args.self.now.sheet.now c.args.nodes.now c.args.c c.requires.1 (self_at c.args.self.now.skip c.args.levels) (item_of c.args.item) c.args.before.first c.args.before.due (bytes c.args.text.now) c.if-name-eq-HR.false (going_err _ _ _ _ _ c.from_residual.ensures.0 c.in_err-led.was) c.led.ensures.writes_element;
     }
 
 pub blocks-returns-in_err-start_item : goal.blocks-returns-in_err-start_item
 blocks-returns-in_err-start_item t c =
     let self = self_at c.args.self.now.skip c.args.levels in
-    let item = item_from c.args.ctx.now (begin_item true c.args.ctx.now (take c.args.text.now.len c.args.text.now.room.now)) in record {
+    let item = item_from c.args.ctx.now (begin_item true c.args.ctx.now (bytes c.args.text.now)) in record {
       room = leaf_room c.start_item.ensures.0;
       kept = kept_none c.args.nodes.now;
       writes_element = stops_element (wrote_err _ _ c.from_residual.ensures.0) (record {
         for = λ name attrs kids anc x a.
             both-full c.args.text.now.room.now c.args.text.now.len c.args.text.now.fits (write_list_item_blocks self anc attrs kids c.args.ctx.now) (begin_item true c.args.ctx.now)
             (λ u. and_then (item_children self (attrs ∷ anc) kids item (progress_at true false u)).out (ended_item item))
-            (blocks_parts self anc attrs kids c.args.ctx.now item (take c.args.text.now.len c.args.text.now.room.now) refl) c.start_item.ensures.0.writes (ap (wrote c.start_item.new.text) c.in_err-start_item.was);
+            (blocks_parts self anc attrs kids c.args.ctx.now item (bytes c.args.text.now) refl) c.start_item.ensures.0.writes (ap (wrote c.start_item.new.text) c.in_err-start_item.was);
       });
       ctx_value = c.start_item.ensures.1;
     }
 
 pub blocks-children-requires : goal.blocks-children-requires
 blocks-children-requires t c =
-    let item_is = c.item_from-item.ensures (begin_item true c.args.ctx.now (take c.args.text.now.len c.args.text.now.room.now)) (done (ap (wrote c.start_item.new.text) c.in_ok-start_item.was) c.start_item.ensures.0.writes).count in (
+    let item_is = c.item_from-item.ensures (begin_item true c.args.ctx.now (bytes c.args.text.now)) (done (ap (wrote c.start_item.new.text) c.in_ok-start_item.was) c.start_item.ensures.0.writes).count in (
       falls_children c.args.levels (c.args.c + 1) c.decreases c.node_end-to.type_inv,
       (
         placed_kids c.requires.0 c.node_end-to.ensures,
         c.requires.1,
-        fits_blocks c.args.levels c.args.ctx.now c.item_from-item.result (begin_item true c.args.ctx.now (take c.args.text.now.len c.args.text.now.room.now)) item_is c.requires.2,
+        fits_blocks c.args.levels c.args.ctx.now c.item_from-item.result (begin_item true c.args.ctx.now (bytes c.args.text.now)) item_is c.requires.2,
       ),
     )
 
 pub blocks-returns : goal.blocks-returns
 blocks-returns t c =
-    let item_is = c.item_from-item.ensures (begin_item true c.args.ctx.now (take c.args.text.now.len c.args.text.now.room.now)) (done (ap (wrote c.start_item.new.text) c.in_ok-start_item.was) c.start_item.ensures.0.writes).count in
+    let item_is = c.item_from-item.ensures (begin_item true c.args.ctx.now (bytes c.args.text.now)) (done (ap (wrote c.start_item.new.text) c.in_ok-start_item.was) c.start_item.ensures.0.writes).count in
     let self = self_at c.args.self.now.skip c.args.levels in
     let item = item_of c.item_from-item.result in record {
       room = room_on (leaf_room c.start_item.ensures.0) (room_on (c.children.ensures.room) (leaf_room c.end_item.ensures));
@@ -177,7 +177,7 @@ blocks-returns t c =
       writes_element = record {
         for = λ name attrs kids anc x a.
             owes_last (owes_on (both-on c.args.text.now.room.now c.args.text.now.len c.args.text.now.fits (write_list_item_blocks self anc attrs kids c.args.ctx.now) (begin_item true c.args.ctx.now) (λ u. and_then (item_children self (attrs ∷ anc) kids item (progress_at true false u)).out (ended_item item))
-            (blocks_parts self anc attrs kids c.args.ctx.now item (take c.args.text.now.len c.args.text.now.room.now) item_is) c.start_item.ensures.0.writes (ap (wrote c.start_item.new.text) c.in_ok-start_item.was)) (λ u. (item_children self (attrs ∷ anc) kids item (progress_at true false u)).out) (ended_item item) refl
+            (blocks_parts self anc attrs kids c.args.ctx.now item (bytes c.args.text.now) item_is) c.start_item.ensures.0.writes (ap (wrote c.start_item.new.text) c.in_ok-start_item.was)) (λ u. (item_children self (attrs ∷ anc) kids item (progress_at true false u)).out) (ended_item item) refl
             (went (ap (gone c.children.new.text) c.in_ok-children.was) (c.children.ensures.goes_forest.for c.args.c kids (attrs ∷ anc) (element_kids x c.node_end-to.ensures) (around_it anc x a))).0) c.end_item.ensures.writes;
       };
       ctx_value = c.start_item.ensures.1;
@@ -185,7 +185,7 @@ blocks-returns t c =
 
 pub blocks-returns-in_err-children : goal.blocks-returns-in_err-children
 blocks-returns-in_err-children t c =
-    let item_is = c.item_from-item.ensures (begin_item true c.args.ctx.now (take c.args.text.now.len c.args.text.now.room.now)) (done (ap (wrote c.start_item.new.text) c.in_ok-start_item.was) c.start_item.ensures.0.writes).count in
+    let item_is = c.item_from-item.ensures (begin_item true c.args.ctx.now (bytes c.args.text.now)) (done (ap (wrote c.start_item.new.text) c.in_ok-start_item.was) c.start_item.ensures.0.writes).count in
     let self = self_at c.args.self.now.skip c.args.levels in
     let item = item_of c.item_from-item.result in record {
       room = room_on (leaf_room c.start_item.ensures.0) (c.children.ensures.room);
@@ -193,7 +193,7 @@ blocks-returns-in_err-children t c =
       writes_element = stops_element (wrote_err _ _ c.from_residual-in_err-children.ensures.0) (record {
         for = λ name attrs kids anc x a.
             owes_over (both-on c.args.text.now.room.now c.args.text.now.len c.args.text.now.fits (write_list_item_blocks self anc attrs kids c.args.ctx.now) (begin_item true c.args.ctx.now) (λ u. and_then (item_children self (attrs ∷ anc) kids item (progress_at true false u)).out (ended_item item))
-            (blocks_parts self anc attrs kids c.args.ctx.now item (take c.args.text.now.len c.args.text.now.room.now) item_is) c.start_item.ensures.0.writes (ap (wrote c.start_item.new.text) c.in_ok-start_item.was)) (λ u. (item_children self (attrs ∷ anc) kids item (progress_at true false u)).out) (ended_item item) refl
+            (blocks_parts self anc attrs kids c.args.ctx.now item (bytes c.args.text.now) item_is) c.start_item.ensures.0.writes (ap (wrote c.start_item.new.text) c.in_ok-start_item.was)) (λ u. (item_children self (attrs ∷ anc) kids item (progress_at true false u)).out) (ended_item item) refl
             (went_full (ap (gone c.children.new.text) c.in_err-children.was) (c.children.ensures.goes_forest.for c.args.c kids (attrs ∷ anc) (element_kids x c.node_end-to.ensures) (around_it anc x a)));
       });
       ctx_value = c.start_item.ensures.1;
@@ -215,7 +215,7 @@ body-returns t c =
       kept = c.kids_behind.ensures.kept;
       writes_element = record {
         for = λ name attrs kids anc x h. let link = write_kids (self_at a.self.now.skip a.levels) anc a.opts (element name attrs kids nothing) [] in
-            alike (ap (λ (f : Step). f (take a.text.now.len a.text.now.room.now)) (link_is attrs href link push))
+            alike (ap (λ (f : Step). f (bytes a.text.now)) (link_is attrs href link push))
             (nest-done a.text.now.room.now a.text.now.len c.args.text.now.fits (kids_as (self_at c.args.self.now.skip c.args.levels) c.packed-bits.ensures c.kids_behind.ensures.writes_element name attrs kids anc x h) (λ z. link_step attrs href z push) c.in_ok-n.was
             (subst (λ (l : List Attr). Writes (length (back a.text.now.room.now a.text.now.len c.kids_behind.new.room)) c.push_link.new.text.room.now (wrote c.push_link.new.text c.push_link.result) (link_step l href (take c.in_ok-n.n (drop a.text.now.len (back a.text.now.room.now a.text.now.len c.kids_behind.new.room))) push (take a.text.now.len (back a.text.now.room.now a.text.now.len c.kids_behind.new.room)))) (ap (attrs_behind a.self.now.sheet.now) c.node_place-place.ensures ∙ sym x.attrs_are) c.push_link.ensures.writes));
       };
@@ -229,7 +229,7 @@ body-returns-in_err-n t c =
       kept = c.kids_behind.ensures.kept;
       writes_element = stops_element (wrote_err _ _ c.from_residual.ensures.0) (record {
         for = λ name attrs kids anc x h. let link = write_kids (self_at a.self.now.skip a.levels) anc a.opts (element name attrs kids nothing) [] in
-            alike (ap (λ (f : Step). f (take a.text.now.len a.text.now.room.now)) (link_is attrs href link push))
+            alike (ap (λ (f : Step). f (bytes a.text.now)) (link_is attrs href link push))
             (nest-full a.text.now.room.now a.text.now.len c.args.text.now.fits (kids_as (self_at c.args.self.now.skip c.args.levels) c.packed-bits.ensures c.kids_behind.ensures.writes_element name attrs kids anc x h) (link_step attrs href link.text push) c.in_err-n.was);
       });
     }
@@ -441,7 +441,7 @@ flat-returns t c =
       kept = c.kids.ensures.kept;
       writes_element = record {
         for = λ name attrs kids anc x a. owes_last (owes_step (both-on c.args.text.now.room.now c.args.text.now.len c.args.text.now.fits (write_list_item self anc (element name attrs kids nothing) c.args.ctx.now) (begin_item false c.args.ctx.now) (λ u. and_then (write_kids self anc (unpacked c.packed-bits.result) (element name attrs kids nothing) u) (push (break_of c.start_item.new.ctx)))
-            (item_parts self anc (element name attrs kids nothing) c.args.ctx.now c.start_item.new.ctx (unpacked c.packed-bits.result) (take c.args.text.now.len c.args.text.now.room.now) c.start_item.ensures.1 (c.packed-bits.ensures ∙ c.list_item.ensures)) c.start_item.ensures.0.writes (ap (wrote c.start_item.new.text) c.in_ok-start_item.was)) (write_kids self anc (unpacked c.packed-bits.result) (element name attrs kids nothing)) (push (break_of c.start_item.new.ctx)) refl (ap (wrote c.kids.new.text) c.in_ok-kids.was) (c.kids.ensures.writes_element.for name attrs kids anc x a)) c.push_linebreak.ensures.writes;
+            (item_parts self anc (element name attrs kids nothing) c.args.ctx.now c.start_item.new.ctx (unpacked c.packed-bits.result) (bytes c.args.text.now) c.start_item.ensures.1 (c.packed-bits.ensures ∙ c.list_item.ensures)) c.start_item.ensures.0.writes (ap (wrote c.start_item.new.text) c.in_ok-start_item.was)) (write_kids self anc (unpacked c.packed-bits.result) (element name attrs kids nothing)) (push (break_of c.start_item.new.ctx)) refl (ap (wrote c.kids.new.text) c.in_ok-kids.was) (c.kids.ensures.writes_element.for name attrs kids anc x a)) c.push_linebreak.ensures.writes;
       };
       ctx_value = c.start_item.ensures.1;
     }
@@ -453,7 +453,7 @@ flat-returns-in_err-kids t c =
       kept = c.kids.ensures.kept;
       writes_element = stops_element (wrote_err _ _ c.from_residual-in_err-kids.ensures.0) (record {
         for = λ name attrs kids anc x a. owes_stop (both-on c.args.text.now.room.now c.args.text.now.len c.args.text.now.fits (write_list_item self anc (element name attrs kids nothing) c.args.ctx.now) (begin_item false c.args.ctx.now) (λ u. and_then (write_kids self anc (unpacked c.packed-bits.result) (element name attrs kids nothing) u) (push (break_of c.start_item.new.ctx)))
-            (item_parts self anc (element name attrs kids nothing) c.args.ctx.now c.start_item.new.ctx (unpacked c.packed-bits.result) (take c.args.text.now.len c.args.text.now.room.now) c.start_item.ensures.1 (c.packed-bits.ensures ∙ c.list_item.ensures)) c.start_item.ensures.0.writes (ap (wrote c.start_item.new.text) c.in_ok-start_item.was)) (write_kids self anc (unpacked c.packed-bits.result) (element name attrs kids nothing)) (push (break_of c.start_item.new.ctx)) refl (ap (wrote c.kids.new.text) c.in_err-kids.was) (c.kids.ensures.writes_element.for name attrs kids anc x a);
+            (item_parts self anc (element name attrs kids nothing) c.args.ctx.now c.start_item.new.ctx (unpacked c.packed-bits.result) (bytes c.args.text.now) c.start_item.ensures.1 (c.packed-bits.ensures ∙ c.list_item.ensures)) c.start_item.ensures.0.writes (ap (wrote c.start_item.new.text) c.in_ok-start_item.was)) (write_kids self anc (unpacked c.packed-bits.result) (element name attrs kids nothing)) (push (break_of c.start_item.new.ctx)) refl (ap (wrote c.kids.new.text) c.in_err-kids.was) (c.kids.ensures.writes_element.for name attrs kids anc x a);
       });
       ctx_value = c.start_item.ensures.1;
     }
@@ -467,7 +467,7 @@ flat-returns-in_err-start_item t c =
         for = λ name attrs kids anc x a.
             both-full c.args.text.now.room.now c.args.text.now.len c.args.text.now.fits (write_list_item self anc (element name attrs kids nothing) c.args.ctx.now) (begin_item false c.args.ctx.now)
             (λ u. and_then (write_kids self anc (list_item c.start_item.new.ctx.opts) (element name attrs kids nothing) u) (push (break_of c.start_item.new.ctx)))
-            (item_parts self anc (element name attrs kids nothing) c.args.ctx.now c.start_item.new.ctx (list_item c.start_item.new.ctx.opts) (take c.args.text.now.len c.args.text.now.room.now) c.start_item.ensures.1 refl) c.start_item.ensures.0.writes (ap (wrote c.start_item.new.text) c.in_err-start_item.was);
+            (item_parts self anc (element name attrs kids nothing) c.args.ctx.now c.start_item.new.ctx (list_item c.start_item.new.ctx.opts) (bytes c.args.text.now) c.start_item.ensures.1 refl) c.start_item.ensures.0.writes (ap (wrote c.start_item.new.text) c.in_err-start_item.was);
       });
       ctx_value = c.start_item.ensures.1;
     }
@@ -589,8 +589,8 @@ inside-returns t c =
       kept = kept_in (omega arith) (omega (arith, c.node_end-to.ensures)) c.siblings.ensures.kept;
       writes_element = record {
         for = λ name attrs kids anc x h. both-done a.text.now.room.now a.text.now.len c.args.text.now.fits (in_element (self_at a.self.now.skip a.levels) anc (unpacked a.bits) name attrs kids) ((self_at a.self.now.skip a.levels).below (attrs ∷ anc) (unpacked a.bits) kids) (closed (unpacked a.bits) (tag_of name)) (inside_plain (self_at c.args.self.now.skip c.args.levels) anc (unpacked c.args.bits) name attrs kids (bytes c.args.text.now) (writer_wanted name c.unpacked-flags.ensures (c.node_name-name.ensures ∙ element_name x) c.has_writer.ensures c.if-flags-has_writer.false)) (below-wrote a.self.now.skip a.levels (unpacked a.bits) anc x h c.node_end-to.ensures c.siblings.ensures.writes_forest) (ap (wrote c.siblings.new.text) c.in_ok-siblings.was)
-            (subst (λ (o : FormatOpts). Writes (length c.siblings.new.text.room.now) c.closed.new.text.room.now (wrote c.closed.new.text c.closed.result) (closed o (tag_of name) (take c.siblings.new.text.len c.siblings.new.text.room.now))) c.unpacked.ensures
-            (subst (λ (k : ℕ). Writes (length c.siblings.new.text.room.now) c.closed.new.text.room.now (wrote c.closed.new.text c.closed.result) (closed c.unpacked.result k (take c.siblings.new.text.len c.siblings.new.text.room.now))) (c.node_name-name.ensures ∙ element_name x) c.closed.ensures.writes));
+            (subst (λ (o : FormatOpts). Writes (length c.siblings.new.text.room.now) c.closed.new.text.room.now (wrote c.closed.new.text c.closed.result) (closed o (tag_of name) (bytes c.siblings.new.text))) c.unpacked.ensures
+            (subst (λ (k : ℕ). Writes (length c.siblings.new.text.room.now) c.closed.new.text.room.now (wrote c.closed.new.text c.closed.result) (closed c.unpacked.result k (bytes c.siblings.new.text))) (c.node_name-name.ensures ∙ element_name x) c.closed.ensures.writes));
       };
     }
 
@@ -606,8 +606,8 @@ item-returns-then-not-li t c =
       kept = kept_in (omega arith) (omega (arith, c.node_end-to.ensures)) c.write.ensures.kept;
       writes_forest = record {
         for = λ parent f anc h x.
-            alike (head_other skips a.levels anc a.ctx.now (take a.text.now.len a.text.now.room.now) a.self.now.sheet.now a.nodes.now parent a.c f h c.requires.0.later (sym c.requires.1 ∙ c.if-not-li.true)
-            ∙ ap (λ (o : FormatOpts). write_at skips a.levels anc o f (take a.text.now.len a.text.now.room.now)) (sym (c.packed.ensures ∙ (c.include_node-inner.ensures ∙ ap include_node c.fresh.ensures))))
+            alike (head_other skips a.levels anc a.ctx.now (bytes a.text.now) a.self.now.sheet.now a.nodes.now parent a.c f h c.requires.0.later (sym c.requires.1 ∙ c.if-not-li.true)
+            ∙ ap (λ (o : FormatOpts). write_at skips a.levels anc o f (bytes a.text.now)) (sym (c.packed.ensures ∙ (c.include_node-inner.ensures ∙ ap include_node c.fresh.ensures))))
             (c.write.ensures.writes_forest.for parent f anc (subst (λ (e : ℕ). Rep a.self.now.sheet.now a.nodes.now parent a.c e f) (sym c.node_end-to.ensures) h) x);
       };
       ctx_value = sym (ap (λ (b : Bool). cond b (advance_ol_number a.ctx.now) a.ctx.now) (c.if-not-li.true));
@@ -738,10 +738,10 @@ kids-returns-then-levels-is_one_text t c =
       kept = kept_none a.nodes.now;
       writes_element = record {
         for = λ name attrs kids anc x h.
-            alike (ap (λ (o : FormatOpts). write_kids (self_at a.self.now.skip a.levels) anc o (element name attrs kids nothing) (take a.text.now.len a.text.now.room.now)) (sym u.ensures)
-            ∙ kids_is (self_at a.self.now.skip a.levels) anc u.result name attrs kids (take a.text.now.len a.text.now.room.now)
-            ∙ ap (λ (z : Out). and_then z trim_space) (write_some (tags_to_skip (skip_of a.self.now.skip)) a.levels (attrs ∷ anc) u.result kids (take a.text.now.len a.text.now.room.now) b.0
-            ∙ one_is a.self.now.sheet.now a.nodes.now a.at (a.at + 1) c.node_end-to.result o.0 o.1 (self_at a.self.now.skip (a.levels - 1)) (attrs ∷ anc) u.result (take a.text.now.len a.text.now.room.now) kids (element_kids x c.node_end-to.ensures)))
+            alike (ap (λ (o : FormatOpts). write_kids (self_at a.self.now.skip a.levels) anc o (element name attrs kids nothing) (bytes a.text.now)) (sym u.ensures)
+            ∙ kids_is (self_at a.self.now.skip a.levels) anc u.result name attrs kids (bytes a.text.now)
+            ∙ ap (λ (z : Out). and_then z trim_space) (write_some (tags_to_skip (skip_of a.self.now.skip)) a.levels (attrs ∷ anc) u.result kids (bytes a.text.now) b.0
+            ∙ one_is a.self.now.sheet.now a.nodes.now a.at (a.at + 1) c.node_end-to.result o.0 o.1 (self_at a.self.now.skip (a.levels - 1)) (attrs ∷ anc) u.result (bytes a.text.now) kids (element_kids x c.node_end-to.ensures)))
             c.trim_behind_text.ensures.writes;
       };
     }
@@ -755,7 +755,7 @@ kids-returns-in_err-write t c =
     let a = c.args in record {
       room = c.write.ensures.room;
       kept = kept_in (omega arith) (omega (arith, c.node_end-to.ensures)) c.write.ensures.kept;
-      writes_element = stops_element (wrote_err _ _ c.from_residual.ensures.0) (record { for = λ name attrs kids anc x h. both-full a.text.now.room.now a.text.now.len c.args.text.now.fits (write_kids (self_at a.self.now.skip a.levels) anc (unpacked a.bits) (element name attrs kids nothing)) ((self_at a.self.now.skip a.levels).below (attrs ∷ anc) (unpacked a.bits) kids) trim_space (kids_is (self_at a.self.now.skip a.levels) anc (unpacked a.bits) name attrs kids (take a.text.now.len a.text.now.room.now)) (below-wrote a.self.now.skip a.levels (unpacked a.bits) anc x h c.node_end-to.ensures c.write.ensures.writes_forest) (ap (wrote c.write.new.text) c.in_err-write.was) });
+      writes_element = stops_element (wrote_err _ _ c.from_residual.ensures.0) (record { for = λ name attrs kids anc x h. both-full a.text.now.room.now a.text.now.len c.args.text.now.fits (write_kids (self_at a.self.now.skip a.levels) anc (unpacked a.bits) (element name attrs kids nothing)) ((self_at a.self.now.skip a.levels).below (attrs ∷ anc) (unpacked a.bits) kids) trim_space (kids_is (self_at a.self.now.skip a.levels) anc (unpacked a.bits) name attrs kids (bytes a.text.now)) (below-wrote a.self.now.skip a.levels (unpacked a.bits) anc x h c.node_end-to.ensures c.write.ensures.writes_forest) (ap (wrote c.write.new.text) c.in_err-write.was) });
     }
 
 pub kids-returns : goal.kids-returns
@@ -763,7 +763,7 @@ kids-returns t c =
     let a = c.args in record {
       room = room_on (c.write.ensures.room) (leaf_room c.trim_space.ensures);
       kept = kept_in (omega arith) (omega (arith, c.node_end-to.ensures)) c.write.ensures.kept;
-      writes_element = record { for = λ name attrs kids anc x h. both-done a.text.now.room.now a.text.now.len c.args.text.now.fits (write_kids (self_at a.self.now.skip a.levels) anc (unpacked a.bits) (element name attrs kids nothing)) ((self_at a.self.now.skip a.levels).below (attrs ∷ anc) (unpacked a.bits) kids) trim_space (kids_is (self_at a.self.now.skip a.levels) anc (unpacked a.bits) name attrs kids (take a.text.now.len a.text.now.room.now)) (below-wrote a.self.now.skip a.levels (unpacked a.bits) anc x h c.node_end-to.ensures c.write.ensures.writes_forest) (ap (wrote c.write.new.text) c.in_ok-write.was) c.trim_space.ensures.writes };
+      writes_element = record { for = λ name attrs kids anc x h. both-done a.text.now.room.now a.text.now.len c.args.text.now.fits (write_kids (self_at a.self.now.skip a.levels) anc (unpacked a.bits) (element name attrs kids nothing)) ((self_at a.self.now.skip a.levels).below (attrs ∷ anc) (unpacked a.bits) kids) trim_space (kids_is (self_at a.self.now.skip a.levels) anc (unpacked a.bits) name attrs kids (bytes a.text.now)) (below-wrote a.self.now.skip a.levels (unpacked a.bits) anc x h c.node_end-to.ensures c.write.ensures.writes_forest) (ap (wrote c.write.new.text) c.in_ok-write.was) c.trim_space.ensures.writes };
     }
 
 pub led-returns : goal.led-returns
@@ -798,8 +798,8 @@ link-returns-then-has_element t c =
       kept = c.body.ensures.kept;
       writes_element = record {
         for = λ name attrs kids anc x h.
-            alike (to_image (self_at a.self.now.skip a.levels) anc a.opts href name attrs kids (take a.text.now.len a.text.now.room.now) (sym (c.has_element.ensures a.at kids (element_kids x c.node_end-end.ensures)) ∙ c.if-has_element.true))
-            (subst (λ (o : FormatOpts). Writes (length a.text.now.room.now) c.body.new.text.room.now (wrote c.body.new.text c.body.result) (link_of attrs href (write_kids (self_at a.self.now.skip a.levels) anc o (element name attrs kids nothing) []) push (take a.text.now.len a.text.now.room.now))) (c.link_body.ensures ∙ ap link_body c.fresh-fresh.ensures) (c.body.ensures.writes_element.for name attrs kids anc x h));
+            alike (to_image (self_at a.self.now.skip a.levels) anc a.opts href name attrs kids (bytes a.text.now) (sym (c.has_element.ensures a.at kids (element_kids x c.node_end-end.ensures)) ∙ c.if-has_element.true))
+            (subst (λ (o : FormatOpts). Writes (length a.text.now.room.now) c.body.new.text.room.now (wrote c.body.new.text c.body.result) (link_of attrs href (write_kids (self_at a.self.now.skip a.levels) anc o (element name attrs kids nothing) []) push (bytes a.text.now))) (c.link_body.ensures ∙ ap link_body c.fresh-fresh.ensures) (c.body.ensures.writes_element.for name attrs kids anc x h));
       };
     }
 
@@ -822,7 +822,7 @@ link-returns-then-n-eq0 t c =
       writes_element = record {
         for = λ name attrs kids anc x h.
             let w = done c.in_ok-n.was (written _ _ _ x) in
-            alike (to_body (self_at a.self.now.skip a.levels) anc a.opts href name attrs kids (take a.text.now.len a.text.now.room.now) (no_image _ _ _ x) (null_none (shown_text a.opts kids).text (sym w.count ∙ c.if-n-eq0.true)))
+            alike (to_body (self_at a.self.now.skip a.levels) anc a.opts href name attrs kids (bytes a.text.now) (no_image _ _ _ x) (null_none (shown_text a.opts kids).text (sym w.count ∙ c.if-n-eq0.true)))
             (subst₂ (λ (k : ℕ) (u : Bytes). Writes k c.body-then-n-eq0.new.text.room.now (wrote c.body-then-n-eq0.new.text c.body-then-n-eq0.result) (link_of attrs href (write_kids (self_at a.self.now.skip a.levels) anc (fresh a.opts) (element name attrs kids nothing) []) push u)) (back_length a.text.now.room.now a.text.now.len c.args.text.now.fits (shown_text a.opts kids) w) (back_text a.text.now.room.now a.text.now.len c.args.text.now.fits (shown_text a.opts kids) w)
             (subst (λ (o : FormatOpts). Writes (length (back a.text.now.room.now a.text.now.len c.write_text_behind.new.room)) c.body-then-n-eq0.new.text.room.now (wrote c.body-then-n-eq0.new.text c.body-then-n-eq0.result) (link_of attrs href (write_kids (self_at a.self.now.skip a.levels) anc o (element name attrs kids nothing) []) push (take a.text.now.len (back a.text.now.room.now a.text.now.len c.write_text_behind.new.room)))) c.fresh-fresh.ensures (c.body-then-n-eq0.ensures.writes_element.for name attrs kids anc x h)));
       };
@@ -839,7 +839,7 @@ link-returns t c =
       writes_element = record {
         for = λ name attrs kids anc x h.
             let w = done c.in_ok-n.was (written _ _ _ x) in
-            alike (to_text (self_at a.self.now.skip a.levels) anc a.opts href name attrs kids (take a.text.now.len a.text.now.room.now) (no_image _ _ _ x) (null_more (shown_text a.opts kids).text (λ z. c.if-n-eq0.false (w.count ∙ z))))
+            alike (to_text (self_at a.self.now.skip a.levels) anc a.opts href name attrs kids (bytes a.text.now) (no_image _ _ _ x) (null_more (shown_text a.opts kids).text (λ z. c.if-n-eq0.false (w.count ∙ z))))
             (nest-done a.text.now.room.now a.text.now.len c.args.text.now.fits (written _ _ _ x) (λ z. text_link_step a.opts attrs href z) c.in_ok-n.was
             (subst (λ (l : List Attr). Writes (length (back a.text.now.room.now a.text.now.len c.write_text_behind.new.room)) c.push_text_link.new.text.room.now (wrote c.push_text_link.new.text c.push_text_link.result) (text_link_step a.opts l href (take c.in_ok-n.n (drop a.text.now.len (back a.text.now.room.now a.text.now.len c.write_text_behind.new.room))) (take a.text.now.len (back a.text.now.room.now a.text.now.len c.write_text_behind.new.room)))) (ap (attrs_behind a.self.now.sheet.now) c.node_place-place.ensures ∙ sym x.attrs_are) c.push_text_link.ensures.writes));
       };
@@ -855,7 +855,7 @@ link-returns-in_err-n t c =
       kept = kept_none a.nodes.now;
       writes_element = stops_element (wrote_err _ _ c.from_residual.ensures.0) (record {
         for = λ name attrs kids anc x h.
-            alike (to_text (self_at a.self.now.skip a.levels) anc a.opts href name attrs kids (take a.text.now.len a.text.now.room.now) (no_image _ _ _ x) (shown_null (shown_text a.opts kids) (text_grown (skip_escape (include_node (fresh a.opts))) kids []) (full c.in_err-n.was (written _ _ _ x))))
+            alike (to_text (self_at a.self.now.skip a.levels) anc a.opts href name attrs kids (bytes a.text.now) (no_image _ _ _ x) (shown_null (shown_text a.opts kids) (text_grown (skip_escape (include_node (fresh a.opts))) kids []) (full c.in_err-n.was (written _ _ _ x))))
             (nest-full a.text.now.room.now a.text.now.len c.args.text.now.fits (written _ _ _ x) (text_link_step a.opts attrs href (shown_text a.opts kids).text) c.in_err-n.was);
       });
     }
@@ -883,7 +883,7 @@ node-returns-then-tag_at-ne-OPEN t c =
     record {
       room = leaf_room c.write_text_node.ensures;
       kept = kept_none a.nodes.now;
-      writes_forest = record { for = λ parent f anc h q. alike (ap (λ (o : FormatOpts). write_nodes (self_at a.self.now.skip a.levels) anc o f (take a.text.now.len a.text.now.room.now)) (sym u.ensures) ∙ node_text a.self.now.sheet.now a.nodes.now parent a.at c.requires.0.later (self_at a.self.now.skip a.levels) anc u.result (take a.text.now.len a.text.now.room.now) f h (λ e. c.if-tag_at-ne-OPEN.true (c.tag_at.ensures ∙ ap (λ (k : ℕ). get_or a.self.now.sheet.now k 0) c.node_place-place.ensures ∙ e))) c.write_text_node.ensures.writes };
+      writes_forest = record { for = λ parent f anc h q. alike (ap (λ (o : FormatOpts). write_nodes (self_at a.self.now.skip a.levels) anc o f (bytes a.text.now)) (sym u.ensures) ∙ node_text a.self.now.sheet.now a.nodes.now parent a.at c.requires.0.later (self_at a.self.now.skip a.levels) anc u.result (bytes a.text.now) f h (λ e. c.if-tag_at-ne-OPEN.true (c.tag_at.ensures ∙ ap (λ (k : ℕ). get_or a.self.now.sheet.now k 0) c.node_place-place.ensures ∙ e))) c.write_text_node.ensures.writes };
     }
 
 pub node-returns-then-node_is_skipped : goal.node-returns-then-node_is_skipped
@@ -895,8 +895,8 @@ node-returns-then-node_is_skipped t c =
       kept = kept_none a.nodes.now;
       writes_forest = record {
         for = λ parent f anc h q.
-            alike (ap (λ (g : Forest). write_nodes (self_at a.self.now.skip a.levels) anc (unpacked a.bits) g (take a.text.now.len a.text.now.room.now)) (alone_element a.self.now.sheet.now a.nodes.now parent a.at c.requires.0.later f h tagged)
-            ∙ element_skipped (self_at a.self.now.skip a.levels) anc (unpacked a.bits) (body_at a.self.now.sheet.now (place_at a.nodes.now a.at)) (attrs_behind a.self.now.sheet.now (place_at a.nodes.now a.at)) (kids_of f) (take a.text.now.len a.text.now.room.now) ((sym (first_skipped c.args.self.now.sheet.now (place_at c.args.nodes.now c.args.at) (tags_to_skip (skip_of c.args.self.now.skip)) tagged) ∙ sym c.node_is_skipped.ensures) ∙ c.if-node_is_skipped.true))
+            alike (ap (λ (g : Forest). write_nodes (self_at a.self.now.skip a.levels) anc (unpacked a.bits) g (bytes a.text.now)) (alone_element a.self.now.sheet.now a.nodes.now parent a.at c.requires.0.later f h tagged)
+            ∙ element_skipped (self_at a.self.now.skip a.levels) anc (unpacked a.bits) (body_at a.self.now.sheet.now (place_at a.nodes.now a.at)) (attrs_behind a.self.now.sheet.now (place_at a.nodes.now a.at)) (kids_of f) (bytes a.text.now) ((sym (first_skipped c.args.self.now.sheet.now (place_at c.args.nodes.now c.args.at) (tags_to_skip (skip_of c.args.self.now.skip)) tagged) ∙ sym c.node_is_skipped.ensures) ∙ c.if-node_is_skipped.true))
             (record { says = keeps a.text.now.room.now a.text.now.len c.args.text.now.fits });
       };
     }
@@ -1015,9 +1015,9 @@ siblings-returns-then-levels-is_one_text t c =
       kept = kept_none a.nodes.now;
       writes_forest = record {
         for = λ parent f anc h q.
-            alike (ap (λ (o : FormatOpts). write_at (tags_to_skip (skip_of a.self.now.skip)) a.levels anc o f (take a.text.now.len a.text.now.room.now)) (sym u.ensures)
-            ∙ write_some (tags_to_skip (skip_of a.self.now.skip)) a.levels anc u.result f (take a.text.now.len a.text.now.room.now) b.0
-            ∙ one_is a.self.now.sheet.now a.nodes.now parent a.from a.to o.0 o.1 (self_at a.self.now.skip (a.levels - 1)) anc u.result (take a.text.now.len a.text.now.room.now) f h)
+            alike (ap (λ (o : FormatOpts). write_at (tags_to_skip (skip_of a.self.now.skip)) a.levels anc o f (bytes a.text.now)) (sym u.ensures)
+            ∙ write_some (tags_to_skip (skip_of a.self.now.skip)) a.levels anc u.result f (bytes a.text.now) b.0
+            ∙ one_is a.self.now.sheet.now a.nodes.now parent a.from a.to o.0 o.1 (self_at a.self.now.skip (a.levels - 1)) anc u.result (bytes a.text.now) f h)
             c.write_text_node.ensures.writes;
       };
     }
@@ -1031,7 +1031,7 @@ write-returns-then-levels-eq0 t c =
     record {
       room = room_same c.args.text.now;
       kept = kept_none c.args.nodes.now;
-      writes_forest = record { for = λ parent f anc h a. alike (write_none (tags_to_skip (skip_of c.args.self.now.skip)) c.args.levels anc (unpacked c.args.bits) f (take c.args.text.now.len c.args.text.now.room.now) c.if-levels-eq0.true) (record { says = keeps c.args.text.now.room.now c.args.text.now.len c.args.text.now.fits }) };
+      writes_forest = record { for = λ parent f anc h a. alike (write_none (tags_to_skip (skip_of c.args.self.now.skip)) c.args.levels anc (unpacked c.args.bits) f (bytes c.args.text.now) c.if-levels-eq0.true) (record { says = keeps c.args.text.now.room.now c.args.text.now.len c.args.text.now.fits }) };
     }
 
 pub write-loop-at-init : goal.write-loop-at-init
@@ -1055,7 +1055,7 @@ write-returns-in_err-node t c =
       room = room_on (c.loop-at.invariant.0) (c.node.ensures.room);
       kept = kept_on c.loop-at.invariant.1 c.loop-at.invariant.2 c.loop-at.invariant.3 c.loop-at-test.true c.node.ensures.kept;
       writes_forest = stops_forest (wrote_err _ _ c.from_residual.ensures.0) (record {
-        for = λ parent f anc h a. alike (write_some (tags_to_skip (skip_of c.args.self.now.skip)) c.args.levels anc (unpacked c.args.bits) f (take c.args.text.now.len c.args.text.now.room.now) (omega (arith, c.if-levels-eq0.false)))
+        for = λ parent f anc h a. alike (write_some (tags_to_skip (skip_of c.args.self.now.skip)) c.args.levels anc (unpacked c.args.bits) f (bytes c.args.text.now) (omega (arith, c.if-levels-eq0.false)))
             (turn_stop c.loop-at.invariant.4 (λ anc f. write_nodes (self_at c.args.self.now.skip (c.args.levels - 1)) anc (unpacked c.args.bits) f) (λ anc f. write_nodes (self_at c.args.self.now.skip (c.args.levels - 1)) anc (unpacked c.args.bits) f) (λ parent anc g h u. nodes_first (self_at c.args.self.now.skip (c.args.levels - 1)) anc (unpacked c.args.bits) g u) c.loop-at-test.true (writes_before c.loop-at.invariant.1 c.node.ensures.writes_forest) (ap (wrote c.node.new.text) c.in_err-node.was) parent f anc h a);
       });
     }
@@ -1088,7 +1088,7 @@ write-returns t c =
       room = c.loop-at.invariant.0;
       kept = l.invariant.1;
       writes_forest = record {
-        for = λ parent f anc h a. alike (write_some (tags_to_skip (skip_of c.args.self.now.skip)) c.args.levels anc (unpacked c.args.bits) f (take c.args.text.now.len c.args.text.now.room.now) (omega (arith, c.if-levels-eq0.false)))
+        for = λ parent f anc h a. alike (write_some (tags_to_skip (skip_of c.args.self.now.skip)) c.args.levels anc (unpacked c.args.bits) f (bytes c.args.text.now) (omega (arith, c.if-levels-eq0.false)))
             (turn_last l.invariant.4 c.loop-at-test.false (λ anc u. nodes_none (self_at c.args.self.now.skip (c.args.levels - 1)) anc (unpacked c.args.bits) u) parent f anc h a);
       };
     }
@@ -1102,7 +1102,7 @@ write_element-returns-then-is_list t c =
       writes_element = record {
         for = λ name attrs kids anc x h.
             element_as (self_at a.self.now.skip a.levels) anc name attrs kids (bytes a.text.now) u.ensures
-            (by_list (self_at a.self.now.skip a.levels) anc u.result name attrs kids (take a.text.now.len a.text.now.room.now) (c.requires.1 ∙ element_name x) (sym c.is_list.ensures ∙ c.if-is_list.true)) (c.write_list.ensures.writes_element.for name attrs kids anc x h);
+            (by_list (self_at a.self.now.skip a.levels) anc u.result name attrs kids (bytes a.text.now) (c.requires.1 ∙ element_name x) (sym c.is_list.ensures ∙ c.if-is_list.true)) (c.write_list.ensures.writes_element.for name attrs kids anc x h);
       };
     }
 
@@ -1129,7 +1129,7 @@ write_emphasis-returns t c =
       room = room_on (room_behind _ refl refl c.write_behind.auto.room) (leaf_room c.push_emphasis_by.ensures);
       kept = kept_in (omega arith) (omega (arith, c.node_end-to.ensures)) c.write_behind.ensures.kept;
       writes_element = record {
-        for = λ name attrs kids anc x h. alike (ap (λ (f : Step). f (take a.text.now.len a.text.now.room.now)) (emphasis_is (self_at a.self.now.skip a.levels) anc a.opts (tag_of name) attrs kids))
+        for = λ name attrs kids anc x h. alike (ap (λ (f : Step). f (bytes a.text.now)) (emphasis_is (self_at a.self.now.skip a.levels) anc a.opts (tag_of name) attrs kids))
             (nest-done a.text.now.room.now a.text.now.len c.args.text.now.fits (written _ _ _ anc x h) (λ z. emphasis_step a.opts (tag_of name) z) c.in_ok-n.was
             (subst (λ (k : ℕ). Writes (length (back a.text.now.room.now a.text.now.len c.write_behind.new.room)) c.push_emphasis_by.new.text.room.now (wrote c.push_emphasis_by.new.text c.push_emphasis_by.result) (emphasis_step a.opts k (take c.in_ok-n.n (drop a.text.now.len (back a.text.now.room.now a.text.now.len c.write_behind.new.room))) (take a.text.now.len (back a.text.now.room.now a.text.now.len c.write_behind.new.room)))) (c.requires.1 ∙ element_name x) c.push_emphasis_by.ensures.writes));
       };
@@ -1142,7 +1142,7 @@ write_emphasis-returns-in_err-n t c =
       room = room_behind _ refl refl c.write_behind.auto.room;
       kept = kept_in (omega arith) (omega (arith, c.node_end-to.ensures)) c.write_behind.ensures.kept;
       writes_element = stops_element (wrote_err _ _ c.from_residual.ensures.0) (record {
-        for = λ name attrs kids anc x h. alike (ap (λ (f : Step). f (take a.text.now.len a.text.now.room.now)) (emphasis_is (self_at a.self.now.skip a.levels) anc a.opts (tag_of name) attrs kids))
+        for = λ name attrs kids anc x h. alike (ap (λ (f : Step). f (bytes a.text.now)) (emphasis_is (self_at a.self.now.skip a.levels) anc a.opts (tag_of name) attrs kids))
             (nest-full a.text.now.room.now a.text.now.len c.args.text.now.fits (written _ _ _ anc x h) (emphasis_step a.opts (tag_of name) ((self_at a.self.now.skip a.levels).below (attrs ∷ anc) (emphasis_scope (scope_of (md_emphasis (tag_of name))) (inline (include_node a.opts))) kids []).text) c.in_err-n.was);
       });
     }
@@ -1155,7 +1155,7 @@ write_link-returns-in-Some t c =
       kept = c.link.ensures.kept;
       writes_element = record {
         for = λ name attrs kids anc x h.
-            alike (link_some (self_at a.self.now.skip a.levels) anc a.opts c.in-Some.dest.now name attrs kids (take a.text.now.len a.text.now.room.now)
+            alike (link_some (self_at a.self.now.skip a.levels) anc a.opts c.in-Some.dest.now name attrs kids (bytes a.text.now)
             (ap (attr (ascii "href")) (x.attrs_are ∙ ap (attrs_behind a.self.now.sheet.now) (sym c.node_place-place.ensures)) ∙ k.value_is)) (c.link.ensures.writes_element.for name attrs kids anc x h);
       };
     }
@@ -1167,7 +1167,7 @@ write_link-returns-in-None t c =
       kept = c.kids.ensures.kept;
       writes_element = record {
         for = λ name attrs kids anc x h.
-            alike (link_none (self_at a.self.now.skip a.levels) anc a.opts name attrs kids (take a.text.now.len a.text.now.room.now)
+            alike (link_none (self_at a.self.now.skip a.levels) anc a.opts name attrs kids (bytes a.text.now)
             (ap (attr (ascii "href")) (x.attrs_are ∙ ap (attrs_behind a.self.now.sheet.now) (sym c.node_place-place.ensures)) ∙ (c.in-None.ensures).value_is))
             (kids_as (self_at c.args.self.now.skip c.args.levels) (c.packed.ensures ∙ c.fresh.ensures) c.kids.ensures.writes_element name attrs kids anc x h);
       };
@@ -1186,7 +1186,7 @@ write_list-returns t c =
       writes_element = record {
         for = λ name attrs kids anc x h.
             both-done a.text.now.room.now a.text.now.len c.args.text.now.fits (write_list self anc a.opts (tag_of name) attrs kids) (list_children self (attrs ∷ anc) kids c.new-ctx.result) (ended_list a.opts)
-            (list_parts a.self.now.sheet.now c.node_place-place.result a.name a.opts c.new-ctx.ensures c.kind_of-kind.ensures self anc (take a.text.now.len a.text.now.room.now) c.node_place-place.ensures c.requires.1 x)
+            (list_parts a.self.now.sheet.now c.node_place-place.result a.name a.opts c.new-ctx.ensures c.kind_of-kind.ensures self anc (bytes a.text.now) c.node_place-place.ensures c.requires.1 x)
             (c.items.ensures.writes_forest.for a.at kids (attrs ∷ anc) (element_kids x c.node_end-to.ensures) (around_it anc x h)) (ap (wrote c.items.new.text) c.in_ok-items.was) c.end_list.ensures.writes;
       };
     }
@@ -1200,7 +1200,7 @@ write_list-returns-in_err-items t c =
       writes_element = stops_element (wrote_err _ _ c.from_residual.ensures.0) (record {
         for = λ name attrs kids anc x h.
             both-full a.text.now.room.now a.text.now.len c.args.text.now.fits (write_list self anc a.opts (tag_of name) attrs kids) (list_children self (attrs ∷ anc) kids c.new-ctx.result) (ended_list a.opts)
-            (list_parts a.self.now.sheet.now c.node_place-place.result a.name a.opts c.new-ctx.ensures c.kind_of-kind.ensures self anc (take a.text.now.len a.text.now.room.now) c.node_place-place.ensures c.requires.1 x)
+            (list_parts a.self.now.sheet.now c.node_place-place.result a.name a.opts c.new-ctx.ensures c.kind_of-kind.ensures self anc (bytes a.text.now) c.node_place-place.ensures c.requires.1 x)
             (c.items.ensures.writes_forest.for a.at kids (attrs ∷ anc) (element_kids x c.node_end-to.ensures) (around_it anc x h)) (ap (wrote c.items.new.text) c.in_err-items.was);
       });
     }
@@ -1226,7 +1226,7 @@ write_table-returns-then-not-is_table_node_writable t c =
       kept = c.kids.ensures.kept;
       writes_element = record {
         for = λ name attrs kids anc x h.
-            alike (table_flat (self_at a.self.now.skip a.levels) anc a.opts name attrs kids (take a.text.now.len a.text.now.room.now) (sym (writable _ _ _ anc x h) ∙ c.if-not-is_table_node_writable.true))
+            alike (table_flat (self_at a.self.now.skip a.levels) anc a.opts name attrs kids (bytes a.text.now) (sym (writable _ _ _ anc x h) ∙ c.if-not-is_table_node_writable.true))
             (kids_as (self_at c.args.self.now.skip c.args.levels) (c.packed.ensures ∙ c.fresh.ensures) c.kids.ensures.writes_element name attrs kids anc x h);
       };
     }
@@ -1292,7 +1292,7 @@ write_table-returns t c =
             let R = from_cells (rows_of (attrs ∷ anc) kids) in
             let w = written _ _ _ anc x h in
             let d = done (ap (wrote c.cells.new.text) c.in_ok-cells.was) w.writes in
-            alike (table_written (self_at a.self.now.skip a.levels) anc a.opts name attrs kids (take a.text.now.len a.text.now.room.now) (sym (writable _ _ _ anc x h) ∙ c.if-not-is_table_node_writable.false))
+            alike (table_written (self_at a.self.now.skip a.levels) anc a.opts name attrs kids (bytes a.text.now) (sym (writable _ _ _ anc x h) ∙ c.if-not-is_table_node_writable.false))
             (table_done (self_at a.self.now.skip a.levels) a.opts R a.text.now.room.now a.text.now.len c.args.text.now.fits d
             ((c.push_table.ensures (self_at a.self.now.skip a.levels) a.opts R (rows_at_kept c.cells.ensures.kept a.self.now.sheet.now c.next_filled_row-first.result c.node_end-to.result R (filled _ _ _ anc x h)) (w.lengths_are c.cells.new.text.len (ap (wrote c.cells.new.text) c.in_ok-cells.was))
             (behind_bytes a.text.now.room.now a.text.now.len (concat (rows_texts (self_at a.self.now.skip a.levels) a.opts R)) c.args.text.now.fits d)).writes));
@@ -1309,7 +1309,7 @@ write_table-returns-in_err-cells t c =
       writes_element = stops_element (wrote_err _ _ c.from_residual.ensures.0) (record {
         for = λ name attrs kids anc x h.
             let R = from_cells (rows_of (attrs ∷ anc) kids) in
-            alike (table_written (self_at a.self.now.skip a.levels) anc a.opts name attrs kids (take a.text.now.len a.text.now.room.now) (sym (writable _ _ _ anc x h) ∙ c.if-not-is_table_node_writable.false))
+            alike (table_written (self_at a.self.now.skip a.levels) anc a.opts name attrs kids (bytes a.text.now) (sym (writable _ _ _ anc x h) ∙ c.if-not-is_table_node_writable.false))
             (record { says = table_full (self_at a.self.now.skip a.levels) a.opts R a.text.now.room.now a.text.now.len (full (ap (wrote c.cells.new.text) c.in_err-cells.was) (written _ _ _ anc x h).writes) });
       });
     }
