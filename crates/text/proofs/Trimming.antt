@@ -1,4 +1,4 @@
--- Trims, byte by byte from the end or from the front. Assumes nothing.
+-- Trims, byte by byte from the end. Assumes nothing.
 use Prim.Native.Nat.{ℕ, suc, ◌+◌, ◌-◌, ◌≤◌, ◌<◌}
 use mathlib.Core.Path.{◌≡◌, refl, sym, ap, subst, ◌∙◌}
 use mathlib.Core.Bool.{Bool, true, false}
@@ -55,8 +55,6 @@ trim_whole p s n long h =
 pub trim_none : (p : ℕ → Bool) (s : List ℕ) (n : ℕ) → n ≤ 0 → trim_end_matches (one p) (take n s) ≡ take n s
 unfolding trim_end_matches
 trim_none p s n h = let e : n ≡ 0 = omega arith in rw e
-
--- ---- from the front
 
 -- ---- a front of s, without its last byte
 pub front_less : (s r : List ℕ) → length r ≤ length s → take (length r) s ≡ r → take (length (take (length r - 1) r)) s ≡ take (length r - 1) r
