@@ -18,7 +18,7 @@ use Rattle.text.specs.declared.buffer.Full.{Full}
 use Rattle.text.specs.declared.text.Text.{Text}
 use Rattle.text.proofs.Reading.{drop_take}
 use Rattle.text.proofs.Texts.{Answer, as_over, done}
-use Rattle.text.proofs.Writing.{full, reaches, then_assoc}
+use Rattle.text.proofs.Writing.{full, then_assoc}
 
 -- what has no room has none for g, which takes more
 pub stop_as : {a b : Text} {q r : Answer} {z : Full} {f g : Step} → q ≡ Err z → WritesTo a b q f → IsErr r → (Refused (length a.room.now) (f (bytes a)) → Refused (length a.room.now) (g (bytes a))) → WritesTo a b r g
@@ -32,9 +32,6 @@ module _ {a b : Text} {q : Answer} {u : Unit {0}} (x : Bytes) (e : q ≡ Ok u) (
   pub behind_from : a.len ≤ b.len
   unfolding push
   behind_from = omega (arith, w.count, length-append (bytes a) x, length-take-le a.len a.room.now a.fits)
-
-  pub behind_fits : a.len + (b.len - a.len) ≤ length b.room.now
-  behind_fits = omega (arith, reaches w, behind_from)
 
   text_kept : take a.len b.room.now ≡ bytes a
   unfolding push

@@ -44,9 +44,6 @@ pub record Up (sh ns : Bytes) (i at left : ℕ) : Type 0 where
   pub goes : (anc : Ancestors) → Around sh ns i anc
       → (more : Ancestors) × Around sh ns at more × (nearest_language (take 4 anc) ≡ nearest_language (take left more))
 
-pub up_all : (sh ns : Bytes) (i : ℕ) → Within sh ns i → Up sh ns i i 4
-up_all sh ns i w = record { here = w; goes = λ anc a. (anc, a, refl) }
-
 or_none : (o y : Option Bytes) → o ≡ none → or_else o y ≡ y
 unfolding or_else
 or_none o y e = ap (λ (x : Option Bytes). or_else x y) e

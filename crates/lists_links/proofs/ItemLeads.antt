@@ -5,13 +5,13 @@ use mathlib.Core.Bool.{Bool, true, false, cond, ◌&&◌, ◌||◌, false≢true
 use mathlib.Core.List.{List, [], ◌++◌, append_assoc}
 use native.Mathlib.Omega.{arith}
 use borrow.Author.Tests.{le-ltb, lt-ltb, leb-true, leb-false}
-use lib.Dec.{leb, ltb}
+use lib.Dec.{leb}
 use lib.ListN.{length, replicate}
 use Rattle.spec.specs.Bytes.{ascii, ends_with}
 use Rattle.spec.specs.Out.{push, and_then}
 use Rattle.spec.specs.Md.Ctx.{break_of}
 use Rattle.spec.specs.Md.Elements.List as def
-use Rattle.lists_links.specs.Items.{item_of, rule_text, inline_lead}
+use Rattle.lists_links.specs.Items.{item_of, rule_text}
 use Rattle.lists_links.specs.declared.list.Item.{Item}
 use Rattle.text.proofs.Writing.{push_both}
 
@@ -64,21 +64,3 @@ module _ (item : Item) (t : List ℕ) where
     lead_flow true false e q = rw (lt-ltb item.start (length t) (omega (arith, leb-false len item.start e)))
     lead_flow false true e q = absurd (false≢true (sym q))
     lead_flow false false e q = refl
-
-    -- ---- other children
-
-    pub inline_none : (b : Bool) → b || leb len item.start ≡ true → inline_lead (item_of item) b t ≡ []
-    inline_none true e = go (ltb item.start (length t) && ends_with (ascii "\n") t)
-      where
-        go : (c : Bool) → cond (c && false) (replicate {A = ℕ} item.indent 32) [] ≡ []
-        go true = refl
-        go false = refl
-    inline_none false e = rw (le-ltb item.start (length t) (omega (arith, leb-true len item.start e)))
-
-    pub inline_more : (b : Bool) → b || leb len item.start ≡ false → inline_lead (item_of item) b t ≡ cond (ends_with (ascii "\n") t) (replicate item.indent 32) []
-    inline_more true e = absurd (false≢true (sym e))
-    inline_more false e = rw (lt-ltb item.start (length t) (omega (arith, leb-false len item.start e))) (go (ends_with (ascii "\n") t))
-      where
-        go : (c : Bool) → cond (c && true) (replicate {A = ℕ} item.indent 32) [] ≡ cond c (replicate item.indent 32) []
-        go true = refl
-        go false = refl

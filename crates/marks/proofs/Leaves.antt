@@ -2,10 +2,10 @@
 use Prim.Native.Nat.{ℕ, zero, suc, ◌+◌, ◌-◌, ◌%◌, ◌≤◌, ◌<◌, max}
 use mathlib.Core.Path.{◌≡◌, refl, sym, ap, ◌∙◌}
 use mathlib.Core.Bool.{Bool, true, false, cond, not, ◌&&◌, ◌||◌, false≢true, true≢false}
-use mathlib.Core.List.{List, [], ◌∷◌, ◌++◌, append_assoc, append-nil}
+use mathlib.Core.List.{List, [], ◌∷◌, ◌++◌, append-nil}
 use native.Mathlib.Omega.{arith}
 use native.Mathlib.Numerals.{add-one}
-use lib.ListN.{length, take, drop, get_or, length-append, drop_of_length-le}
+use lib.ListN.{length, take, drop, get_or, drop_of_length-le}
 use lib.Seq.{length-take-le, drop-cons}
 use lib.Dec.{eqb}
 use borrow.Author.Tests.{eq-eqb, ne_eqb, eqb-false}
@@ -115,13 +115,6 @@ breaks_on s m zero h e t = absurd (omega arith)
 breaks_on s m (suc left) h e t = let q : suc left - 1 ≡ left = omega arith in rw (e, sym t.is, q)
 
 -- ---- runs of backticks
-
-runs_join : {a b c : Runs} {s t : List ℕ} → RunsBehind a s b → RunsBehind b t c → RunsBehind a (s ++ t) c
-runs_join {a} {b} {c} {s} {t} p q =
-    record {
-      goes = λ rest. ap (longest_with a) (append_assoc s t rest) ∙ p.goes (t ++ rest) ∙ q.goes rest;
-      small = omega (arith, p.small, q.small, length-append s t);
-    }
 
 -- a backtick
 pub runs_tick : (r : Runs) (b : ℕ) → b ≡ 96 → RunsBehind r (b ∷ []) (record { best = r.best; run = r.run + 1 })

@@ -1,17 +1,14 @@
 -- The answer of the call, and that it keeps the promise. Assumes nothing.
-use Prim.Native.Nat.{ℕ, zero, suc, ◌-◌, ◌≤◌, ◌<◌}
+use Prim.Native.Nat.{ℕ, zero, suc, ◌-◌, ◌≤◌}
 use native.Mathlib.Omega.{arith}
 use mathlib.Core.Path.{◌≡◌, refl, sym, ap, ap₂, subst, subst₂, ◌∙◌}
 use mathlib.Core.Bool.{Bool, true, false, cond}
 use mathlib.Core.List.{List, [], ◌∷◌, ◌++◌, append-nil}
 use lib.ListN.{length, take, drop, replicate, length-append, length-drop}
 use lib.Dec.{eqb}
-use lib.IntN.{ℤ, pos, neg_ℤ, ◌-ℤ◌, +ℤ_idl}
+use lib.IntN.{ℤ, pos, neg_ℤ}
 use lib.Seq.{length-take-le, drop-length}
 use borrow.Author.Tests.{ltb-true, le-leb, lt-leb, eq-eqb, ne_eqb}
-use mir.Facts.{sfits_lit, to_z-of_z, to_z_pos}
-use mir.Syntax.{w64}
-use mir.Val.{SFits, to_z, of_z}
 use Rattle.spec.specs.Bytes.{Bytes}
 use Rattle.spec.specs.Questions.{SkipList, standard, node_count, first_no, question1, question2, question3, question4, question5, question6, question7, question8, question9, refusal}
 use Rattle.spec.specs.Out.{Out}
@@ -165,21 +162,6 @@ coded_number_lem (Err r) = minus_number (question r)
 pub coded_length_lem : (a : Answer) → coded_length (coded a) ≡ length_of a
 coded_length_lem (Ok n) = refl
 coded_length_lem (Err r) = minus_length (question r)
-
-negative_fits : (k : ℕ) → k < 256 → SFits w64 (neg_ℤ (pos k))
-negative_fits zero l = sfits_lit tt
-negative_fits (suc k) l = record { sfits = omega arith }
-
--- minus a small number
-module _ (k : ℕ) (h : k < 256) where
-  minus_is : to_z w64 0 -ℤ to_z w64 k ≡ neg_ℤ (pos k)
-  minus_is = ap (λ (z : ℤ). pos 0 -ℤ z) (to_z_pos w64 {n = k} (omega arith)) ∙ +ℤ_idl (neg_ℤ (pos k))
-
-  pub minus_fits : SFits w64 (to_z w64 0 -ℤ to_z w64 k)
-  minus_fits = subst (SFits w64) (sym minus_is) (negative_fits k h)
-
-  pub minus_read : to_z w64 (of_z w64 (to_z w64 0 -ℤ to_z w64 k)) ≡ neg_ℤ (pos k)
-  minus_read = to_z-of_z {w = w64} minus_fits ∙ minus_is
 
 -- the text is no longer than its memory
 answer_length : (o : Out) (nodes text : Bytes) (t u : Bool) (k : ℕ)

@@ -15,7 +15,7 @@ use Rattle.std.specs.Result.{IsErr}
 use Rattle.text.specs.declared.buffer.Full.{Full}
 use Rattle.text.specs.declared.text.Text.{Text}
 use Rattle.text.specs.Texts.{bytes, WritesTo}
-use Rattle.text.proofs.Texts.{Answer, Owes, owes_all, owes_step, owes_stop, owes_last, as_step, pushes_nothing}
+use Rattle.text.proofs.Texts.{Answer, Owes, owes_step, owes_stop, owes_last, as_step, pushes_nothing}
 use Rattle.text.proofs.Writing.{push_both}
 use Rattle.nodes.specs.Stands.{Siblings, NodeAt}
 use Rattle.nodes.proofs.Numbers.{node_in, pieces, pieces_on, pieces_none}
@@ -29,9 +29,6 @@ pub record Spells {S : Type 0} (out : S → Bytes → Bytes) (go : S → Bytes �
 pub record Appends {S : Type 0} (out : S → Bytes → Bytes) (sh ns : Bytes) (from e : ℕ) (a : S) (before now : Text) (i : ℕ) (x : S) : Type 0 where
   pub later : from ≤ i
   pub owes : Owes before now (push (out x (pieces sh ns e i))) (push (out a (pieces sh ns e from)))
-
-pub appends_all : {S : Type 0} (out : S → Bytes → Bytes) (sh ns : Bytes) (from e : ℕ) (a : S) (before : Text) → Appends out sh ns from e a before before from a
-appends_all out sh ns from e a before = record { later = omega arith; owes = owes_all before (push (out a (pieces sh ns e from))) }
 
 module _ {S : Type 0} {out : S → Bytes → Bytes} {sh ns : Bytes} {from e : ℕ} {a : S} {before now : Text} {i : ℕ} {x : S} (c : Appends out sh ns from e a before now i x) where
   pub appends_node : Siblings sh ns from e → i < e → NodeAt sh ns i

@@ -113,9 +113,6 @@ pub record Carried {S : Type 0} (go : S → Bytes → S) (sh ns : Bytes) (from e
   pub later : from ≤ i
   pub leads : go a (pieces sh ns e from) ≡ go x (pieces sh ns e i)
 
-pub carried_all : {S : Type 0} (go : S → Bytes → S) (sh ns : Bytes) (from e : ℕ) (a : S) → Carried go sh ns from e a from a
-carried_all go sh ns from e a = record { later = omega arith; leads = refl }
-
 module _ {S : Type 0} {go : S → Bytes → S} {sh ns : Bytes} {from e i : ℕ} {a x : S} (c : Carried go sh ns from e a i x) where
   pub carried_node : Siblings sh ns from e → i < e → NodeAt sh ns i
   carried_node s l = node_in sh ns i from e s c.later l

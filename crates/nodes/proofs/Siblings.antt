@@ -18,9 +18,6 @@ pub record Left {M : Type 0} (v : Forest → M) (sh ns : Bytes) (from to i : ℕ
   pub here : Siblings sh ns i to
   pub goes : (parent : ℕ) (f : Forest) → Rep sh ns parent from to f → (g : Forest) × Rep sh ns parent i to g × (v f ≡ v g)
 
-pub left_all : {M : Type 0} (v : Forest → M) (sh ns : Bytes) (from to : ℕ) → Siblings sh ns from to → Left v sh ns from to from
-left_all v sh ns from to s = record { here = s; goes = λ parent f h. (f, h, refl) }
-
 module _ {M : Type 0} {v : Forest → M} {sh ns : Bytes} {from to i : ℕ} (p : Left v sh ns from to i) where
   pub left_first : i < to → First sh ns p.here.0 i to p.here.1
   left_first l = first sh ns p.here.0 i to p.here.1 p.here.2 l
@@ -76,11 +73,6 @@ over_begun {sh} {ns} {from} {to} {e} {s} {t} o q p =
 pub record Walks {M : Type 0} (v : Forest → M) (sh ns : Bytes) (from to : ℕ) (s : iter.Siblings) : Type 0 where
   pub over : Over sh ns s.next to s
   pub left : Left v sh ns from to s.next
-
-pub walks_all : {M : Type 0} (v : Forest → M) {sh ns : Bytes} {from to : ℕ} {s : iter.Siblings} → Siblings sh ns from to → Over sh ns from to s
-    → Walks v sh ns from to s
-walks_all v {sh} {ns} {from} {to} n o =
-    record { over = over_here o; left = subst (Left v sh ns from to) (sym o.next_is) (left_all v sh ns from to n) }
 
 module _ {M : Type 0} {v : Forest → M} {sh ns : Bytes} {from to : ℕ} {s t : iter.Siblings} (p : Walks v sh ns from to s) {i : ℕ} (g : GivesSibling s (Some i) t) where
   pub turn_before : i < to

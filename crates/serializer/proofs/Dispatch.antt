@@ -7,6 +7,7 @@ use borrow.Author.Tests.{eq-eqb, ne_eqb}
 use Rattle.spec.specs.Bytes.{Bytes}
 use Rattle.spec.specs.Names.{tag_of}
 use Rattle.spec.specs.Tree.{Attr, Forest}
+use Rattle.spec.specs.Out.{Out}
 use Rattle.spec.specs.Md.MDSerializer.{Ancestors, MDSerializer}
 use Rattle.spec.specs.Md.Serializer.{write_element}
 use Rattle.spec.specs.Md.Elements.Blocks.{is_list}
@@ -17,6 +18,8 @@ use Rattle.spec.specs.Md.Elements.Link.{write_link}
 use Rattle.spec.specs.Md.Elements.List.{write_list}
 use Rattle.spec.specs.Md.Elements.Table.{write_table}
 use Rattle.spec.specs.declared.ctx.FormatOpts.{FormatOpts}
+use Rattle.text.specs.Writes.{Wrote, Writes}
+use Rattle.text.proofs.Writing.{alike}
 
 module _ (self : MDSerializer) (anc : Ancestors) (opts : FormatOpts) (name : Bytes) (attrs : List Attr) (kids : Forest) (t : Bytes) {n : ℕ} (q : n ≡ tag_of name) where
   pub by_list : is_list n ≡ true → write_element self anc opts name attrs kids t ≡ write_list self anc opts (tag_of name) attrs kids t
@@ -50,3 +53,8 @@ module _ (self : MDSerializer) (anc : Ancestors) (opts : FormatOpts) (name : Byt
       rw (ap is_list (sym q) ∙ e) (rw (ne_eqb (tag_of name) 21 (λ z. a (q ∙ z)))
       (rw (ne_eqb (tag_of name) 22 (λ z. b (q ∙ z))) (rw (ne_eqb (tag_of name) 23 (λ z. c (q ∙ z)))
       (rw (ne_eqb (tag_of name) 14 (λ z. d (q ∙ z))) (rw (ne_eqb (tag_of name) 24 (λ z. f (q ∙ z))))))))
+
+-- what is written under options that are the same
+pub element_as : (self : MDSerializer) (anc : Ancestors) (name : Bytes) (attrs : List Attr) (kids : Forest) (t : Bytes) {u o : FormatOpts} {y : Out} {room : ℕ} {after : Bytes} {r : Wrote}
+    → u ≡ o → write_element self anc u name attrs kids t ≡ y → Writes room after r y → Writes room after r (write_element self anc o name attrs kids t)
+element_as self anc name attrs kids t q e w = alike (ap (λ (p : FormatOpts). write_element self anc p name attrs kids t) (sym q) ∙ e) w

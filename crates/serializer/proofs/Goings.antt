@@ -6,8 +6,7 @@ use lib.Dec.{ltb}
 use lib.ListN.{length, take}
 use lib.Seq.{length-take-le}
 use Rattle.spec.specs.Bytes.{Bytes}
-use Rattle.std.specs.Prelude.{List}
-use Rattle.spec.specs.Tree.{Attr, Forest, nothing, text, comment, element}
+use Rattle.spec.specs.Tree.{Forest, nothing, text, comment, element}
 use Rattle.spec.specs.Out.{Step, keep}
 use Rattle.spec.specs.Md.MDSerializer.{Ancestors, MDSerializer}
 use Rattle.spec.specs.Md.Elements.List.{Item, Progress, going, rule_block, item_children}
@@ -21,7 +20,7 @@ use Rattle.text.specs.declared.buffer.Full.{Full}
 use Rattle.std.specs.Prelude.{Ok, Err}
 use Rattle.std.specs.Result.{IsErr}
 use Rattle.text.proofs.Writing.{alike, keeps, keep_then, then_done, then_full, refused, reaches, yes, no}
-use Rattle.serializer.specs.Writers.{At, progress_at, progress_of, Went, SaysGoing, going_of, Goes, GoesForest, GoesElement}
+use Rattle.serializer.specs.Writers.{At, progress_at, progress_of, Went, SaysGoing, going_of, Goes, GoesForest}
 use Rattle.serializer.proofs.Onward.{afresh, joined, Onward, rule_of, onward_children}
 
 pub goes_alike : {room : ℕ} {after : Bytes} {r : Went} {p q : Progress} → p ≡ q → Goes room after r q → Goes room after r p
@@ -34,13 +33,6 @@ goes_not {room} {after} {r} {p} h w = go r h
     go : (r : Went) → IsErr r → Goes room after r p
     go (Ok g) h = absurd (false≢true h)
     go (Err e) h = record { says = w }
-
-pub err_is : {r : Went} → IsErr r → r ≡ Err (record {})
-err_is {r} h = go r h
-  where
-    go : (r : Went) → IsErr r → r ≡ Err (record {})
-    go (Ok g) h = absurd (false≢true h)
-    go (Err e) h = refl
 
 -- an answer of a step, with what is known behind it
 pub goes_told : {room : ℕ} {after : Bytes} {w : Wrote} {r : Went} {p : Progress} → r ≡ going_of w p.is_first_block p.blank_line_due → Writes room after w p.out → Goes room after r p
@@ -184,7 +176,3 @@ module _ {sh ns : Bytes} {from to : ℕ} {whole : Ancestors → Forest → Progr
 pub stops_forest : {sh ns : Bytes} {i e : ℕ} {step : Ancestors → Forest → Progress} {room : ℕ} {after : Bytes} {r : Went} → IsErr r
     → GoesForest sh ns i e step room after (Err (record {})) → GoesForest sh ns i e step room after r
 stops_forest h w = record { for = λ parent f anc k a. goes_not h ((w.for parent f anc k a).says) }
-
-pub stops_block : {sh ns : Bytes} {i : ℕ} {step : Ancestors → Bytes → List Attr → Forest → Progress} {room : ℕ} {after : Bytes} {r : Went} → IsErr r
-    → GoesElement sh ns i step room after (Err (record {})) → GoesElement sh ns i step room after r
-stops_block h w = record { for = λ name attrs kids anc x a. goes_not h ((w.for name attrs kids anc x a).says) }

@@ -2,7 +2,7 @@
 use Prim.Native.Nat.{ℕ, ◌+◌, ◌≤◌, ◌<◌}
 use native.Mathlib.Omega.{arith}
 use mathlib.Core.Path.{◌≡◌, refl, ap, sym, subst, ◌∙◌}
-use mathlib.Core.Bool.{Bool, true, false, cond, ◌||◌}
+use mathlib.Core.Bool.{Bool, false, ◌||◌}
 use mathlib.Core.List.{List, []}
 use lib.Dec.{eqb}
 use lib.ListN.{length, take, drop}
@@ -14,7 +14,6 @@ use Rattle.spec.specs.Md.Ctx.{include_node, list_item, break_of}
 use Rattle.spec.specs.Md.LineBreak.{linebreak}
 use Rattle.spec.specs.Md.MDSerializer.{Ancestors, MDSerializer, write, write_kids}
 use Rattle.spec.specs.Md.Serializer.{write_at, serializer}
-use Rattle.spec.specs.Md.Elements.Blocks.{is_list}
 use Rattle.spec.specs.Md.Elements.List.{Item, going, name_of, block_lead, flow_block, block_child, rule_block, write_list_item_indented}
 use Rattle.spec.specs.declared.ctx.FormatOpts.{FormatOpts}
 use Rattle.tree.specs.Memory.{place_at, end_at, parent_at}
@@ -26,7 +25,7 @@ use Rattle.text.specs.Writes.{Writes}
 use Rattle.text.specs.Writes.{Wrote, no_room}
 use Rattle.std.specs.Prelude.{Ok}
 use Rattle.text.proofs.Temporary.{lent, back, temp_full, temp_fits}
-use Rattle.text.proofs.Writing.{Owes, owes_all, owes_step, owes_stop, owes_last, alike, done, full, reaches, then_assoc, yes, no}
+use Rattle.text.proofs.Writing.{Owes, owes_all, owes_step, owes_stop, owes_last, alike, done, full, then_assoc, yes, no}
 use Rattle.elements.specs.ItemStep.{child_opts, flow_prefix, ended_flow}
 use Rattle.serializer.specs.ListStep.{inline_step, body_step, led_step}
 use Rattle.nodes.specs.Stands.{ElementAt, Placed, Placeds, PlacedNode}
@@ -43,13 +42,6 @@ use Rattle.serializer.proofs.Placing.{element_alone}
 pub fits_alike : (o p : FormatOpts) (levels : ℕ) → o.offset ≡ p.offset → Fits p levels → Fits o levels
 fits_alike o p levels q l = omega (arith, q, l)
 
-pub child_offset : (name : ℕ) (opts : FormatOpts) → (child_opts name opts).offset ≡ opts.offset
-child_offset name opts = go (is_list name)
-  where
-    go : (b : Bool) → (include_node (cond b opts (list_item opts))).offset ≡ opts.offset
-    go true = refl
-    go false = refl
-
 -- the node itself, where it ends at `to`
 pub node_range : {sh ns : Bytes} {i to : ℕ} → to ≡ end_at ns i → PlacedNode sh ns i → Placeds sh ns i to
 node_range {sh} {ns} {i} q p = subst (λ (e : ℕ). Placeds sh ns i e) (sym q) p.alone
@@ -58,11 +50,6 @@ node_range {sh} {ns} {i} q p = subst (λ (e : ℕ). Placeds sh ns i e) (sym q) p
 pub named : {sh ns : Bytes} {i name : ℕ} → name ≡ name_at sh (place_at ns i) → {nm : Bytes} {attrs : List Attr} {kids : Forest} → ElementAt sh ns i nm attrs kids → name_of (element nm attrs kids nothing) ≡ name
 unfolding name_of
 named q x = sym (q ∙ element_name x)
-
--- what is written of an element stands in the memory
-pub element_reaches : {sh ns : Bytes} {i : ℕ} {step : Ancestors → Bytes → List Attr → Forest → Step} {t : Bytes} {room : ℕ} {after : Bytes} {r : Wrote} {n : ℕ} → Placed sh ns i
-    → WritesElement sh ns i step t room after r → r ≡ Ok n → n ≤ length after
-element_reaches p w q = reaches (done q (w.for p.0.0 p.0.1 p.0.2 p.1.0 p.0.3 p.1.1))
 
 -- ---- a code block
 

@@ -306,9 +306,6 @@ module _ {t : ℕ} (n c to : ℕ) (q : n * 147573952589676412928 + 10 + (to - c)
   pub kids_fall : {end e : ℕ} → end ≡ e → e ≤ to → c < e → n * 147573952589676412928 + 11 + (end - (c + 1)) * 2 < t
   kids_fall d l p = omega (arith, q, d, l, p)
 
-  pub alone_falls : n * 147573952589676412928 + 6 < t
-  alone_falls = omega (arith, q)
-
 -- that of the children, at one of them
 pub child_falls : {t from to c : ℕ} (n : ℕ) → n * 147573952589676412928 + 11 + (to - from) * 2 ≡ t → from ≤ c → c < to → n * 147573952589676412928 + 10 + (to - c) * 2 < t
 child_falls n q l p = omega (arith, q, l, p)

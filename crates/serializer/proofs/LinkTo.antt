@@ -1,8 +1,8 @@
 -- What a link shows. Assumes nothing.
-use Prim.Native.Nat.{ℕ, ◌≤◌}
+use Prim.Native.Nat.{ℕ, ◌+◌, ◌≤◌}
 use native.Mathlib.Omega.{arith}
-use mathlib.Core.Path.{◌≡◌, refl, ap}
-use mathlib.Core.Bool.{true, false}
+use mathlib.Core.Path.{◌≡◌, refl, ap, sym, subst, ◌∙◌}
+use mathlib.Core.Bool.{Bool, true, false}
 use mathlib.Core.List.{List, [], ◌∷◌}
 use mathlib.Core.Option.{Option, none, some}
 use lib.ListN.{length, length-append}
@@ -14,7 +14,11 @@ use Rattle.spec.specs.Md.TextUtils.{push_normalized_text, normalized}
 use Rattle.spec.specs.Md.MDSerializer.{Ancestors, MDSerializer, write_kids}
 use Rattle.spec.specs.Md.Elements.Link.{has_element, has_descendant_img, write_text, link_of, link_to, body_link, href_or, write_link}
 use Rattle.spec.specs.declared.ctx.FormatOpts.{FormatOpts}
-use Rattle.text.specs.Writes.{Refused}
+use Rattle.text.specs.Writes.{Refused, Wrote, Writes}
+use Rattle.tree.specs.Memory.{end_at}
+use Rattle.tree.specs.Represents.{Rep}
+use Rattle.nodes.specs.Stands.{ElementAt}
+use Rattle.nodes.proofs.Interrupts.{element_kids}
 use Rattle.elements.specs.LinkStep.{text_link_step}
 use Rattle.elements.proofs.Links.{text_link_is}
 
@@ -63,6 +67,17 @@ null_more (b ∷ x) e = refl
 -- the texts that a link shows
 abbrev pub shown_text : FormatOpts → Forest → Out
 shown_text opts kids = write_text (skip_escape (include_node (fresh opts))) kids []
+
+-- which are written by themselves, whatever element the link is
+pub shown_below : (opts : FormatOpts) {sh ns : Bytes} {i d : ℕ} {a b o : FormatOpts} {room : ℕ} {after : Bytes} {r : Wrote} → a ≡ fresh opts → b ≡ include_node a → o ≡ skip_escape b → d ≡ end_at ns i
+    → ((parent : ℕ) (f : Forest) → Rep sh ns parent (i + 1) d f → Writes room after r (write_text o f []))
+    → (name : Bytes) (attrs : List Attr) (kids : Forest) → ElementAt sh ns i name attrs kids → Writes room after r (shown_text opts kids)
+shown_below opts {i = i} {room = room} {after} {r} p q s e w name attrs kids x =
+    subst (λ (g : FormatOpts). Writes room after r (write_text g kids [])) (s ∙ ap skip_escape (q ∙ ap include_node p)) (w i kids (element_kids x e))
+
+pub no_image_below : {sh ns : Bytes} {i d : ℕ} {b : Bool} → d ≡ end_at ns i → ((parent : ℕ) (f : Forest) → Rep sh ns parent (i + 1) d f → b ≡ has_element 22 f) → b ≡ false
+    → (name : Bytes) (attrs : List Attr) (kids : Forest) → ElementAt sh ns i name attrs kids → has_element 22 kids ≡ false
+no_image_below {i = i} e w n name attrs kids x = sym (w i kids (element_kids x e)) ∙ n
 
 module _ (self : MDSerializer) (anc : Ancestors) (opts : FormatOpts) (href name : Bytes) (attrs : List Attr) (kids : Forest) (t : Bytes) where
   pub to_image : has_element 22 kids ≡ true → link_to self anc opts href name attrs kids t ≡ link_of attrs href (write_kids self anc (link_body (fresh opts)) (element name attrs kids nothing) []) push t

@@ -92,10 +92,6 @@ module _ (levels : ℕ) where
   fits_numbered (Ol m) none ctx h = h
   fits_numbered (Ol m) (some n) ctx h = h
 
-  -- what the functions that know a context ask
-  pub fits_in : (ctx : ListContext) → FitsIn ctx levels → ctx.list_indent + 12 < 2 ^ 64
-  fits_in ctx h = omega (arith, h.1)
-
   fits_either : (li : Bool) (a b : ListContext) → FitsIn a levels → FitsIn b levels → FitsIn (cond li a b) levels
   fits_either true a b p q = p
   fits_either false a b p q = q
@@ -113,10 +109,6 @@ module _ (levels : ℕ) where
   pub fits_item : (ctx next : ListContext) (inner : FormatOpts) → next ≡ advance_ol_number ctx → inner ≡ list_item next.opts → FitsIn ctx levels → Fits inner levels
   fits_item ctx next inner q o h =
       subst (λ (x : FormatOpts). Fits x levels) (sym o) (subst (λ (x : ListContext). FitsIn x levels) (sym q) (fits_next ctx h)).0
-
-  -- the options of a child that is no item
-  pub fits_plain : (ctx : ListContext) (inner : FormatOpts) → inner ≡ include_node (fresh ctx.opts) → FitsIn ctx levels → Fits inner levels
-  fits_plain ctx inner o h = subst (λ (x : FormatOpts). Fits x levels) (sym o) (omega (arith, h.1))
 
 -- ---- an item without blocks
 

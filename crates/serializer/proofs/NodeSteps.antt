@@ -1,7 +1,7 @@
 -- What `write` does at one node, and in an element. Assumes nothing.
 use Prim.Native.Nat.{ℕ, ◌+◌, ◌<◌}
 use native.Mathlib.Omega.{arith}
-use mathlib.Core.Path.{◌≡◌, refl, ap, subst, ◌∙◌}
+use mathlib.Core.Path.{◌≡◌, refl, ap, sym, subst, ◌∙◌}
 use mathlib.Core.Bool.{Bool, true, false, not, ◌&&◌, and-eq-true_iff}
 use mathlib.Core.List.{List, ◌∷◌}
 use lib.ListN.{get_or}
@@ -20,6 +20,7 @@ use Rattle.tree.specs.Nodes.{body_at}
 use Rattle.tree.specs.Represents.{Rep, attrs_behind}
 use Rattle.tree.proofs.Firsts.{first, ended, its_tag, its_body}
 use Rattle.text.proofs.Writing.{yes, no}
+use Rattle.text.specs.Writes.{Wrote, Writes}
 use Rattle.nodes.specs.TextStep.{text_step}
 use Rattle.nodes.proofs.Spots.{then_keep}
 
@@ -87,3 +88,23 @@ module _ (self : MDSerializer) (anc : Ancestors) (opts : FormatOpts) (name : Byt
   pub kids_is : write_kids self anc opts (element name attrs kids nothing) t ≡ and_then (self.below (attrs ∷ anc) opts kids t) trim_space
   unfolding write_kids attrs_of kids_of
   kids_is = refl
+
+-- whether an element has a writer, by the number of its name and options that are the same
+pub writer_wanted : (name : Bytes) {u o : FormatOpts} {n : ℕ} {w b : Bool} → u ≡ o → n ≡ tag_of name → w ≡ has_writer u n → (not u.skip_md && w) ≡ b
+    → (not o.skip_md && has_writer o (tag_of name)) ≡ b
+writer_wanted name {u} {b = b} q e h k =
+    subst (λ (o : FormatOpts). (not o.skip_md && has_writer o (tag_of name)) ≡ b) q
+    (ap (λ (j : ℕ). not u.skip_md && has_writer u j) (sym e) ∙ ap (λ (x : Bool). not u.skip_md && x) (sym h) ∙ k)
+
+-- the node that stands alone in the range from i is an element that is not left out
+pub node_goes : (self : MDSerializer) (anc : Ancestors) (opts : FormatOpts) (t : Bytes) (sh ns : Bytes) (parent i : ℕ) → i < end_at ns i → (f : Forest) → Rep sh ns parent i (end_at ns i) f
+    → get_or sh (place_at ns i) 0 ≡ 1 → among (body_at sh (place_at ns i)) self.skip_tags ≡ false
+    → write_nodes self anc opts f t
+    ≡ and_then (opened opts (tag_of (body_at sh (place_at ns i))) (attrs_behind sh (place_at ns i)) (kids_of f) t) (in_element self anc opts (body_at sh (place_at ns i)) (attrs_behind sh (place_at ns i)) (kids_of f))
+node_goes self anc opts t sh ns parent i l f h g e =
+    ap (λ (x : Forest). write_nodes self anc opts x t) (alone_element sh ns parent i l f h g)
+    ∙ element_opened self anc opts (body_at sh (place_at ns i)) (attrs_behind sh (place_at ns i)) (kids_of f) t e
+
+pub opened_as : (n : ℕ) (attrs : List Attr) (kids : Forest) (t : Bytes) {o p : FormatOpts} {room : ℕ} {after : Bytes} {r : Wrote} → o ≡ p
+    → Writes room after r (opened o n attrs kids t) → Writes room after r (opened p n attrs kids t)
+opened_as n attrs kids t {room = room} {after} {r} e w = subst (λ (q : FormatOpts). Writes room after r (opened q n attrs kids t)) e w

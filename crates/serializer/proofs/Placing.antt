@@ -1,18 +1,19 @@
 -- The nodes that the writers are given: an element's children, the nodes of a range, and both after scratch has changed. Assumes nothing.
 use Prim.Native.Nat.{ℕ, ◌+◌, ◌≤◌, ◌<◌}
 use native.Mathlib.Omega.{arith}
-use mathlib.Core.Path.{◌≡◌, refl, sym, subst}
+use mathlib.Core.Path.{◌≡◌, refl, ap, sym, subst, ◌∙◌}
 use mathlib.Core.List.{List, ◌∷◌}
 use lib.ListN.{get_or}
 use Rattle.spec.specs.Bytes.{Bytes}
 use Rattle.spec.specs.Tree.{Attr, Forest, nothing, element, kids_of}
 use Rattle.spec.specs.Out.{Step}
-use Rattle.spec.specs.Md.MDSerializer.{Ancestors}
+use Rattle.spec.specs.Md.MDSerializer.{Ancestors, MDSerializer, write_kids}
+use Rattle.spec.specs.declared.ctx.FormatOpts.{FormatOpts}
 use Rattle.tree.specs.Memory.{place_at, end_at, parent_at, Kept}
 use Rattle.tree.specs.Nodes.{body_at}
 use Rattle.tree.specs.Represents.{attrs_behind, Rep, Around, head_of, rest_of}
 use Rattle.tree.proofs.Firsts.{First, first, rep_le}
-use Rattle.tree.proofs.Frames.{rep_kept, around_kept, end_kept}
+use Rattle.tree.proofs.Frames.{rep_kept, around_kept, end_kept, kept_in, kept_then}
 use Rattle.text.specs.Writes.{Writes}
 use Rattle.text.specs.Writes.{Wrote}
 use Rattle.nodes.specs.Stands.{ElementAt, Placed, Placeds, PlacedNode, NodeAt}
@@ -32,7 +33,7 @@ module _ {sh ns : Bytes} {i : ℕ} {name : Bytes} {attrs : List Attr} {kids : Fo
   unfolding Rep
   element_alone = (x.inside, x.field, x.attrs_are, refl, x.kids_are, refl)
 
-module _ (sh ns : Bytes) (i : ℕ) (p : Placed sh ns i) where
+module _ {sh ns : Bytes} {i : ℕ} (p : Placed sh ns i) where
   pub placed_node : NodeAt sh ns i
   placed_node = element_node p.0.3
 
@@ -95,6 +96,13 @@ module _ {sh ns : Bytes} {i e : ℕ} (p : Placeds sh ns i e) (l : i < e) where
         around = p.around;
       }
 
+pub node_stands : {sh ns : Bytes} {i : ℕ} → PlacedNode sh ns i → NodeAt sh ns i
+node_stands p = placeds_at p.alone p.later
+
+-- the tag in the field of a node
+pub tag_is : (sh ns : Bytes) (i : ℕ) {p g : ℕ} → g ≡ get_or sh p 0 → p ≡ place_at ns i → g ≡ 1 → get_or sh (place_at ns i) 0 ≡ 1
+tag_is sh ns i e q t = omega (arith, t, e ∙ ap (λ (k : ℕ). get_or sh k 0) q)
+
 -- a node that is an element, by its field
 module _ (sh ns : Bytes) (parent i e : ℕ) (f : Forest) (h : Rep sh ns parent i e f) (l : i < e) (o : 0 < i) (t : get_or sh (place_at ns i) 0 ≡ 1) where
   pub node_element : ElementAt sh ns i (body_at sh (place_at ns i)) (attrs_behind sh (place_at ns i)) (kids_of f)
@@ -141,6 +149,18 @@ module _ {from to : ℕ} {a b : Bytes} (k : Kept from to a b) where
       record {
         for = λ parent f anc h q. w.for parent f anc (subst (λ (e : ℕ). Rep sh b parent i e f) (sym (end_kept k i)) (rep_kept k sh parent i (end_at a i) f h)) (around_kept k sh parent anc q);
       }
+
+-- node i of the siblings up to `to` has changed scratch last
+pub kept_on : {from to i : ℕ} {sh a b d : Bytes} → Kept from to a b → from ≤ i → Placeds sh a i to → i < to → Kept i (end_at b i) b d → Kept from to a d
+kept_on {i = i} k l p h w = kept_then k (kept_in l (omega (arith, end_kept k i, placeds_within p h)) w)
+
+-- the children of an element, with other options that are the same
+pub kids_as : (self : MDSerializer) {o p : FormatOpts} {sh ns : Bytes} {i : ℕ} {t : Bytes} {room : ℕ} {after : Bytes} {r : Wrote} → o ≡ p
+    → WritesElement sh ns i (λ anc name attrs kids. write_kids self anc o (element name attrs kids nothing)) t room after r
+    → (name : Bytes) (attrs : List Attr) (kids : Forest) (anc : Ancestors) → ElementAt sh ns i name attrs kids → Around sh ns (parent_at ns i) anc
+    → Writes room after r (write_kids self anc p (element name attrs kids nothing) t)
+kids_as self {t = t} {room} {after} {r} e w name attrs kids anc x h =
+    subst (λ (q : FormatOpts). Writes room after r (write_kids self anc q (element name attrs kids nothing) t)) e (w.for name attrs kids anc x h)
 
 -- what is written for the element is written for the node that stands alone
 pub alone_writes : {sh ns : Bytes} {i : ℕ} (p : PlacedNode sh ns i) (t : get_or sh (place_at ns i) 0 ≡ 1) {step : Ancestors → Bytes → List Attr → Forest → Step} {u : Bytes} {room : ℕ} {after : Bytes} {r : Wrote}

@@ -15,7 +15,7 @@ use Rattle.text.specs.Writes.{Wrote}
 use Rattle.text.proofs.Texts.{Answer}
 use Rattle.text.proofs.Temporary.{lent, back}
 use Rattle.serializer.specs.declared.progress.Going.{Going}
-use Rattle.serializer.specs.Writers.{SameRoom, At, Went, gone, going_of}
+use Rattle.serializer.specs.Writers.{SameRoom, Went, going_of}
 
 pub room_same : (a : Text) → SameRoom a a
 room_same a = record { room_is = refl; long = refl }

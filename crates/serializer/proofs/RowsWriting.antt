@@ -111,15 +111,6 @@ module _ (self : MDSerializer) (opts : FormatOpts) where
       begun q = unfold rows_texts rows_lengths in q
 
 module _ {self : MDSerializer} {opts : FormatOpts} {sh a b : Bytes} {from to r : ℕ} {d text : List ℕ} {len end : ℕ} (p : RowsProgress self opts sh a b from to r d text len end) where
-  rows_some : RowsGoing self opts sh b from to r d text len end p.some.0
-  rows_some = p.goes p.some.0 p.some.1
-
-  pub rows_reach : end ≤ length text
-  rows_reach = rows_some.owes.reach
-
-  pub rows_long : length text ≡ length d
-  rows_long = rows_some.owes.long
-
   -- no row is left
   pub rows_end : to ≤ r → (rows : List (List Cell)) → Rows sh a from to rows
       → RowsWrites (length d) text (table_lengths sh b from to) (Ok end) (rows_texts self opts rows) (take len d)

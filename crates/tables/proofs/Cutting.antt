@@ -2,12 +2,9 @@
 use Prim.Native.Nat.{ℕ, ◌+◌, ◌-◌, ◌*◌, ◌≤◌, max}
 use native.Mathlib.Omega.{arith}
 use mathlib.Core.Path.{◌≡◌, refl, ap, sym, ◌∙◌}
-use mathlib.Core.Bool.{Bool, true, false}
 use mathlib.Core.List.{List, [], ◌∷◌, ◌++◌, append_assoc}
 use lib.ListN.{length, take, drop, replicate, length-append, length-drop, length-replicate}
 use lib.Seq.{length-take-le, drop-drop}
-use lib.Dec.{leb}
-use borrow.Author.Tests.{le-leb, lt-leb, leb-true, leb-false}
 use Rattle.spec.specs.Bytes.{Bytes, null}
 use Rattle.spec.specs.Md.Elements.Table.{concat}
 use Rattle.tables.specs.Puts.{bar, bars, bar_line, bar_lines}
@@ -118,13 +115,6 @@ unfolding filled null width concat
 width_few [] = omega arith
 width_few ([] ∷ ls) = width_few ls
 width_few ((n ∷ l) ∷ ls) = omega (arith, length-append l (concat ls))
-
-pub room_left : (room a b c : ℕ) → a + b ≤ room → leb c (room - a - b) ≡ leb (a + b + c) room
-room_left room a b c h = go (leb c (room - a - b)) refl
-  where
-    go : (t : Bool) → leb c (room - a - b) ≡ t → t ≡ leb (a + b + c) room
-    go true e = sym (le-leb (a + b + c) room (omega (arith, leb-true c (room - a - b) e)))
-    go false e = sym (lt-leb (a + b + c) room (omega (arith, leb-false c (room - a - b) e)))
 
 -- ---- the lines of a table
 

@@ -104,9 +104,6 @@ pub record Looking (sh ns : Bytes) (from to c : ℕ) : Type 0 where
   pub goes : (parent : ℕ) (f : Forest) → parent < from → Rep sh ns parent from to f
       → (g : Forest) × Rep sh ns parent c to g × (parent < c) × (cell_lengths sh ns parent from to ≡ cell_lengths sh ns parent c to) × ((anc : Ancestors) → cells_of anc f ≡ cells_of anc g)
 
-pub looking_all : (sh ns : Bytes) (from to : ℕ) → Siblings sh ns from to → Looking sh ns from to from
-looking_all sh ns from to s = record { here = s; goes = λ parent f l h. (f, h, l, refl, λ anc. refl) }
-
 pub looking_at : {sh ns : Bytes} {from to c d : ℕ} → Looking sh ns from to c → d ≡ c → Looking sh ns from to d
 looking_at {sh} {ns} {from} {to} p q = subst (λ (j : ℕ). Looking sh ns from to j) (sym q) p
 

@@ -1,13 +1,12 @@
 -- Bytes put one behind the other. Assumes nothing.
-use Prim.Native.Nat.{ℕ, zero, suc, ◌+◌, ◌-◌, ◌*◌, ◌≤◌, ◌<◌}
+use Prim.Native.Nat.{ℕ, zero, suc, ◌+◌, ◌-◌, ◌*◌, ◌≤◌}
 use mathlib.Core.Path.{◌≡◌, refl, sym, ap, subst, subst₂, ◌∙◌}
 use mathlib.Core.List.{List, [], ◌∷◌, ◌++◌, append_assoc, append-nil}
 use native.Mathlib.Omega.{arith}
-use native.Mathlib.Numerals.{add-one}
-use lib.ListN.{length, take, drop, set, replicate, length-append, length-take, length-drop, length-set, replicate-append-replicate}
+use lib.ListN.{length, take, drop, replicate, length-append, length-take, length-drop, replicate-append-replicate}
 use borrow.Rule.Slice.PartMut.{put_mid, same_len_mid}
 use Rattle.std.proofs.lemmas.Slice.{take-put_mid, drop-put_mid}
-use lib.Seq.{length-take-le, take-suc-set, drop-set-lt, drop-drop}
+use lib.Seq.{length-take-le, drop-drop}
 use Rattle.spec.specs.Bytes.{Bytes}
 use Rattle.text.specs.declared.text.Text.{Text}
 use Rattle.tables.specs.Puts.{Puts, PutsTo, bar, bars}
@@ -28,15 +27,6 @@ puts_then {a} {b} {c} {len} {m} {n} {x} {y} p q =
       count = omega (arith, p.count, q.count, length-append x y);
       text_is = q.text_is ∙ ap (λ (t : List ℕ). t ++ y) p.text_is ∙ append_assoc (take len a) x y;
       behind = q.behind ∙ drop_later a b m n (omega (arith, q.count)) p.behind;
-    }
-
-pub puts_byte : (d : List ℕ) (len b : ℕ) → len < length d → Puts d (set d len b) len (len + 1) (b ∷ [])
-puts_byte d len b h =
-    record {
-      long = length-set d len b;
-      count = refl;
-      text_is = rw (add-one, take-suc-set);
-      behind = drop-set-lt (len + 1) d len b (omega arith);
     }
 
 -- the bytes in other words

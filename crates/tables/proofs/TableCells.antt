@@ -14,7 +14,7 @@ use Rattle.spec.specs.Md.MDSerializer.{Ancestors}
 use Rattle.spec.specs.Md.Elements.List.{name_of}
 use Rattle.spec.specs.Md.Elements.Table.{Cell, is_table_cell, cells_of, all_th}
 use Rattle.tree.specs.Memory.{place_at, end_at, parent_at}
-use Rattle.tree.specs.Represents.{Rep, Nodes, Around, rest_of}
+use Rattle.tree.specs.Represents.{Rep, Around, rest_of}
 use Rattle.tree.specs.Nodes.{name_at}
 use Rattle.tree.proofs.Firsts.{First, first, ended}
 use Rattle.tree.proofs.Kin.{first_name}
@@ -59,10 +59,6 @@ module _ {sh ns : Bytes} {r : ℕ} {row : List Cell} (x : RowAt sh ns r row) whe
         rep = e.kids_are;
         cells_are = x.cells_are;
       }
-
-  -- its children, up to its end d
-  pub cells_kids : {d : ℕ} → d ≡ end_at ns r → Nodes sh ns (r + 1) d
-  cells_kids q = (r, x.kids, subst (λ (j : ℕ). Rep sh ns r (r + 1) j x.kids) (sym q) x.is_element.kids_are)
 
 module _ (sh ns : Bytes) (r c : ℕ) (anc : Ancestors) (later : r < c) (a : Around sh ns r anc) where
   cell_of : (f : Forest) → Rep sh ns r c (end_at ns r) f → c < end_at ns r → is_table_cell (name_of f) ≡ true → CellAt sh ns r c (cells_of anc f)

@@ -101,9 +101,6 @@ pub joined_full : (d : List ℕ) (len base : ℕ) → base ≤ length d → (f :
 unfolding and_then beside push
 joined_full d len base g f v = record { over = omega (arith, v.over, length-drop base d) }
 
-pub in_being : {j k room : ℕ} {after : List ℕ} {r : Wrote} (o : Out) → j ≡ k → Writes room after r (beside j o) → Writes room after r (beside k o)
-in_being {j} {k} {room} {after} {r} o e w = subst (λ (i : ℕ). Writes room after r (beside i o)) e w
-
 -- x stands before it, and has no room before it
 pub before_full : (d : List ℕ) (len base k : ℕ) → base ≤ length d → (x : List ℕ) → Refused base (push x (take len d)) → Refused (length d) (joined d len base k (push x))
 unfolding and_then beside push

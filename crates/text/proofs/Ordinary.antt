@@ -48,12 +48,6 @@ ordinary_escaped u (b ∷ s) h =
     ap (λ (t : Bool). cond t (ascii "\\") [] ++ (b ∷ escaped_from false false u s)) (not_escaped u b s r.1 r.2)
     ∙ ap (λ (x : List ℕ). b ∷ x) (ordinary_escaped u s q.1)
 
-pub agree : (x y : Bool) → cond x y (not y) ≡ true → x ≡ y
-agree true true e = refl
-agree true false e = sym e
-agree false true e = e
-agree false false e = refl
-
 -- which bytes are escaped behind the beginning of a line does not depend on the underline
 inner_marks : (u : Bool) (s : List ℕ) → escaped_from false false u s ≡ escaped_from false false false s
 unfolding escaped_from is_escaped

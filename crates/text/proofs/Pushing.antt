@@ -1,4 +1,4 @@
--- A loop that appends: d is the memory, and its first `len` bytes are the text. Assumes nothing.
+-- Bytes that are appended: d is the memory, and its first `len` bytes are the text. Assumes nothing.
 use Prim.Native.Nat.{ℕ, ◌+◌, ◌-◌, ◌≤◌, ◌<◌}
 use mathlib.Core.Path.{◌≡◌, sym, ap, ◌∙◌}
 use mathlib.Core.List.{List, [], ◌∷◌, ◌++◌, append_assoc}
@@ -7,22 +7,9 @@ use native.Mathlib.Numerals.{add-one}
 use lib.ListN.{length, take, drop, set, length-append, length-set, length-take, length-drop}
 use borrow.Rule.Slice.PartMut.{put_mid, same_len_mid}
 use lib.Seq.{take_at}
-use lib.Seq.{length-take-le, take-suc-set, take_all, take-paste, paste, length-paste}
+use lib.Seq.{length-take-le, take-suc-set}
 use Rattle.spec.specs.Out.{push}
 use Rattle.text.specs.Writes.{Written, Refused}
-
--- i bytes of s are copied, which are all of them
-pub push_done : (d s after : List ℕ) (len i : ℕ) → len + length s ≤ length d → i ≡ length s → after ≡ paste d len s i
-    → Written (length d) after (len + i) (push s (take len d))
-unfolding push
-push_done d s after len i h e p =
-    let l : length (take len d) ≡ len = length-take-le len d (omega arith) in
-    record {
-      long = ap length p ∙ length-paste d len s i (omega arith) (omega arith);
-      fits = omega arith;
-      count = omega (arith, length-append (take len d) s);
-      text_is = rw p (take-paste d len s i (omega arith) (omega arith) ∙ ap (λ (x : List ℕ). take len d ++ x) (take_all i s (omega arith)));
-    }
 
 pub push_full : (d s : List ℕ) (len : ℕ) → len ≤ length d → length d - len < length s → Refused (length d) (push s (take len d))
 unfolding push

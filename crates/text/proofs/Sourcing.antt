@@ -9,13 +9,11 @@ use lib.ListN.{length, take, drop, get_or, length-append, length-take, length-dr
 use lib.Seq.{length-take-le, take-take, get_or-drop, get_or-take, slice, slice-cons, take_at, drop_at}
 use lib.Dec.{eqb}
 use Rattle.spec.specs.Bytes.{starts_with}
-use Rattle.spec.specs.Out.{Out, Step}
+use Rattle.spec.specs.Out.{Step}
 use Rattle.text.specs.Source.{WritesIn}
 use Rattle.text.specs.Writes.{Writes, Wrote}
-use Rattle.std.specs.Prelude.{Err}
-use Rattle.std.specs.Result.{IsErr}
 use Rattle.text.proofs.Reading.{drop_take, starts_byte, starts_short}
-use Rattle.text.proofs.Writing.{alike, stops}
+use Rattle.text.proofs.Writing.{alike}
 
 -- ---- parts that are alike
 
@@ -41,10 +39,6 @@ follows_none i to b s h = sym (ap (starts_with (b ∷ [])) (part_none i to s h) 
 
 front : {room n : ℕ} (d : List ℕ) → n ≤ room → take n (take room d) ≡ take n d
 front {room} {n} d h = take-take n room d h
-
--- where `?` returns early
-pub stops_in : {room : ℕ} {before after : List ℕ} {s : Wrote} {o : Out} → IsErr s → WritesIn room before after (Err (record {})) o → WritesIn room before after s o
-stops_in h w = record { long = w.long; writes = stops h w.writes; behind = w.behind }
 
 -- the front of the memory is lent, and comes back as ys
 pub lent_front : (room len : ℕ) (d ys : List ℕ) {r : Wrote} (f : Step) → len ≤ room → room ≤ length d → length ys ≡ length (take room d) → Writes (length (take room d)) ys r (f (take len (take room d)))

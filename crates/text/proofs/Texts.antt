@@ -4,19 +4,17 @@ use mathlib.Core.Path.{◌≡◌, refl, sym, subst, subst₂, ap, ◌∙◌}
 use mathlib.Core.Bool.{false≢true}
 use mathlib.Core.List.{List, [], ◌++◌}
 use borrow.Rule.Slice.PartMut.{put_mid}
-use lib.ListN.{length, take, drop}
+use lib.ListN.{length, take}
 use Rattle.std.specs.Prelude.{Result, Ok, Err}
 use Rattle.std.specs.Result.{IsErr}
 use Rattle.spec.specs.Out.{Step, and_then, cut, keep, push}
 use Rattle.text.specs.declared.buffer.Full.{Full}
 use Rattle.text.specs.declared.text.Text.{Text}
-use Rattle.text.specs.Source.{WritesIn}
 use Rattle.text.specs.Trimmed.{Trimmed}
-use Rattle.text.specs.Writes.{Written, Refused, Says, Writes, Wrote}
+use Rattle.text.specs.Writes.{Written, Refused, Says, Writes}
 use Rattle.text.specs.Texts.{bytes, wrote, WritesTo}
 use Rattle.text.proofs.Pushing.{put_done, push_full}
 use Rattle.text.proofs.Spaces.{cut_done}
-use Rattle.text.proofs.Sourcing.{lent_front, stops_in}
 use Rattle.text.proofs.Writing.{alike, then, refused, keeps, keeps_nothing, push_both}
 
 abbrev pub Answer : Type 0
@@ -128,21 +126,6 @@ module _ {a b : Text} {q : Answer} (x y : List ℕ) where
 
   pub push_stopped : {r : Answer} {f : Full} → q ≡ Err f → WritesTo a b q (push x) → IsErr r → WritesTo a b r (push (x ++ y))
   push_stopped e v h = as_step (push_both x y (bytes a)) (stop (push y) e v h)
-
--- ---- the memory z is split: p is a text in the front of it, which comes back as ys when p has become q, and f of y, which stands behind the front, was written
-module _ {p q : Text} {r : Answer} {base : ℕ} {z y ys : List ℕ} (f : List ℕ → Step) (h : p.len ≤ base) (k : base ≤ length z) (e : p.room.now ≡ take base z) (d : y ≡ drop base z)
-    (w : WritesTo p q r (f y)) (i : ys ≡ q.room.now) where
-  split_writes : WritesIn base z (ys ++ y) (wrote q r) (f (drop base z) (take p.len z))
-  split_writes =
-      subst₂ (λ (t x : List ℕ). WritesIn base z (t ++ x) (wrote q r) (f (drop base z) (take p.len z))) (sym i) (sym d)
-      (lent_front base p.len z q.room.now (f (drop base z)) h k (w.long ∙ ap length e)
-      (subst₂ (λ (s t : List ℕ). Writes (length s) q.room.now (wrote q r) (f t (take p.len s))) e d w.writes))
-
-  pub split_done : {u : Unit {0}} → r ≡ Ok u → WritesIn base z (ys ++ y) (Ok q.len) (f (drop base z) (take p.len z))
-  split_done o = subst (λ (x : Answer). WritesIn base z (ys ++ y) (wrote q x) (f (drop base z) (take p.len z))) o split_writes
-
-  pub split_over : {x : Full} {s : Wrote} → r ≡ Err x → IsErr s → WritesIn base z (ys ++ y) s (f (drop base z) (take p.len z))
-  split_over o g = stops_in g (subst (λ (x : Answer). WritesIn base z (ys ++ y) (wrote q x) (f (drop base z) (take p.len z))) o split_writes)
 
 -- it has no room, where an answer is an `Err`
 pub as_stop : {a b : Text} {r : Answer} {f : Step} → b.room.ghost_name ≡ a.room.ghost_name → length b.room.now ≡ length a.room.now → IsErr r → Refused (length a.room.now) (f (bytes a))

@@ -1,12 +1,12 @@
--- Trims, byte by byte from the end or from the front. Assumes nothing.
-use Prim.Native.Nat.{ℕ, zero, suc, ◌+◌, ◌-◌, ◌≤◌, ◌<◌}
+-- Trims, byte by byte from the end. Assumes nothing.
+use Prim.Native.Nat.{ℕ, suc, ◌+◌, ◌-◌, ◌≤◌, ◌<◌}
 use mathlib.Core.Path.{◌≡◌, refl, sym, ap, subst, ◌∙◌}
 use mathlib.Core.Bool.{Bool, true, false}
 use mathlib.Core.List.{List, [], ◌∷◌, ◌++◌}
 use native.Mathlib.Omega.{arith}
-use lib.ListN.{length, take, drop, get_or, length-take}
+use lib.ListN.{length, take, get_or, length-take}
 use lib.Seq.{take-suc, take_all, take-take, take-length}
-use Rattle.spec.specs.Bytes.{one, unless, trim_end_matches, trim_start_matches}
+use Rattle.spec.specs.Bytes.{one, unless, trim_end_matches}
 
 -- a byte of the class at the end goes
 pub trim_snoc : (p : ℕ → Bool) (s : List ℕ) (b : ℕ) → p b ≡ true → trim_end_matches (one p) (s ++ (b ∷ [])) ≡ trim_end_matches (one p) s
@@ -55,15 +55,6 @@ trim_whole p s n long h =
 pub trim_none : (p : ℕ → Bool) (s : List ℕ) (n : ℕ) → n ≤ 0 → trim_end_matches (one p) (take n s) ≡ take n s
 unfolding trim_end_matches
 trim_none p s n h = let e : n ≡ 0 = omega arith in rw e
-
--- ---- from the front
-
-pub skip_none : (p : ℕ → Bool) (s : List ℕ) (i : ℕ) → length s ≤ i → trim_start_matches p (drop i s) ≡ drop i s
-unfolding trim_start_matches
-skip_none p [] zero h = refl
-skip_none p [] (suc i) h = refl
-skip_none p (x ∷ s) zero h = absurd (omega arith)
-skip_none p (x ∷ s) (suc i) h = skip_none p s i (omega arith)
 
 -- ---- a front of s, without its last byte
 pub front_less : (s r : List ℕ) → length r ≤ length s → take (length r) s ≡ r → take (length (take (length r - 1) r)) s ≡ take (length r - 1) r

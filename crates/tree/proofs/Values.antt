@@ -25,9 +25,6 @@ module _ {sh : Bytes} {r : Answer (Bor Bytes)} {v : Option Bytes} (h : Valued sh
 
 -- ---- parts of the sheet
 
-pub part_short : (sh x : Bytes) → PartOf sh x → length x ≤ length sh
-part_short sh x p = omega (arith, ap length p.4, length-take (p.1 - p.0) (drop p.0 sh), length-drop p.0 sh)
-
 -- the bytes from a up to b of a part
 pub part_of_part : (sh x : Bytes) (a b : ℕ) → PartOf sh x → a ≤ b → b ≤ length x → PartOf sh (take (b - a) (drop a x))
 part_of_part sh x a b (p, q, o, i, e) h l =

@@ -1,18 +1,12 @@
-use Rattle.std.proofs.Common.{ℕ, ap, ap₂, sym, take, arith}
+use Rattle.std.proofs.Common.{ℕ, ap, ap₂, sym, take}
 use Rattle.spec.specs.Bytes.{Bytes}
 use Rattle.spec.specs.Tree.{text_of}
 use Rattle.spec.specs.Md.Elements.Code.{push_code_text}
 use Rattle.text.specs.Texts.{bytes}
 use Rattle.text.proofs.Texts.{as_step}
 use Rattle.nodes.proofs.Interrupts.{element_kids}
-use Rattle.elements.proofs.Edges.{code_is, code_size, code_reach}
+use Rattle.elements.proofs.Edges.{code_is, code_size}
 use Rattle.elements.proofs.code.push_trimmed_code.Goals as goal
-
-pub push_code_text-requires : goal.push_code_text-requires
-push_code_text-requires c =
-    let t = c.args.text.now in
-    let r = code_reach t.room.now t.len c.args.n c.requires.1 (ap (take c.args.n) c.behind.ensures) c.code_end-end.ensures c.code_start-start.ensures in
-    (omega arith, omega (arith, r.0, r.1), omega arith)
 
 pub returns : goal.returns
 returns c =

@@ -1,4 +1,4 @@
-use mathlib.Core.Path.{refl, sym, ap, ◌∙◌, subst}
+use mathlib.Core.Path.{refl, sym, ap, ◌∙◌}
 use mathlib.Core.Option.{none}
 use native.Mathlib.Omega.{arith}
 use Prim.Native.Nat.{ℕ}
@@ -6,14 +6,9 @@ use Rattle.spec.specs.Bytes.{ascii}
 use Rattle.spec.specs.Tree.{attr}
 use Rattle.spec.specs.Md.Elements.Code.{class_language, find_code_language_css_class}
 use Rattle.tree.specs.Represents.{attrs_behind}
-use Rattle.nodes.proofs.Siblings.{Walks, left_on, left_at, left_node, left_none, walks_all, turn_before, turn_left, turn_on, turn_none}
+use Rattle.nodes.proofs.Siblings.{left_on, left_at, left_node, left_none, turn_before, turn_left, turn_on, turn_none}
 use Rattle.elements.proofs.Languages.{language_of, css_here, css_on}
 use Rattle.elements.proofs.code_language.find_code_language_css_class.Goals as goal
-
-pub loop-i-init : goal.loop-i-init
-loop-i-init c =
-    let a = c.args in let t = a.tree.now in
-    subst (Walks find_code_language_css_class t.sheet.now t.nodes.now a.from a.to) (sym c.into_iter-i-iterator.ensures.into_iter_gives) (walks_all find_code_language_css_class c.requires c.siblings-i-items.ensures)
 
 pub node_name-requires : goal.node_name-requires
 node_name-requires c = let w = c.loop-i.invariant in let s = c.in-Some.ensures.steps in left_node (turn_left w s) (turn_before w s)

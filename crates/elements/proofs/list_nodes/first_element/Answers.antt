@@ -6,15 +6,10 @@ use Rattle.tree.specs.Memory.{place_at}
 use Rattle.tree.specs.Represents.{Rep}
 use Rattle.tree.proofs.Firsts.{ended}
 use Rattle.nodes.specs.FirstElement.{first_element}
-use Rattle.nodes.proofs.Siblings.{Walks, left_on, left_node, walks_all, turn_before, turn_left, turn_on, turn_none}
+use Rattle.nodes.proofs.Siblings.{left_on, left_node, turn_before, turn_left, turn_on, turn_none}
 use Rattle.nodes.proofs.Interrupts.{element_first, element_on}
 use native.Mathlib.Omega.{arith}
 use Rattle.elements.proofs.list_nodes.first_element.Goals as goal
-
-pub loop-i-init : goal.loop-i-init
-loop-i-init c =
-    subst (Walks first_element c.args.tree.now.sheet.now c.args.tree.now.nodes.now c.args.from c.args.to) (sym c.into_iter-i-iterator.ensures.into_iter_gives)
-    (walks_all first_element c.requires c.siblings-i-items.ensures)
 
 pub node_place-requires : goal.node_place-requires
 node_place-requires c =

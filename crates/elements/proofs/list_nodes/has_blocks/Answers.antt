@@ -1,14 +1,9 @@
 use mathlib.Core.Bool.{true, false}
-use mathlib.Core.Path.{refl, sym, ap, ◌∙◌, subst}
+use mathlib.Core.Path.{refl, sym, ap, ◌∙◌}
 use Rattle.spec.specs.Md.Elements.List.{node_is_list_item_block, has_blocks}
-use Rattle.nodes.proofs.Siblings.{Walks, left_on, left_at, left_node, left_none, walks_all, turn_before, turn_left, turn_on, turn_none}
+use Rattle.nodes.proofs.Siblings.{left_on, left_at, left_node, left_none, turn_before, turn_left, turn_on, turn_none}
 use Rattle.elements.proofs.ListTests.{blocks_here, blocks_on}
 use Rattle.elements.proofs.list_nodes.has_blocks.Goals as goal
-
-pub loop-i-init : goal.loop-i-init
-loop-i-init c =
-    subst (Walks has_blocks c.args.tree.now.sheet.now c.args.tree.now.nodes.now c.args.from c.args.to) (sym c.into_iter-i-iterator.ensures.into_iter_gives)
-    (walks_all has_blocks c.requires c.siblings-i-items.ensures)
 
 pub node_name-requires : goal.node_name-requires
 node_name-requires c =

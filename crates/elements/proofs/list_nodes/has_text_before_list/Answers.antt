@@ -1,16 +1,11 @@
-use mathlib.Core.Path.{refl, sym, ap, ◌∙◌, subst}
+use mathlib.Core.Path.{refl, sym, ap, ◌∙◌}
 use mathlib.Core.Bool.{true, false}
 use Rattle.spec.specs.Md.Elements.Blocks.{is_list}
 use Rattle.spec.specs.Md.Elements.List.{has_text_before_list}
 use Rattle.tree.specs.Represents.{head_of}
-use Rattle.nodes.proofs.Siblings.{Walks, left_on, left_at, left_node, left_none, its_head, walks_all, turn_before, turn_left, turn_on, turn_none}
+use Rattle.nodes.proofs.Siblings.{left_on, left_at, left_node, left_none, its_head, turn_before, turn_left, turn_on, turn_none}
 use Rattle.elements.proofs.ListTests.{before_none, before_here, before_on}
 use Rattle.elements.proofs.list_nodes.has_text_before_list.Goals as goal
-
-pub loop-i-init : goal.loop-i-init
-loop-i-init c =
-    subst (Walks has_text_before_list c.args.tree.now.sheet.now c.args.tree.now.nodes.now c.args.from c.args.to) (sym c.into_iter-i-iterator.ensures.into_iter_gives)
-    (walks_all has_text_before_list c.requires c.siblings-i-items.ensures)
 
 pub node_name-requires : goal.node_name-requires
 node_name-requires c =

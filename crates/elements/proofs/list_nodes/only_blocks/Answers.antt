@@ -1,23 +1,13 @@
-use mathlib.Core.Path.{refl, ap, ◌∙◌, sym, subst}
-use mathlib.Core.Bool.{Bool, true, false, ◌&&◌}
+use mathlib.Core.Path.{refl, ap, ◌∙◌}
+use mathlib.Core.Bool.{Bool, true, ◌&&◌}
 use Rattle.spec.specs.Md.Elements.List.{only_blocks}
 use Rattle.tree.specs.Represents.{rest_of}
-use Rattle.nodes.proofs.Siblings.{Walks, left_on, left_at, left_node, left_none, walks_all, turn_before, turn_left, turn_on, turn_none}
+use Rattle.nodes.proofs.Siblings.{left_on, left_node, left_none, turn_before, turn_left, turn_on, turn_none}
 use Rattle.elements.proofs.list_nodes.only_blocks.Goals as goal
-
-pub loop-i-init : goal.loop-i-init
-loop-i-init c =
-    subst (Walks only_blocks c.args.tree.now.sheet.now c.args.tree.now.nodes.now c.args.from c.args.to) (sym c.into_iter-i-iterator.ensures.into_iter_gives)
-    (walks_all only_blocks c.requires c.siblings-i-items.ensures)
 
 pub is_only_block-requires : goal.is_only_block-requires
 is_only_block-requires c =
     let w = c.loop-i.invariant in let s = c.in-Some.ensures.steps in left_node (turn_left w s) (turn_before w s)
-
-pub returns-then-not-is_only_block : goal.returns-then-not-is_only_block
-returns-then-not-is_only_block c =
-    let w = c.loop-i.invariant in let s = c.in-Some.ensures.steps in
-    left_at (turn_left w s) false (λ parent g h. c.is_only_block.ensures parent c.args.to g h (turn_before w s) ∙ ap (λ (t : Bool). t && only_blocks (rest_of g)) c.if-not-is_only_block.true)
 
 pub loop-i-preserved : goal.loop-i-preserved
 loop-i-preserved c =

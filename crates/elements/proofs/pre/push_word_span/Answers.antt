@@ -5,16 +5,11 @@ use Rattle.spec.specs.Bytes.{ascii, words, join}
 use Rattle.spec.specs.Tree.{text_of}
 use Rattle.spec.specs.Md.Elements.Code.{push_code_text}
 use Rattle.text.specs.Texts.{bytes}
-use Rattle.elements.proofs.Behind.{behind_from, behind_fits, behind_writes, span_over, stop_as}
+use Rattle.elements.proofs.Behind.{behind_from, behind_writes, span_over, stop_as}
 use Rattle.elements.proofs.pre.push_word_span.Goals as goal
 
 pub overflow_sub-n : goal.overflow_sub-n
 overflow_sub-n c = let p = c.requires in behind_from _ c.in_ok-push_words.was (c.push_words.ensures p.0 p.1 p.2)
-
-pub push_code_text-requires : goal.push_code_text-requires
-push_code_text-requires c =
-    let p = c.requires in
-    (omega arith, behind_fits _ c.in_ok-push_words.was (c.push_words.ensures p.0 p.1 p.2), omega arith)
 
 pub returns : goal.returns
 returns c = λ parent f h. behind_writes _ c.in_ok-push_words.was (c.push_words.ensures parent f h) (push_code_text 0) refl refl refl c.push_code_text.ensures

@@ -1,19 +1,13 @@
-use Rattle.std.proofs.Common.{ℕ, List, ◌-◌, length, drop, ap, ◌∙◌, arith, length-take}
+use Rattle.std.proofs.Common.{ℕ, List, drop, ap, ◌∙◌}
 use Rattle.spec.specs.Bytes.{null, parts, split}
 use Rattle.spec.specs.Out.{push}
 use Rattle.spec.specs.Md.Elements.List.{block_lines, is_line_end}
 use Rattle.lists_links.specs.Items.{item_of}
 use Rattle.text.specs.Texts.{bytes}
 use Rattle.text.proofs.Reading.{rest_part}
-use Rattle.text.proofs.Texts.{owes_all, owes_step, owes_stop, owes_last, pushes_nothing}
+use Rattle.text.proofs.Texts.{owes_step, owes_stop, owes_last, pushes_nothing}
 use Rattle.lists_links.proofs.ItemLines.{lines_turn, lines_end}
 use Rattle.lists_links.proofs.list_indented.push_lines.Goals as goal
-
-pub loop-rest-init : goal.loop-rest-init
-loop-rest-init c = owes_all c.args.text.now (push (block_lines (item_of c.args.item) (split is_line_end c.args.block.now)))
-
-pub loop-rest-smaller : goal.loop-rest-smaller
-loop-rest-smaller c = let r = c.loop-rest.rest.now in omega (arith, length-take (length r - 1) (drop 1 r), c.in-len1-up.len_at_least)
 
 pub loop-rest-preserved : goal.loop-rest-preserved
 loop-rest-preserved c =

@@ -3,12 +3,9 @@ use lib.ListN.{drop}
 use Rattle.spec.specs.Out.{push}
 use Rattle.spec.specs.Md.TextUtils.{each_byte, quote_escaped}
 use Rattle.text.specs.Texts.{bytes}
-use Rattle.text.proofs.Texts.{pushes_nothing, owes_all, owes_step, owes_stop, owes_last}
+use Rattle.text.proofs.Texts.{pushes_nothing, owes_step, owes_stop, owes_last}
 use Rattle.lists_links.proofs.Titles.{each_turn, each_end}
 use Rattle.lists_links.proofs.title.push_quoted.Goals as goal
-
-pub loop-b-init : goal.loop-b-init
-loop-b-init c = owes_all c.args.text.now (push (each_byte quote_escaped c.args.title.now))
 
 pub returns-in_err-push_quoted_byte : goal.returns-in_err-push_quoted_byte
 returns-in_err-push_quoted_byte c =

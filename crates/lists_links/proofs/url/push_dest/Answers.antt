@@ -1,9 +1,9 @@
-use Rattle.std.proofs.Common.{rules, ℕ, List, ◌-◌, length, drop, sym, ap, ◌∙◌, arith, length-take}
+use Rattle.std.proofs.Common.{rules, ℕ, List, drop, sym, ap, ◌∙◌}
 use Rattle.spec.specs.Out.{push}
 use Rattle.spec.specs.Md.TextUtils.{html_escape}
 use Rattle.text.specs.Texts.{bytes}
 use Rattle.text.proofs.Reading.{rest_part}
-use Rattle.text.proofs.Texts.{as_step, pushes_nothing, owes_all, owes_step, owes_stop, owes_last}
+use Rattle.text.proofs.Texts.{as_step, pushes_nothing, owes_step, owes_stop, owes_last}
 use Rattle.lists_links.proofs.Linking.{shown, shown_byte, shown_space, shown_end, space_long, kept_pieces}
 use Rattle.lists_links.proofs.url.push_dest.Goals as goal
 
@@ -13,9 +13,6 @@ returns-then-is_kept_dest c =
     let e = sym c.is_kept_dest.ensures ∙ c.if-is_kept_dest.true in
     as_step (ap (λ (x : List ℕ). push x (bytes a.text.now)) (kept_pieces a.wrap a.dest.now e)) c.push_all.ensures
 
-pub loop-rest-init : goal.loop-rest-init
-loop-rest-init c = owes_all c.args.text.now (push (shown c.args.wrap c.args.dest.now))
-
 pub slice_bounds-rest-count : goal.slice_bounds-rest-count
 slice_bounds-rest-count c = space_long c.loop-rest.rest.now (sym c.starts_with.ensures ∙ c.if-starts_with.true)
 
@@ -23,9 +20,6 @@ pub slice_bounds-rest-start : goal.slice_bounds-rest-start
 slice_bounds-rest-start c =
     let h = space_long c.loop-rest.rest.now (sym c.starts_with.ensures ∙ c.if-starts_with.true) in
     search (rules, h)
-
-pub loop-rest-smaller : goal.loop-rest-smaller
-loop-rest-smaller c = let r = c.loop-rest.rest.now in omega (arith, length-take (length r - 1) (drop 1 r), c.in-len1-up.len_at_least)
 
 pub loop-rest-preserved-then-starts_with : goal.loop-rest-preserved-then-starts_with
 loop-rest-preserved-then-starts_with c =

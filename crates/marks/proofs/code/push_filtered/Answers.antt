@@ -3,12 +3,9 @@ use Rattle.spec.specs.Out.{push}
 use Rattle.spec.specs.Md.Elements.Code.{filter}
 use Rattle.marks.specs.Kept.{kept_byte}
 use Rattle.text.specs.Texts.{bytes}
-use Rattle.text.proofs.Texts.{owes_step, owes_stop, owes_last, owes_all, pushes_nothing}
+use Rattle.text.proofs.Texts.{owes_step, owes_stop, owes_last, pushes_nothing}
 use Rattle.marks.proofs.Leaves.{filter_turn, filter_none}
 use Rattle.marks.proofs.code.push_filtered.Goals as goal
-
-pub loop-b-init : goal.loop-b-init
-loop-b-init c = owes_all c.args.text.now (push (filter kept_byte c.args.s.now))
 
 pub returns-in_err-push_byte_if : goal.returns-in_err-push_byte_if
 returns-in_err-push_byte_if c =

@@ -25,13 +25,6 @@ returns-then-text-extra c =
     omega (arith, c.count_bare_pipes-extra.ensures, ap length c.bytes.ensures, ap (λ s. length (pipes_escaped false s)) c.bytes.ensures, n) in
     as_full refl refl (escaping_full t.room.now t.fits e c.if-text-extra.true)
 
-pub loop-i-init : goal.loop-i-init
-loop-i-init c =
-    let t = c.args.text.now in
-    let e : t.len + c.count_bare_pipes-extra.result ≡ length (pipes_escaped false (bytes t)) =
-    omega (arith, c.count_bare_pipes-extra.ensures, ap length c.bytes.ensures, ap (λ s. length (pipes_escaped false s)) c.bytes.ensures, length-take-le t.len t.room.now t.fits) in
-    record { room_is = refl; len_is = refl; escaping = record { long = refl; within = omega arith; place = e; above = omega arith; under = omega arith; kept = refl; joined = refl } }
-
 pub put_before-at-requires : goal.put_before-at-requires
 put_before-at-requires c =
     let t = c.args.text.now in let l = c.loop-i in let i = l.invariant.escaping in
@@ -49,9 +42,6 @@ loop-i-preserved c =
     ∙ ap (λ k. take k l.text.room.now) (omega (arith, c.loop-i-test.true)) in
     let f = c.ends_with_bare_pipe-bare.ensures ∙ ap bare_pipe s in
     record { room_is = l.invariant.room_is; len_is = l.invariant.len_is; escaping = escaping_on t.room.now t.fits i (l.i - 1) (omega (arith, c.loop-i-test.true)) c.ends_with_bare_pipe-bare.result f c.put_before-at.ensures }
-
-pub invariant_of-text-2 : goal.invariant_of-text-2
-invariant_of-text-2 c = record { fits = omega (arith, c.loop-i.invariant.len_is, c.loop-i.invariant.escaping.long, c.if-text-extra.false, c.args.text.now.fits) }
 
 pub returns : goal.returns
 unfolding escape_table_cell_inplace

@@ -1,10 +1,7 @@
-use Rattle.std.proofs.Common.{◌≡◌, ◌-◌, ◌≤◌, refl, ap, sym, ◌∙◌, arith, length, take, take-take}
-use Rattle.std.proofs.Math.Seq.{length-take-le, take-length}
+use Rattle.std.proofs.Common.{◌≡◌, ◌-◌, ◌≤◌, ap, sym, ◌∙◌, arith, length, take, take-take}
+use Rattle.std.proofs.Math.Seq.{length-take-le}
 use Rattle.marks.proofs.Leaves.{cell_long, breaks_end, breaks_on}
 use Rattle.marks.proofs.table.trim_trailing_cell_break.Goals as goal
-
-pub loop-rest-init : goal.loop-rest-init
-loop-rest-init c = record { within = omega arith; front = take-length c.args.s.now; left = length c.args.s.now; enough = omega arith; is = refl }
 
 pub slice_bounds-front-count : goal.slice_bounds-front-count
 slice_bounds-front-count c = omega (arith, cell_long c.loop-rest.rest.now (sym c.loop-rest-test.ensures))

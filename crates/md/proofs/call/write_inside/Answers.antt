@@ -2,7 +2,6 @@ use Rattle.text.proofs.Writing.{stops}
 use Prim.Native.Nat.{◌<◌, ◌^◌}
 use mathlib.Core.Path.{sym, subst, ◌∙◌}
 use lib.Dec.{lit<}
-use native.Mathlib.Omega.{arith}
 use Rattle.spec.specs.declared.ctx.FormatOpts.{FormatOpts}
 use Rattle.input.specs.Scans.{skip_of}
 use Rattle.serializer.specs.Writers.{Fits}

@@ -1,4 +1,4 @@
-use Prim.Native.Nat.{ℕ, ◌+◌, ◌-◌, ◌<◌, ◌≤◌}
+use Prim.Native.Nat.{ℕ, ◌+◌, ◌-◌, ◌<◌}
 use Rattle.elements.proofs.Languages.{around_it}
 use Rattle.elements.proofs.Links.{link_is, emphasis_is}
 use Rattle.elements.proofs.Nesting.{back_text}
@@ -6,78 +6,73 @@ use Rattle.elements.specs.EmphasisStep.{emphasis_step}
 use Rattle.elements.specs.ItemStep.{ended_list}
 use Rattle.elements.specs.LinkStep.{link_step, text_link_step}
 use Rattle.input.specs.Scans.{skip_of}
-use Rattle.tree.proofs.Values.{part_short}
 use Rattle.lists_links.specs.Items.{item_of, ended_item}
 use Rattle.nodes.proofs.Interrupts.{element_kids, element_name}
-use Rattle.nodes.specs.Stands.{Placeds, ElementAt, NodeAt, Placed, PlacedNode}
+use Rattle.nodes.specs.Stands.{Placeds}
 use Rattle.serializer.proofs.Rooms.{room_same, leaf_room, room_on, room_behind, wrote_err, gone_err, going_ok, going_err}
-use Rattle.serializer.proofs.Answers.{stops_element, stops_forest, stops_row, stops_rows, both-full, nest-done, nest-full, nest-fits, written-reaches, forest-reaches, below-wrote, both-done, forest-long}
-use Rattle.serializer.proofs.Dispatch.{by_list, by_link, by_img, by_pre, by_table, by_code, by_emphasis}
+use Rattle.serializer.proofs.Answers.{stops_element, stops_forest, stops_row, stops_rows, both-full, nest-done, nest-full, nest-fits, below-wrote, both-done, both-on, emphasis_below}
+use Rattle.serializer.proofs.Dispatch.{by_list, by_link, by_img, by_pre, by_table, by_code, by_emphasis, element_as}
 use Rattle.serializer.proofs.Falls.{falls_in, falls_out}
 use Rattle.serializer.proofs.Gathered.{behind_count, behind_bytes}
-use Rattle.serializer.proofs.Goings.{stops_forest as stops_going, err_is, went, went_full, going_first, going_on, going_stop, going_last}
-use Rattle.serializer.proofs.ItemBlocks.{block_rule, block_led, fits_alike, element_reaches, body_pre, flow_none, flow_full, flow_done, node_range, indented_fits, indented_done, indented_full, child_offset, inline_none, inline_done, led_none, led_full, led_done}
-use Rattle.serializer.proofs.ItemChild.{block_tag_lem, alone_none, alone_inline, alone_block, child_comment, child_skipped, child_wrapper, child_alone, wrapper_kids, kids_fall, alone_falls, child_falls, goes_before}
+use Rattle.serializer.proofs.Goings.{stops_forest as stops_going, went, went_full, going_first, going_on, going_stop, going_last}
+use Rattle.serializer.proofs.ItemBlocks.{block_rule, block_led, fits_alike, body_pre, flow_none, flow_full, flow_done, node_range, indented_fits, indented_done, indented_full, inline_none, inline_done, led_none, led_full, led_done}
+use Rattle.serializer.proofs.ItemChild.{block_tag_lem, alone_none, alone_inline, alone_block, child_comment, child_skipped, child_wrapper, child_alone, wrapper_kids, kids_fall, child_falls, goes_before}
 use Rattle.serializer.proofs.Levels.{write_some, write_none, nodes_first, nodes_none}
-use Rattle.serializer.proofs.LinkTo.{shown_text, to_image, to_body, to_text, text_grown, shown_null, null_none, null_more, link_some, link_none}
-use Rattle.serializer.proofs.Lists.{fits_in, fits_blocks, falls_children, blocks_parts, fits_item, item_parts, fits_plain, head_other, item_placed, head_item, fits_child, fits_behind, list_none, list_first, fits_begun, list_parts}
-use Rattle.serializer.proofs.NodeSteps.{inside_writer, inside_plain, some_one, kids_is, one_is, alone_element, node_text, element_skipped, element_opened}
-use Rattle.serializer.proofs.Placing.{placeds_at, node_placed, placed_node, placed_kids, placeds_first, placeds_on, placeds_later, placeds_within, node_kept, placed_alone, writes_before, node_element, alone_writes}
+use Rattle.serializer.proofs.LinkTo.{shown_text, to_image, to_body, to_text, text_grown, shown_null, null_none, null_more, link_some, link_none, shown_below, no_image_below}
+use Rattle.serializer.proofs.Lists.{fits_blocks, falls_children, blocks_parts, fits_item, item_parts, head_other, item_placed, head_item, fits_child, fits_behind, list_none, list_first, fits_begun, list_parts}
+use Rattle.serializer.proofs.NodeSteps.{inside_writer, inside_plain, some_one, kids_is, one_is, alone_element, node_text, element_skipped, writer_wanted, node_goes, opened_as}
+use Rattle.serializer.proofs.Placing.{placeds_at, node_placed, placed_node, placed_kids, placeds_first, placeds_on, placeds_later, placeds_within, node_kept, placed_alone, writes_before, node_element, alone_writes, node_stands, tag_is, kept_on, kids_as}
 use Rattle.serializer.proofs.RowWriting.{row_start, row_reach, row_long, row_end, row_placed, row_inside, row_kept, row_behind, row_later, row_writes, row_stop, row_on}
-use Rattle.serializer.proofs.RowsWriting.{rows_start, rows_reach, rows_long, rows_end, rows_row, rows_keep, rows_behind, rows_stop, rows_on}
-use Rattle.serializer.proofs.TableChoice.{table_written, table_flat, first_before}
+use Rattle.serializer.proofs.RowsWriting.{rows_start, rows_end, rows_row, rows_keep, rows_behind, rows_stop, rows_on}
+use Rattle.serializer.proofs.TableChoice.{table_written, table_flat, first_before, rows_below, filled_below, writable_below, cells_below}
 use Rattle.serializer.proofs.TableWriting.{table_at, table_full, table_done, table_sum, ends_in}
 use Rattle.serializer.proofs.Turns.{turn_first, turn_on, turn_stop, turn_last}
 use Rattle.serializer.specs.ListStep.{list_head}
 use Rattle.serializer.specs.Options.{unpacked}
-use Rattle.serializer.specs.Writers.{self_at, progress_at, progress_of, progress_on, at_text, gone, Fits, GoesForest, FitsIn, WritesForest}
+use Rattle.serializer.specs.Writers.{self_at, progress_at, at_text, gone, Fits}
 use Rattle.text.specs.Texts.{bytes, wrote}
-use Rattle.spec.specs.Bytes.{Bytes, ascii, among}
+use Rattle.spec.specs.Bytes.{Bytes, ascii}
 use Rattle.spec.specs.Call.{tags_to_skip}
 use Rattle.spec.specs.Md.Ctx.{fresh, table_cell, break_of, list_item, include_node, advance_ol_number, skip_escape, link_body, scope_of, inline, emphasis_scope}
 use Rattle.spec.specs.Md.Elements.Emphasis.{md_emphasis}
 use Rattle.spec.specs.Md.Elements.Image.{write_img}
-use Rattle.spec.specs.Md.Elements.Link.{has_element, link_of, write_text}
+use Rattle.spec.specs.Md.Elements.Link.{link_of}
 use Rattle.spec.specs.Md.Elements.List.{begin_item, item_from, item_children, write_list_item_blocks, write_list_item, number_of, list_children, write_list}
-use Rattle.spec.specs.Md.Elements.Table.{cell_text, without_breaks, trim_trailing_cell_break, escape_table_cell_inplace, rows_of, from_cells, is_table_node_writable, concat}
-use Rattle.spec.specs.Md.MDSerializer.{Ancestors, write_kids}
-use Rattle.spec.specs.Md.Serializer.{serializer, in_element, has_writer, closed, write_element, write_at, write_nodes, opened}
+use Rattle.spec.specs.Md.Elements.Table.{cell_text, without_breaks, trim_trailing_cell_break, escape_table_cell_inplace, rows_of, from_cells, concat}
+use Rattle.spec.specs.Md.MDSerializer.{write_kids}
+use Rattle.spec.specs.Md.Serializer.{serializer, in_element, closed, write_at, write_nodes, opened}
 use Rattle.spec.specs.Md.TextUtils.{trim_space}
 use Rattle.spec.specs.Names.{tag_of}
 use Rattle.spec.specs.Out.{and_then, Step, push, Out}
 use Rattle.spec.specs.Tree.{Attr, Forest, nothing, element, attr, kids_of}
 use Rattle.spec.specs.declared.ctx.FormatOpts.{FormatOpts}
-use Rattle.spec.specs.declared.ctx.ListContext.{ListContext}
 use Rattle.tables.proofs.RowTests.{writable_none}
-use Rattle.tables.proofs.TableRows.{rows_of_lem, rows_at, rows_at_kept}
-use Rattle.tables.specs.Rows.{Rows, RowsAt}
-use Rattle.tables.specs.Spans.{table_lengths}
-use Rattle.tables.specs.TableSteps.{rows_texts, RowsWrites}
+use Rattle.tables.proofs.TableRows.{rows_at, rows_at_kept}
+use Rattle.tables.specs.TableSteps.{rows_texts}
 use Rattle.text.proofs.Spaces.{cut_done}
-use Rattle.text.proofs.Temporary.{lent, back, back_length, temp_fits}
+use Rattle.text.proofs.Temporary.{back, back_length, temp_fits}
 use Rattle.text.specs.Trimmed.{Trimmed}
-use Rattle.text.proofs.Writing.{alike_answer, done, reaches, Owes, owes_all, owes_step, owes_on, owes_over, owes_last, alike, owes_stop, then_assoc, full, keeps, stops}
+use Rattle.text.proofs.Writing.{alike_answer, done, reaches, owes_all, owes_step, owes_on, owes_over, owes_last, alike, owes_stop, then_assoc, full, keeps, stops}
 use Rattle.text.specs.Writes.{Writes}
 use Rattle.tree.proofs.Firsts.{rep_le}
-use Rattle.tree.proofs.Frames.{kept_none, kept_in, kept_then, end_kept, place_kept, rep_kept}
+use Rattle.tree.proofs.Frames.{kept_none, kept_in, end_kept, place_kept, rep_kept}
 use Rattle.tree.proofs.Kin.{first_skipped}
-use Rattle.tree.specs.Memory.{place_at, parent_at, Kept, end_at}
+use Rattle.tree.specs.Memory.{place_at, Kept, end_at}
 use Rattle.tree.specs.Nodes.{name_at, body_at}
-use Rattle.tree.specs.Represents.{attrs_behind, Around, Rep, head_of, rest_of}
+use Rattle.tree.specs.Represents.{attrs_behind, Rep}
 use borrow.Author.Tests.{eqb-true}
 use lib.Dec.{lit<, eqb}
 use lib.ListN.{take, length, drop, get_or}
-use lib.Seq.{length-take-le}
-use mathlib.Core.Bool.{true, false, Bool, not, ◌&&◌, cond}
+use mathlib.Core.Bool.{true, false, Bool, cond}
 use mathlib.Core.List.{List, ◌∷◌, []}
-use mathlib.Core.Path.{◌≡◌, refl, ap, sym, subst, ◌∙◌, subst₂}
+use mathlib.Core.Path.{refl, ap, sym, subst, ◌∙◌, subst₂}
 use native.Mathlib.Omega.{arith}
 use Rattle.std.proofs.Common.{rules, Ok}
 use Rattle.serializer.proofs.MDSerializer.+writers.Goals as goal
 
 pub alone-node_name-name-requires : goal.alone-node_name-name-requires
 alone-node_name-name-requires t c =
-    placeds_at c.requires.0.alone c.requires.0.later
+    node_stands c.requires.0
 
 pub alone-block-requires : goal.alone-block-requires
 alone-block-requires t c = (
@@ -88,12 +83,6 @@ alone-block-requires t c = (
     c.requires.1,
     c.requires.2,
   ),
-)
-
-pub alone-inline-requires : goal.alone-inline-requires
-alone-inline-requires t c = (
-  falls_in c.args.levels c.decreases (lit< tt),
-  (c.requires.0, c.node_name-name.ensures, c.requires.1, c.requires.2),
 )
 
 pub alone-returns-then-node_is_list_item_block : goal.alone-returns-then-node_is_list_item_block
@@ -128,16 +117,12 @@ alone-returns-in_err-due_line t c =
       goes_forest = stops_going (gone_err _ _ c.from_residual.ensures.0) (alone_none c.args.self.now.sheet.now c.args.nodes.now c.args.c c.node_name-name.ensures c.requires.0.later (self_at c.args.self.now.skip c.args.levels) (item_of c.args.item) c.args.before.first c.args.before.due c.args.blank c.args.text.now.room.now c.args.text.now.len c.due_line.ensures.writes (ap (wrote c.due_line.new.text) c.in_err-due_line.was));
     }
 
-pub block-led-requires : goal.block-led-requires
-block-led-requires t c =
-    (falls_in c.args.levels c.decreases (lit< tt), c.requires)
-
 pub block-returns-then-name-eq-HR : goal.block-returns-then-name-eq-HR
 block-returns-then-name-eq-HR t c =
     record {
       room = c.rule_block.ensures.room;
       kept = kept_none c.args.nodes.now;
-      goes_element = block_rule c.args.self.now.sheet.now c.args.nodes.now c.args.c c.requires.1 (self_at c.args.self.now.skip c.args.levels) (item_of c.args.item) c.args.before.first c.args.before.due (take c.args.text.now.len c.args.text.now.room.now) c.if-name-eq-HR.true c.rule_block.ensures.goes;
+      goes_element = block_rule c.args.self.now.sheet.now c.args.nodes.now c.args.c c.requires.1 (self_at c.args.self.now.skip c.args.levels) (item_of c.args.item) c.args.before.first c.args.before.due (bytes c.args.text.now) c.if-name-eq-HR.true c.rule_block.ensures.goes;
     }
 
 pub block-returns : goal.block-returns
@@ -145,7 +130,7 @@ block-returns t c =
     record {
       room = c.led.ensures.room;
       kept = c.led.ensures.kept;
-      goes_element = block_led c.args.self.now.sheet.now c.args.nodes.now c.args.c c.requires.1 (self_at c.args.self.now.skip c.args.levels) (item_of c.args.item) c.args.before.first c.args.before.due (take c.args.text.now.len c.args.text.now.room.now) c.if-name-eq-HR.false (going_ok c.led.new.text _ _ c.in_ok-led.was) c.led.ensures.writes_element;
+      goes_element = block_led c.args.self.now.sheet.now c.args.nodes.now c.args.c c.requires.1 (self_at c.args.self.now.skip c.args.levels) (item_of c.args.item) c.args.before.first c.args.before.due (bytes c.args.text.now) c.if-name-eq-HR.false (going_ok c.led.new.text _ _ c.in_ok-led.was) c.led.ensures.writes_element;
     }
 
 pub block-returns-in_err-led : goal.block-returns-in_err-led
@@ -153,63 +138,46 @@ block-returns-in_err-led t c =
     record {
       room = c.led.ensures.room;
       kept = c.led.ensures.kept;
-      goes_element = block_led c.args.self.now.sheet.now c.args.nodes.now c.args.c c.requires.1 (self_at c.args.self.now.skip c.args.levels) (item_of c.args.item) c.args.before.first c.args.before.due (take c.args.text.now.len c.args.text.now.room.now) c.if-name-eq-HR.false (going_err _ _ _ _ _ c.from_residual.ensures.0 c.in_err-led.was) c.led.ensures.writes_element;
+      goes_element = block_led c.args.self.now.sheet.now c.args.nodes.now c.args.c c.requires.1 (self_at c.args.self.now.skip c.args.levels) (item_of c.args.item) c.args.before.first c.args.before.due (bytes c.args.text.now) c.if-name-eq-HR.false (going_err _ _ _ _ _ c.from_residual.ensures.0 c.in_err-led.was) c.led.ensures.writes_element;
     }
 
 pub blocks-returns-in_err-start_item : goal.blocks-returns-in_err-start_item
 blocks-returns-in_err-start_item t c =
     let self = self_at c.args.self.now.skip c.args.levels in
-    let item = item_from c.args.ctx.now (begin_item true c.args.ctx.now (take c.args.text.now.len c.args.text.now.room.now)) in record {
+    let item = item_from c.args.ctx.now (begin_item true c.args.ctx.now (bytes c.args.text.now)) in record {
       room = leaf_room c.start_item.ensures.0;
       kept = kept_none c.args.nodes.now;
       writes_element = stops_element (wrote_err _ _ c.from_residual.ensures.0) (record {
         for = λ name attrs kids anc x a.
             both-full c.args.text.now.room.now c.args.text.now.len c.args.text.now.fits (write_list_item_blocks self anc attrs kids c.args.ctx.now) (begin_item true c.args.ctx.now)
             (λ u. and_then (item_children self (attrs ∷ anc) kids item (progress_at true false u)).out (ended_item item))
-            (blocks_parts self anc attrs kids c.args.ctx.now item (take c.args.text.now.len c.args.text.now.room.now) refl) c.start_item.ensures.0.writes (ap (wrote c.start_item.new.text) c.in_err-start_item.was);
+            (blocks_parts self anc attrs kids c.args.ctx.now item (bytes c.args.text.now) refl) c.start_item.ensures.0.writes (ap (wrote c.start_item.new.text) c.in_err-start_item.was);
       });
       ctx_value = c.start_item.ensures.1;
     }
 
-pub blocks-node_end-to-requires : goal.blocks-node_end-to-requires
-blocks-node_end-to-requires t c =
-    (placed_node c.args.self.now.sheet.now c.args.nodes.now c.args.c c.requires.0).inside
-
-pub blocks-start_item-requires : goal.blocks-start_item-requires
-blocks-start_item-requires t c =
-    fits_in c.args.levels c.args.ctx.now c.requires.2
-
-pub blocks-item_from-item-requires : goal.blocks-item_from-item-requires
-blocks-item_from-item-requires t c =
-    (fits_in c.args.levels c.args.ctx.now c.requires.2, c.start_item.ensures.1)
-
-pub blocks-overflow_add-c : goal.blocks-overflow_add-c
-blocks-overflow_add-c t c =
-    omega (arith, (placed_node c.args.self.now.sheet.now c.args.nodes.now c.args.c c.requires.0).inside, c.well_formed)
-
 pub blocks-children-requires : goal.blocks-children-requires
 blocks-children-requires t c =
-    let kids_at_here : Placeds c.args.self.now.sheet.now c.args.nodes.now (c.args.c + 1) c.node_end-to.result = placed_kids c.args.self.now.sheet.now c.args.nodes.now c.args.c c.requires.0 c.node_end-to.ensures in
-    let item_is_here : item_of c.item_from-item.result ≡ item_from c.args.ctx.now (begin_item true c.args.ctx.now (take c.args.text.now.len c.args.text.now.room.now)) = c.item_from-item.ensures (begin_item true c.args.ctx.now (take c.args.text.now.len c.args.text.now.room.now)) (done (ap (wrote c.start_item.new.text) c.in_ok-start_item.was) c.start_item.ensures.0.writes).count in (
+    let item_is = c.item_from-item.ensures (begin_item true c.args.ctx.now (bytes c.args.text.now)) (done (ap (wrote c.start_item.new.text) c.in_ok-start_item.was) c.start_item.ensures.0.writes).count in (
       falls_children c.args.levels (c.args.c + 1) c.decreases c.node_end-to.type_inv,
       (
-        kids_at_here,
+        placed_kids c.requires.0 c.node_end-to.ensures,
         c.requires.1,
-        fits_blocks c.args.levels c.args.ctx.now c.item_from-item.result (begin_item true c.args.ctx.now (take c.args.text.now.len c.args.text.now.room.now)) (item_is_here) c.requires.2,
+        fits_blocks c.args.levels c.args.ctx.now c.item_from-item.result (begin_item true c.args.ctx.now (bytes c.args.text.now)) item_is c.requires.2,
       ),
     )
 
 pub blocks-returns : goal.blocks-returns
 blocks-returns t c =
-    let item_is_here : item_of c.item_from-item.result ≡ item_from c.args.ctx.now (begin_item true c.args.ctx.now (take c.args.text.now.len c.args.text.now.room.now)) = c.item_from-item.ensures (begin_item true c.args.ctx.now (take c.args.text.now.len c.args.text.now.room.now)) (done (ap (wrote c.start_item.new.text) c.in_ok-start_item.was) c.start_item.ensures.0.writes).count in
-    let begun_here : (anc : Ancestors) (attrs : List Attr) (kids : Forest) → let self = self_at c.args.self.now.skip c.args.levels in let item = item_of c.item_from-item.result in Owes (length c.args.text.now.room.now) c.start_item.new.text.room.now c.start_item.new.text.len (λ u. and_then (item_children self (attrs ∷ anc) kids item (progress_at true false u)).out (ended_item item)) (write_list_item_blocks self anc attrs kids c.args.ctx.now (take c.args.text.now.len c.args.text.now.room.now)) = λ anc attrs kids. let self = self_at c.args.self.now.skip c.args.levels in let item = item_of c.item_from-item.result in owes_step (owes_all c.args.text.now.room.now c.args.text.now.len (write_list_item_blocks self anc attrs kids c.args.ctx.now) c.args.text.now.fits refl) (begin_item true c.args.ctx.now) (λ u. and_then (item_children self (attrs ∷ anc) kids item (progress_at true false u)).out (ended_item item)) (blocks_parts self anc attrs kids c.args.ctx.now item (take c.args.text.now.len c.args.text.now.room.now) (item_is_here)) (ap (wrote c.start_item.new.text) c.in_ok-start_item.was) c.start_item.ensures.0.writes in
+    let item_is = c.item_from-item.ensures (begin_item true c.args.ctx.now (bytes c.args.text.now)) (done (ap (wrote c.start_item.new.text) c.in_ok-start_item.was) c.start_item.ensures.0.writes).count in
     let self = self_at c.args.self.now.skip c.args.levels in
     let item = item_of c.item_from-item.result in record {
       room = room_on (leaf_room c.start_item.ensures.0) (room_on (c.children.ensures.room) (leaf_room c.end_item.ensures));
       kept = kept_in (omega arith) (omega (arith, c.node_end-to.ensures)) c.children.ensures.kept;
       writes_element = record {
         for = λ name attrs kids anc x a.
-            owes_last (owes_on (begun_here anc attrs kids) (λ u. (item_children self (attrs ∷ anc) kids item (progress_at true false u)).out) (ended_item item) refl
+            owes_last (owes_on (both-on c.args.text.now.room.now c.args.text.now.len c.args.text.now.fits (write_list_item_blocks self anc attrs kids c.args.ctx.now) (begin_item true c.args.ctx.now) (λ u. and_then (item_children self (attrs ∷ anc) kids item (progress_at true false u)).out (ended_item item))
+            (blocks_parts self anc attrs kids c.args.ctx.now item (bytes c.args.text.now) item_is) c.start_item.ensures.0.writes (ap (wrote c.start_item.new.text) c.in_ok-start_item.was)) (λ u. (item_children self (attrs ∷ anc) kids item (progress_at true false u)).out) (ended_item item) refl
             (went (ap (gone c.children.new.text) c.in_ok-children.was) (c.children.ensures.goes_forest.for c.args.c kids (attrs ∷ anc) (element_kids x c.node_end-to.ensures) (around_it anc x a))).0) c.end_item.ensures.writes;
       };
       ctx_value = c.start_item.ensures.1;
@@ -217,37 +185,25 @@ blocks-returns t c =
 
 pub blocks-returns-in_err-children : goal.blocks-returns-in_err-children
 blocks-returns-in_err-children t c =
-    let item_is_here : item_of c.item_from-item.result ≡ item_from c.args.ctx.now (begin_item true c.args.ctx.now (take c.args.text.now.len c.args.text.now.room.now)) = c.item_from-item.ensures (begin_item true c.args.ctx.now (take c.args.text.now.len c.args.text.now.room.now)) (done (ap (wrote c.start_item.new.text) c.in_ok-start_item.was) c.start_item.ensures.0.writes).count in
-    let begun_here : (anc : Ancestors) (attrs : List Attr) (kids : Forest) → let self = self_at c.args.self.now.skip c.args.levels in let item = item_of c.item_from-item.result in Owes (length c.args.text.now.room.now) c.start_item.new.text.room.now c.start_item.new.text.len (λ u. and_then (item_children self (attrs ∷ anc) kids item (progress_at true false u)).out (ended_item item)) (write_list_item_blocks self anc attrs kids c.args.ctx.now (take c.args.text.now.len c.args.text.now.room.now)) = λ anc attrs kids. let self = self_at c.args.self.now.skip c.args.levels in let item = item_of c.item_from-item.result in owes_step (owes_all c.args.text.now.room.now c.args.text.now.len (write_list_item_blocks self anc attrs kids c.args.ctx.now) c.args.text.now.fits refl) (begin_item true c.args.ctx.now) (λ u. and_then (item_children self (attrs ∷ anc) kids item (progress_at true false u)).out (ended_item item)) (blocks_parts self anc attrs kids c.args.ctx.now item (take c.args.text.now.len c.args.text.now.room.now) (item_is_here)) (ap (wrote c.start_item.new.text) c.in_ok-start_item.was) c.start_item.ensures.0.writes in
+    let item_is = c.item_from-item.ensures (begin_item true c.args.ctx.now (bytes c.args.text.now)) (done (ap (wrote c.start_item.new.text) c.in_ok-start_item.was) c.start_item.ensures.0.writes).count in
     let self = self_at c.args.self.now.skip c.args.levels in
     let item = item_of c.item_from-item.result in record {
       room = room_on (leaf_room c.start_item.ensures.0) (c.children.ensures.room);
       kept = kept_in (omega arith) (omega (arith, c.node_end-to.ensures)) c.children.ensures.kept;
       writes_element = stops_element (wrote_err _ _ c.from_residual-in_err-children.ensures.0) (record {
         for = λ name attrs kids anc x a.
-            owes_over (begun_here anc attrs kids) (λ u. (item_children self (attrs ∷ anc) kids item (progress_at true false u)).out) (ended_item item) refl
+            owes_over (both-on c.args.text.now.room.now c.args.text.now.len c.args.text.now.fits (write_list_item_blocks self anc attrs kids c.args.ctx.now) (begin_item true c.args.ctx.now) (λ u. and_then (item_children self (attrs ∷ anc) kids item (progress_at true false u)).out (ended_item item))
+            (blocks_parts self anc attrs kids c.args.ctx.now item (bytes c.args.text.now) item_is) c.start_item.ensures.0.writes (ap (wrote c.start_item.new.text) c.in_ok-start_item.was)) (λ u. (item_children self (attrs ∷ anc) kids item (progress_at true false u)).out) (ended_item item) refl
             (went_full (ap (gone c.children.new.text) c.in_err-children.was) (c.children.ensures.goes_forest.for c.args.c kids (attrs ∷ anc) (element_kids x c.node_end-to.ensures) (around_it anc x a)));
       });
       ctx_value = c.start_item.ensures.1;
     }
 
-pub body-node_place-place-requires : goal.body-node_place-place-requires
-body-node_place-place-requires t c =
-    (placed_node c.args.self.now.sheet.now c.args.nodes.now c.args.at c.requires.0).inside
-
-pub body-of-bits-requires : goal.body-of-bits-requires
-body-of-bits-requires t c =
-    omega (arith, c.requires.2)
-
-pub body-kids_behind-requires : goal.body-kids_behind-requires
-body-kids_behind-requires t c =
-    (falls_in c.args.levels c.decreases (lit< tt), (c.requires.0, c.requires.1, subst (λ (o : FormatOpts). Fits o c.args.levels) (sym c.of-bits.ensures) c.requires.2))
-
 pub body-push_link-requires : goal.body-push_link-requires
 body-push_link-requires t c =
     let p = c.requires.0 in (
       nest-fits c.args.text.now.room.now c.args.text.now.len c.args.text.now.fits (c.kids_behind.ensures.writes_element.for p.0.0 p.0.1 p.0.2 p.1.0 p.0.3 p.1.1) c.in_ok-n.was,
-      omega (arith, c.node_place-place.ensures, (placed_node c.args.self.now.sheet.now c.args.nodes.now c.args.at p).placed),
+      omega (arith, c.node_place-place.ensures, (placed_node p).placed),
       c.requires.3,
     )
 
@@ -259,8 +215,8 @@ body-returns t c =
       kept = c.kids_behind.ensures.kept;
       writes_element = record {
         for = λ name attrs kids anc x h. let link = write_kids (self_at a.self.now.skip a.levels) anc a.opts (element name attrs kids nothing) [] in
-            alike (ap (λ (f : Step). f (take a.text.now.len a.text.now.room.now)) (link_is attrs href link push))
-            (nest-done a.text.now.room.now a.text.now.len c.args.text.now.fits (subst (λ (o : FormatOpts). Writes (length (lent a.text.now.room.now a.text.now.len)) c.kids_behind.new.room c.kids_behind.result (write_kids (self_at a.self.now.skip a.levels) anc o (element name attrs kids nothing) [])) c.of-bits.ensures (c.kids_behind.ensures.writes_element.for name attrs kids anc x h)) (λ z. link_step attrs href z push) c.in_ok-n.was
+            alike (ap (λ (f : Step). f (bytes a.text.now)) (link_is attrs href link push))
+            (nest-done a.text.now.room.now a.text.now.len c.args.text.now.fits (kids_as (self_at c.args.self.now.skip c.args.levels) c.of-bits.ensures c.kids_behind.ensures.writes_element name attrs kids anc x h) (λ z. link_step attrs href z push) c.in_ok-n.was
             (subst (λ (l : List Attr). Writes (length (back a.text.now.room.now a.text.now.len c.kids_behind.new.room)) c.push_link.new.text.room.now (wrote c.push_link.new.text c.push_link.result) (link_step l href (take c.in_ok-n.n (drop a.text.now.len (back a.text.now.room.now a.text.now.len c.kids_behind.new.room))) push (take a.text.now.len (back a.text.now.room.now a.text.now.len c.kids_behind.new.room)))) (ap (attrs_behind a.self.now.sheet.now) c.node_place-place.ensures ∙ sym x.attrs_are) c.push_link.ensures.writes));
       };
     }
@@ -273,28 +229,20 @@ body-returns-in_err-n t c =
       kept = c.kids_behind.ensures.kept;
       writes_element = stops_element (wrote_err _ _ c.from_residual.ensures.0) (record {
         for = λ name attrs kids anc x h. let link = write_kids (self_at a.self.now.skip a.levels) anc a.opts (element name attrs kids nothing) [] in
-            alike (ap (λ (f : Step). f (take a.text.now.len a.text.now.room.now)) (link_is attrs href link push))
-            (nest-full a.text.now.room.now a.text.now.len c.args.text.now.fits (subst (λ (o : FormatOpts). Writes (length (lent a.text.now.room.now a.text.now.len)) c.kids_behind.new.room c.kids_behind.result (write_kids (self_at a.self.now.skip a.levels) anc o (element name attrs kids nothing) [])) c.of-bits.ensures (c.kids_behind.ensures.writes_element.for name attrs kids anc x h)) (link_step attrs href link.text push) c.in_err-n.was);
+            alike (ap (λ (f : Step). f (bytes a.text.now)) (link_is attrs href link push))
+            (nest-full a.text.now.room.now a.text.now.len c.args.text.now.fits (kids_as (self_at c.args.self.now.skip c.args.levels) c.of-bits.ensures c.kids_behind.ensures.writes_element name attrs kids anc x h) (link_step attrs href link.text push) c.in_err-n.was);
       });
     }
-
-pub cell-of-bits-requires : goal.cell-of-bits-requires
-cell-of-bits-requires t c =
-    omega (arith, subst (λ (o : FormatOpts). Fits o c.args.levels) (sym (c.table_cell.ensures ∙ ap table_cell c.fresh.ensures)) (omega (arith, c.requires.2)))
-
-pub cell-kids-requires : goal.cell-kids-requires
-cell-kids-requires t c =
-    (falls_in c.args.levels c.decreases (lit< tt), (c.requires.0, c.requires.1, subst (λ (o : FormatOpts). Fits o c.args.levels) (sym (c.of-bits.ensures ∙ c.table_cell.ensures ∙ ap table_cell c.fresh.ensures)) (omega (arith, c.requires.2))))
 
 pub cell-returns : goal.cell-returns
 unfolding cell_text trim_trailing_cell_break
 cell-returns t c =
-    let wrote_here : (name : Bytes) (attrs : List Attr) (kids : Forest) (anc : Ancestors) → ElementAt c.args.self.now.sheet.now c.args.nodes.now c.args.c name attrs kids → Around c.args.self.now.sheet.now c.args.nodes.now (parent_at c.args.nodes.now c.args.c) anc → Writes (length c.args.room.now) c.kids.new.text.room.now (wrote c.kids.new.text c.kids.result) (write_kids (self_at c.args.self.now.skip c.args.levels) anc (table_cell (fresh c.args.opts)) (element name attrs kids nothing) (take 0 c.args.room.now)) = λ name attrs kids anc x h. let a = c.args in subst (λ (o : FormatOpts). Writes (length a.room.now) c.kids.new.text.room.now (wrote c.kids.new.text c.kids.result) (write_kids (self_at a.self.now.skip a.levels) anc o (element name attrs kids nothing) (take 0 a.room.now))) (c.of-bits.ensures ∙ c.table_cell.ensures ∙ ap table_cell c.fresh.ensures) (c.kids.ensures.writes_element.for name attrs kids anc x h) in
+    let written = kids_as (self_at c.args.self.now.skip c.args.levels) (c.of-bits.ensures ∙ c.table_cell.ensures ∙ ap table_cell c.fresh.ensures) c.kids.ensures.writes_element in
     let a = c.args in record {
       kept = c.kids.ensures.kept;
       writes = λ name attrs kids anc th x h.
           let f = write_kids (self_at a.self.now.skip a.levels) anc (table_cell (fresh a.opts)) (element name attrs kids nothing) in
-          let p = owes_step (owes_all a.room.now 0 (λ u. and_then (and_then (f u) trim_trailing_cell_break) escape_table_cell_inplace) (omega arith) refl) f (λ u. and_then (trim_trailing_cell_break u) escape_table_cell_inplace) (then_assoc (f (take 0 a.room.now)) trim_trailing_cell_break escape_table_cell_inplace) (ap (wrote c.kids.new.text) c.in_ok-kids.was) (wrote_here _ _ _ anc x h) in
+          let p = owes_step (owes_all a.room.now 0 (λ u. and_then (and_then (f u) trim_trailing_cell_break) escape_table_cell_inplace) (omega arith) refl) f (λ u. and_then (trim_trailing_cell_break u) escape_table_cell_inplace) (then_assoc (f (take 0 a.room.now)) trim_trailing_cell_break escape_table_cell_inplace) (ap (wrote c.kids.new.text) c.in_ok-kids.was) (written _ _ _ anc x h) in
           let k = c.trim_trailing_cell_break in
           let s = subst (λ (u : Bytes). Trimmed u k.result (without_breaks (length u) u)) c.bytes.ensures k.ensures in
           let w = alike_answer (sym (ap (wrote c.escape_table_cell_inplace.new.text) c.in_ok-escape_table_cell_inplace.was))
@@ -305,12 +253,12 @@ cell-returns t c =
 pub cell-returns-in_err-escape_table_cell_inplace : goal.cell-returns-in_err-escape_table_cell_inplace
 unfolding cell_text trim_trailing_cell_break
 cell-returns-in_err-escape_table_cell_inplace t c =
-    let wrote_here : (name : Bytes) (attrs : List Attr) (kids : Forest) (anc : Ancestors) → ElementAt c.args.self.now.sheet.now c.args.nodes.now c.args.c name attrs kids → Around c.args.self.now.sheet.now c.args.nodes.now (parent_at c.args.nodes.now c.args.c) anc → Writes (length c.args.room.now) c.kids.new.text.room.now (wrote c.kids.new.text c.kids.result) (write_kids (self_at c.args.self.now.skip c.args.levels) anc (table_cell (fresh c.args.opts)) (element name attrs kids nothing) (take 0 c.args.room.now)) = λ name attrs kids anc x h. let a = c.args in subst (λ (o : FormatOpts). Writes (length a.room.now) c.kids.new.text.room.now (wrote c.kids.new.text c.kids.result) (write_kids (self_at a.self.now.skip a.levels) anc o (element name attrs kids nothing) (take 0 a.room.now))) (c.of-bits.ensures ∙ c.table_cell.ensures ∙ ap table_cell c.fresh.ensures) (c.kids.ensures.writes_element.for name attrs kids anc x h) in
+    let written = kids_as (self_at c.args.self.now.skip c.args.levels) (c.of-bits.ensures ∙ c.table_cell.ensures ∙ ap table_cell c.fresh.ensures) c.kids.ensures.writes_element in
     let a = c.args in record {
       kept = c.kids.ensures.kept;
       writes = λ name attrs kids anc th x h.
           let f = write_kids (self_at a.self.now.skip a.levels) anc (table_cell (fresh a.opts)) (element name attrs kids nothing) in
-          let p = owes_step (owes_all a.room.now 0 (λ u. and_then (and_then (f u) trim_trailing_cell_break) escape_table_cell_inplace) (omega arith) refl) f (λ u. and_then (trim_trailing_cell_break u) escape_table_cell_inplace) (then_assoc (f (take 0 a.room.now)) trim_trailing_cell_break escape_table_cell_inplace) (ap (wrote c.kids.new.text) c.in_ok-kids.was) (wrote_here _ _ _ anc x h) in
+          let p = owes_step (owes_all a.room.now 0 (λ u. and_then (and_then (f u) trim_trailing_cell_break) escape_table_cell_inplace) (omega arith) refl) f (λ u. and_then (trim_trailing_cell_break u) escape_table_cell_inplace) (then_assoc (f (take 0 a.room.now)) trim_trailing_cell_break escape_table_cell_inplace) (ap (wrote c.kids.new.text) c.in_ok-kids.was) (written _ _ _ anc x h) in
           let k = c.trim_trailing_cell_break in
           let s = subst (λ (u : Bytes). Trimmed u k.result (without_breaks (length u) u)) c.bytes.ensures k.ensures in
           let w = stops c.from_residual-in_err-escape_table_cell_inplace.ensures.0 (alike_answer (sym (ap (wrote c.escape_table_cell_inplace.new.text) c.in_err-escape_table_cell_inplace.was))
@@ -321,17 +269,13 @@ cell-returns-in_err-escape_table_cell_inplace t c =
 pub cell-returns-in_err-kids : goal.cell-returns-in_err-kids
 unfolding cell_text
 cell-returns-in_err-kids t c =
-    let wrote_here : (name : Bytes) (attrs : List Attr) (kids : Forest) (anc : Ancestors) → ElementAt c.args.self.now.sheet.now c.args.nodes.now c.args.c name attrs kids → Around c.args.self.now.sheet.now c.args.nodes.now (parent_at c.args.nodes.now c.args.c) anc → Writes (length c.args.room.now) c.kids.new.text.room.now (wrote c.kids.new.text c.kids.result) (write_kids (self_at c.args.self.now.skip c.args.levels) anc (table_cell (fresh c.args.opts)) (element name attrs kids nothing) (take 0 c.args.room.now)) = λ name attrs kids anc x h. let a = c.args in subst (λ (o : FormatOpts). Writes (length a.room.now) c.kids.new.text.room.now (wrote c.kids.new.text c.kids.result) (write_kids (self_at a.self.now.skip a.levels) anc o (element name attrs kids nothing) (take 0 a.room.now))) (c.of-bits.ensures ∙ c.table_cell.ensures ∙ ap table_cell c.fresh.ensures) (c.kids.ensures.writes_element.for name attrs kids anc x h) in
+    let written = kids_as (self_at c.args.self.now.skip c.args.levels) (c.of-bits.ensures ∙ c.table_cell.ensures ∙ ap table_cell c.fresh.ensures) c.kids.ensures.writes_element in
     let a = c.args in record {
       kept = c.kids.ensures.kept;
       writes = λ name attrs kids anc th x h.
           let f = write_kids (self_at a.self.now.skip a.levels) anc (table_cell (fresh a.opts)) (element name attrs kids nothing) in
-          stops c.from_residual.ensures.0 (owes_stop (owes_all a.room.now 0 (λ u. and_then (and_then (f u) trim_trailing_cell_break) escape_table_cell_inplace) (omega arith) refl) f (λ u. and_then (trim_trailing_cell_break u) escape_table_cell_inplace) (then_assoc (f (take 0 a.room.now)) trim_trailing_cell_break escape_table_cell_inplace) (ap (wrote c.kids.new.text) c.in_err-kids.was) (wrote_here _ _ _ anc x h));
+          stops c.from_residual.ensures.0 (owes_stop (owes_all a.room.now 0 (λ u. and_then (and_then (f u) trim_trailing_cell_break) escape_table_cell_inplace) (omega arith) refl) f (λ u. and_then (trim_trailing_cell_break u) escape_table_cell_inplace) (then_assoc (f (take 0 a.room.now)) trim_trailing_cell_break escape_table_cell_inplace) (ap (wrote c.kids.new.text) c.in_err-kids.was) (written _ _ _ anc x h));
     }
-
-pub cells-next_row-r-requires : goal.cells-next_row-r-requires
-cells-next_row-r-requires t c =
-    c.requires.0
 
 pub cells-loop-r-init : goal.cells-loop-r-init
 cells-loop-r-init t c =
@@ -355,17 +299,9 @@ pub cells-next_row-r-requires-in-loop-r : goal.cells-next_row-r-requires-in-loop
 cells-next_row-r-requires-in-loop-r t c =
     rows_behind c.loop-r.invariant.1 c.loop-r-test.true c.row.ensures.kept
 
-pub cells-loop-r-smaller : goal.cells-loop-r-smaller
-cells-loop-r-smaller t c =
-    omega (arith, c.next_row-r-in-loop-r.ensures.later, c.loop-r-test.true)
-
 pub cells-loop-r-preserved : goal.cells-loop-r-preserved
 cells-loop-r-preserved t c =
     (room_on c.loop-r.invariant.0 c.row.ensures.room, rows_on c.loop-r.invariant.1 c.loop-r-test.true _ c.row.ensures.row_writes (ap (wrote c.row.new.text) c.in_ok-row.was) c.row.ensures.kept _ c.next_row-r-in-loop-r.ensures.later c.next_row-r-in-loop-r.ensures.rows)
-
-pub cells-shape_of-nodes : goal.cells-shape_of-nodes
-cells-shape_of-nodes t c =
-    c.loop-r.invariant.1.kept.long
 
 pub cells-returns : goal.cells-returns
 cells-returns t c =
@@ -377,31 +313,19 @@ cells-returns t c =
 
 pub child-node_place-place-requires : goal.child-node_place-place-requires
 child-node_place-place-requires t c =
-    (placeds_at c.requires.0.alone c.requires.0.later).inside
+    (node_stands c.requires.0).inside
 
 pub child-tag_at-tag-requires : goal.child-tag_at-tag-requires
 child-tag_at-tag-requires t c =
-    let stands_here : NodeAt c.args.self.now.sheet.now c.args.nodes.now c.args.c = placeds_at c.requires.0.alone c.requires.0.later in
-    let field_here : c.node_place-place.result + 3 ≤ length c.args.self.now.sheet.now = subst (λ (k : ℕ). k + 3 ≤ length c.args.self.now.sheet.now) (sym c.node_place-place.ensures) (stands_here).placed in
-    field_here
+    omega (arith, c.node_place-place.ensures, (node_stands c.requires.0).placed)
 
 pub child-node_is_skipped-requires : goal.child-node_is_skipped-requires
 child-node_is_skipped-requires t c =
-    let stands_here : NodeAt c.args.self.now.sheet.now c.args.nodes.now c.args.c = placeds_at c.requires.0.alone c.requires.0.later in
-    stands_here
-
-pub child-node_is_block_wrapper-requires : goal.child-node_is_block_wrapper-requires
-child-node_is_block_wrapper-requires t c =
-    let a = c.requires.0 in (_, a.later, (a.alone.parent, a.alone.forest, a.alone.rep))
+    node_stands c.requires.0
 
 pub child-node_end-end-requires : goal.child-node_end-end-requires
 child-node_end-end-requires t c =
-    let stands_here : NodeAt c.args.self.now.sheet.now c.args.nodes.now c.args.c = placeds_at c.requires.0.alone c.requires.0.later in
-    (stands_here).inside
-
-pub child-overflow_add-c : goal.child-overflow_add-c
-child-overflow_add-c t c =
-    omega (arith, c.node_end-end.ensures, c.requires.0.later)
+    (node_stands c.requires.0).inside
 
 pub child-children-requires : goal.child-children-requires
 child-children-requires t c = (
@@ -411,13 +335,7 @@ child-children-requires t c = (
 
 pub child-is_blank_text-blank-requires : goal.child-is_blank_text-blank-requires
 child-is_blank_text-blank-requires t c =
-    let stands_here : NodeAt c.args.self.now.sheet.now c.args.nodes.now c.args.c = placeds_at c.requires.0.alone c.requires.0.later in
-    let field_here : c.node_place-place.result + 3 ≤ length c.args.self.now.sheet.now = subst (λ (k : ℕ). k + 3 ≤ length c.args.self.now.sheet.now) (sym c.node_place-place.ensures) (stands_here).placed in
-    field_here
-
-pub child-alone-requires : goal.child-alone-requires
-child-alone-requires t c =
-    (alone_falls c.args.levels c.args.c c.args.to c.decreases, (c.requires.0, c.requires.2, c.requires.3))
+    omega (arith, c.node_place-place.ensures, (node_stands c.requires.0).placed)
 
 pub child-returns-then-tag : goal.child-returns-then-tag
 child-returns-then-tag t c =
@@ -470,39 +388,34 @@ children-child-requires t c =
 
 pub children-returns-in_err-going : goal.children-returns-in_err-going
 children-returns-in_err-going t c =
-    let kept_here : Kept c.args.from c.args.to c.args.nodes.now c.child.new.nodes = let l = c.loop-c in let lt = c.loop-c-test.true in kept_then l.invariant.1 (kept_in l.invariant.2 (omega (arith, end_kept l.invariant.1 l.c, placeds_within l.invariant.3 lt)) c.child.ensures.kept) in
-    let went_on_here : GoesForest c.args.self.now.sheet.now c.args.nodes.now c.loop-c.c (end_at c.args.nodes.now c.loop-c.c) (λ anc f. item_children (self_at c.args.self.now.skip c.args.levels) anc f (item_of c.args.item) (progress_on c.loop-c.going c.loop-c.text)) (length c.loop-c.text.room.now) c.child.new.text.room.now (gone c.child.new.text c.child.result) = goes_before c.loop-c.invariant.1 c.child.ensures.goes_forest in
     record {
       room = room_on (c.loop-c.invariant.0) (c.child.ensures.room);
-      kept = kept_here;
-      goes_forest = stops_going (gone_err _ _ c.from_residual.ensures.0) (record { for = λ parent f anc h a. going_stop c.loop-c.invariant.4 c.loop-c-test.true (went_on_here) (ap (gone c.child.new.text) c.in_err-going.was) parent f anc h a });
+      kept = kept_on c.loop-c.invariant.1 c.loop-c.invariant.2 c.loop-c.invariant.3 c.loop-c-test.true c.child.ensures.kept;
+      goes_forest = stops_going (gone_err _ _ c.from_residual.ensures.0) (record { for = λ parent f anc h a. going_stop c.loop-c.invariant.4 c.loop-c-test.true (goes_before c.loop-c.invariant.1 c.child.ensures.goes_forest) (ap (gone c.child.new.text) c.in_err-going.was) parent f anc h a });
     }
 
 pub children-node_end-c-requires : goal.children-node_end-c-requires
 children-node_end-c-requires t c =
-    let kept_here : Kept c.args.from c.args.to c.args.nodes.now c.child.new.nodes = let l = c.loop-c in let lt = c.loop-c-test.true in kept_then l.invariant.1 (kept_in l.invariant.2 (omega (arith, end_kept l.invariant.1 l.c, placeds_within l.invariant.3 lt)) c.child.ensures.kept) in
-    omega (arith, (placeds_at c.loop-c.invariant.3 c.loop-c-test.true).inside, (kept_here).long)
+    omega (arith, (placeds_at c.loop-c.invariant.3 c.loop-c-test.true).inside, (kept_on c.loop-c.invariant.1 c.loop-c.invariant.2 c.loop-c.invariant.3 c.loop-c-test.true c.child.ensures.kept).long)
 
 pub children-loop-c-smaller : goal.children-loop-c-smaller
 children-loop-c-smaller t c =
-    let kept_here : Kept c.args.from c.args.to c.args.nodes.now c.child.new.nodes = let l = c.loop-c in let lt = c.loop-c-test.true in kept_then l.invariant.1 (kept_in l.invariant.2 (omega (arith, end_kept l.invariant.1 l.c, placeds_within l.invariant.3 lt)) c.child.ensures.kept) in
-    omega (arith, placeds_later c.loop-c.invariant.3 c.loop-c-test.true, c.node_end-c.ensures, end_kept (kept_here) c.loop-c.c, c.loop-c-test.true)
+    omega (arith, placeds_later c.loop-c.invariant.3 c.loop-c-test.true, c.node_end-c.ensures, end_kept (kept_on c.loop-c.invariant.1 c.loop-c.invariant.2 c.loop-c.invariant.3 c.loop-c-test.true c.child.ensures.kept) c.loop-c.c, c.loop-c-test.true)
 
 pub children-loop-c-preserved : goal.children-loop-c-preserved
 children-loop-c-preserved t c =
-    let kept_here : Kept c.args.from c.args.to c.args.nodes.now c.child.new.nodes = let l = c.loop-c in let lt = c.loop-c-test.true in kept_then l.invariant.1 (kept_in l.invariant.2 (omega (arith, end_kept l.invariant.1 l.c, placeds_within l.invariant.3 lt)) c.child.ensures.kept) in
-    let went_on_here : GoesForest c.args.self.now.sheet.now c.args.nodes.now c.loop-c.c (end_at c.args.nodes.now c.loop-c.c) (λ anc f. item_children (self_at c.args.self.now.skip c.args.levels) anc f (item_of c.args.item) (progress_on c.loop-c.going c.loop-c.text)) (length c.loop-c.text.room.now) c.child.new.text.room.now (gone c.child.new.text c.child.result) = goes_before c.loop-c.invariant.1 c.child.ensures.goes_forest in
+    let went_on = goes_before c.loop-c.invariant.1 c.child.ensures.goes_forest in
     let l = c.loop-c in
     let lt = c.loop-c-test.true in
-    let K = kept_here in
+    let K = kept_on c.loop-c.invariant.1 c.loop-c.invariant.2 c.loop-c.invariant.3 c.loop-c-test.true c.child.ensures.kept in
     let q = c.node_end-c.ensures ∙ end_kept K l.c in
     let a = (placeds_first l.invariant.3 lt).alone in
-    let d = (went (ap (gone c.child.new.text) c.in_ok-going.was) ((went_on_here).for a.parent a.forest a.anc a.rep a.around)).0 in (
+    let d = (went (ap (gone c.child.new.text) c.in_ok-going.was) (went_on.for a.parent a.forest a.anc a.rep a.around)).0 in (
       room_on l.invariant.0 c.child.ensures.room,
       K,
       omega (arith, placeds_later l.invariant.3 lt, l.invariant.2, q),
       subst (λ (k : ℕ). Placeds c.args.self.now.sheet.now c.args.nodes.now k c.args.to) (sym q) (placeds_on l.invariant.3 lt),
-      going_on l.invariant.4 lt (went_on_here) q (ap (gone c.child.new.text) c.in_ok-going.was),
+      going_on l.invariant.4 lt went_on q (ap (gone c.child.new.text) c.in_ok-going.was),
     )
 
 pub children-returns : goal.children-returns
@@ -512,10 +425,6 @@ children-returns t c =
       kept = c.loop-c.invariant.1;
       goes_forest = record { for = λ parent f anc h a. going_last c.loop-c.invariant.4 c.loop-c-test.false parent f anc h a };
     }
-
-pub flat-start_item-requires : goal.flat-start_item-requires
-flat-start_item-requires t c =
-    fits_in c.args.levels c.args.ctx.now c.requires.2
 
 pub flat-of-bits-requires : goal.flat-of-bits-requires
 flat-of-bits-requires t c =
@@ -527,21 +436,25 @@ flat-kids-requires t c =
 
 pub flat-returns : goal.flat-returns
 flat-returns t c =
-    let begun_here : (anc : Ancestors) (node : Forest) → let self = self_at c.args.self.now.skip c.args.levels in Owes (length c.args.text.now.room.now) c.start_item.new.text.room.now c.start_item.new.text.len (λ u. and_then (write_kids self anc (unpacked c.of-bits.result) node u) (push (break_of c.start_item.new.ctx))) (write_list_item self anc node c.args.ctx.now (take c.args.text.now.len c.args.text.now.room.now)) = λ anc node. let self = self_at c.args.self.now.skip c.args.levels in owes_step (owes_all c.args.text.now.room.now c.args.text.now.len (write_list_item self anc node c.args.ctx.now) c.args.text.now.fits refl) (begin_item false c.args.ctx.now) (λ u. and_then (write_kids self anc (unpacked c.of-bits.result) node u) (push (break_of c.start_item.new.ctx))) (item_parts self anc node c.args.ctx.now c.start_item.new.ctx (unpacked c.of-bits.result) (take c.args.text.now.len c.args.text.now.room.now) c.start_item.ensures.1 (c.of-bits.ensures ∙ c.list_item.ensures)) (ap (wrote c.start_item.new.text) c.in_ok-start_item.was) c.start_item.ensures.0.writes in
     let self = self_at c.args.self.now.skip c.args.levels in record {
       room = room_on (leaf_room c.start_item.ensures.0) (room_on (c.kids.ensures.room) (leaf_room c.push_linebreak.ensures));
       kept = c.kids.ensures.kept;
-      writes_element = record { for = λ name attrs kids anc x a. owes_last (owes_step (begun_here anc (element name attrs kids nothing)) (write_kids self anc (unpacked c.of-bits.result) (element name attrs kids nothing)) (push (break_of c.start_item.new.ctx)) refl (ap (wrote c.kids.new.text) c.in_ok-kids.was) (c.kids.ensures.writes_element.for name attrs kids anc x a)) c.push_linebreak.ensures.writes };
+      writes_element = record {
+        for = λ name attrs kids anc x a. owes_last (owes_step (both-on c.args.text.now.room.now c.args.text.now.len c.args.text.now.fits (write_list_item self anc (element name attrs kids nothing) c.args.ctx.now) (begin_item false c.args.ctx.now) (λ u. and_then (write_kids self anc (unpacked c.of-bits.result) (element name attrs kids nothing) u) (push (break_of c.start_item.new.ctx)))
+            (item_parts self anc (element name attrs kids nothing) c.args.ctx.now c.start_item.new.ctx (unpacked c.of-bits.result) (bytes c.args.text.now) c.start_item.ensures.1 (c.of-bits.ensures ∙ c.list_item.ensures)) c.start_item.ensures.0.writes (ap (wrote c.start_item.new.text) c.in_ok-start_item.was)) (write_kids self anc (unpacked c.of-bits.result) (element name attrs kids nothing)) (push (break_of c.start_item.new.ctx)) refl (ap (wrote c.kids.new.text) c.in_ok-kids.was) (c.kids.ensures.writes_element.for name attrs kids anc x a)) c.push_linebreak.ensures.writes;
+      };
       ctx_value = c.start_item.ensures.1;
     }
 
 pub flat-returns-in_err-kids : goal.flat-returns-in_err-kids
 flat-returns-in_err-kids t c =
-    let begun_here : (anc : Ancestors) (node : Forest) → let self = self_at c.args.self.now.skip c.args.levels in Owes (length c.args.text.now.room.now) c.start_item.new.text.room.now c.start_item.new.text.len (λ u. and_then (write_kids self anc (unpacked c.of-bits.result) node u) (push (break_of c.start_item.new.ctx))) (write_list_item self anc node c.args.ctx.now (take c.args.text.now.len c.args.text.now.room.now)) = λ anc node. let self = self_at c.args.self.now.skip c.args.levels in owes_step (owes_all c.args.text.now.room.now c.args.text.now.len (write_list_item self anc node c.args.ctx.now) c.args.text.now.fits refl) (begin_item false c.args.ctx.now) (λ u. and_then (write_kids self anc (unpacked c.of-bits.result) node u) (push (break_of c.start_item.new.ctx))) (item_parts self anc node c.args.ctx.now c.start_item.new.ctx (unpacked c.of-bits.result) (take c.args.text.now.len c.args.text.now.room.now) c.start_item.ensures.1 (c.of-bits.ensures ∙ c.list_item.ensures)) (ap (wrote c.start_item.new.text) c.in_ok-start_item.was) c.start_item.ensures.0.writes in
     let self = self_at c.args.self.now.skip c.args.levels in record {
       room = room_on (leaf_room c.start_item.ensures.0) (c.kids.ensures.room);
       kept = c.kids.ensures.kept;
-      writes_element = stops_element (wrote_err _ _ c.from_residual-in_err-kids.ensures.0) (record { for = λ name attrs kids anc x a. owes_stop (begun_here anc (element name attrs kids nothing)) (write_kids self anc (unpacked c.of-bits.result) (element name attrs kids nothing)) (push (break_of c.start_item.new.ctx)) refl (ap (wrote c.kids.new.text) c.in_err-kids.was) (c.kids.ensures.writes_element.for name attrs kids anc x a) });
+      writes_element = stops_element (wrote_err _ _ c.from_residual-in_err-kids.ensures.0) (record {
+        for = λ name attrs kids anc x a. owes_stop (both-on c.args.text.now.room.now c.args.text.now.len c.args.text.now.fits (write_list_item self anc (element name attrs kids nothing) c.args.ctx.now) (begin_item false c.args.ctx.now) (λ u. and_then (write_kids self anc (unpacked c.of-bits.result) (element name attrs kids nothing) u) (push (break_of c.start_item.new.ctx)))
+            (item_parts self anc (element name attrs kids nothing) c.args.ctx.now c.start_item.new.ctx (unpacked c.of-bits.result) (bytes c.args.text.now) c.start_item.ensures.1 (c.of-bits.ensures ∙ c.list_item.ensures)) c.start_item.ensures.0.writes (ap (wrote c.start_item.new.text) c.in_ok-start_item.was)) (write_kids self anc (unpacked c.of-bits.result) (element name attrs kids nothing)) (push (break_of c.start_item.new.ctx)) refl (ap (wrote c.kids.new.text) c.in_err-kids.was) (c.kids.ensures.writes_element.for name attrs kids anc x a);
+      });
       ctx_value = c.start_item.ensures.1;
     }
 
@@ -554,28 +467,10 @@ flat-returns-in_err-start_item t c =
         for = λ name attrs kids anc x a.
             both-full c.args.text.now.room.now c.args.text.now.len c.args.text.now.fits (write_list_item self anc (element name attrs kids nothing) c.args.ctx.now) (begin_item false c.args.ctx.now)
             (λ u. and_then (write_kids self anc (list_item c.start_item.new.ctx.opts) (element name attrs kids nothing) u) (push (break_of c.start_item.new.ctx)))
-            (item_parts self anc (element name attrs kids nothing) c.args.ctx.now c.start_item.new.ctx (list_item c.start_item.new.ctx.opts) (take c.args.text.now.len c.args.text.now.room.now) c.start_item.ensures.1 refl) c.start_item.ensures.0.writes (ap (wrote c.start_item.new.text) c.in_err-start_item.was);
+            (item_parts self anc (element name attrs kids nothing) c.args.ctx.now c.start_item.new.ctx (list_item c.start_item.new.ctx.opts) (bytes c.args.text.now) c.start_item.ensures.1 refl) c.start_item.ensures.0.writes (ap (wrote c.start_item.new.text) c.in_err-start_item.was);
       });
       ctx_value = c.start_item.ensures.1;
     }
-
-pub flow-indented-requires : goal.flow-indented-requires
-flow-indented-requires t c =
-    (falls_in c.args.levels c.decreases (lit< tt), (c.requires.0, c.requires.2, c.requires.3))
-
-pub flow-of-bits-requires : goal.flow-of-bits-requires
-flow-of-bits-requires t c =
-    omega (arith, fits_alike c.list_item.result c.args.item.ctx.opts c.args.levels (ap (λ (o : FormatOpts). o.offset) c.list_item.ensures) c.requires.3.0)
-
-pub flow-kids-requires : goal.flow-kids-requires
-flow-kids-requires t c = (
-  falls_in c.args.levels c.decreases (lit< tt),
-  (
-    c.requires.0,
-    c.requires.2,
-    fits_alike (unpacked c.of-bits.result) c.args.item.ctx.opts c.args.levels (ap (λ (o : FormatOpts). o.offset) (c.of-bits.ensures ∙ c.list_item.ensures)) c.requires.3.0,
-  ),
-)
 
 pub flow-returns-then-name-eq-PRE : goal.flow-returns-then-name-eq-PRE
 flow-returns-then-name-eq-PRE t c =
@@ -609,19 +504,11 @@ flow-returns-in_err-push_heading_prefix t c =
       writes_element = stops_element (wrote_err _ _ c.from_residual.ensures.0) (flow_none c.args.self.now.sheet.now c.args.nodes.now c.args.c c.requires.1 (self_at c.args.self.now.skip c.args.levels) (item_of c.args.item) c.if-name-eq-PRE.false c.args.text.now.room.now c.args.text.now.len c.args.text.now.fits c.push_heading_prefix.ensures.writes (ap (wrote c.push_heading_prefix.new.text) c.in_err-push_heading_prefix.was));
     }
 
-pub indented-node_end-to-requires : goal.indented-node_end-to-requires
-indented-node_end-to-requires t c =
-    (placed_node c.args.self.now.sheet.now c.args.nodes.now c.args.c c.requires.0).inside
-
-pub indented-of-bits-requires : goal.indented-of-bits-requires
-indented-of-bits-requires t c =
-    omega (arith, fits_alike c.include_node.result c.args.item.ctx.opts c.args.levels (ap (λ (o : FormatOpts). o.offset) c.include_node.ensures) c.requires.2.0)
-
 pub indented-write_behind-requires : goal.indented-write_behind-requires
 indented-write_behind-requires t c = (
   falls_in c.args.levels c.decreases (lit< tt),
   (
-    node_range c.node_end-to.ensures (placed_alone c.args.self.now.sheet.now c.args.nodes.now c.args.c c.requires.0),
+    node_range c.node_end-to.ensures (placed_alone c.requires.0),
     c.requires.1,
     fits_alike (unpacked c.of-bits.result) c.args.item.ctx.opts c.args.levels (ap (λ (o : FormatOpts). o.offset) (c.of-bits.ensures ∙ c.include_node.ensures)) c.requires.2.0,
   ),
@@ -649,21 +536,7 @@ indented-returns-in_err-n t c =
 
 pub inline-node_end-to-requires : goal.inline-node_end-to-requires
 inline-node_end-to-requires t c =
-    (placeds_at c.requires.0.alone c.requires.0.later).inside
-
-pub inline-of-bits-requires : goal.inline-of-bits-requires
-inline-of-bits-requires t c =
-    omega (arith, fits_alike c.child_opts.result c.args.item.ctx.opts c.args.levels (ap (λ (o : FormatOpts). o.offset) c.child_opts.ensures ∙ child_offset c.args.name c.args.item.ctx.opts) c.requires.3.0)
-
-pub inline-write-requires : goal.inline-write-requires
-inline-write-requires t c = (
-  falls_in c.args.levels c.decreases (lit< tt),
-  (
-    node_range c.node_end-to.ensures c.requires.0,
-    c.requires.2,
-    fits_alike (unpacked c.of-bits.result) c.args.item.ctx.opts c.args.levels (ap (λ (o : FormatOpts). o.offset) (c.of-bits.ensures ∙ c.child_opts.ensures) ∙ child_offset c.args.name c.args.item.ctx.opts) c.requires.3.0,
-  ),
-)
+    (node_stands c.requires.0).inside
 
 pub inline-returns : goal.inline-returns
 inline-returns t c =
@@ -681,130 +554,85 @@ inline-returns-in_err-push_inline_lead t c =
       writes_forest = stops_forest (wrote_err _ _ c.from_residual.ensures.0) (inline_none c.args.self.now.sheet.now c.args.nodes.now c.args.c c.requires.1 (tags_to_skip (skip_of c.args.self.now.skip)) c.args.levels (item_of c.args.item) c.args.blank c.requires.0.later c.args.text.now.room.now c.args.text.now.len c.args.text.now.fits c.push_inline_lead.ensures.writes (ap (wrote c.push_inline_lead.new.text) c.in_err-push_inline_lead.was));
     }
 
-pub inside-node_name-name-requires : goal.inside-node_name-name-requires
-inside-node_name-name-requires t c =
-    placed_node c.args.self.now.sheet.now c.args.nodes.now c.args.at c.requires.0
-
-pub inside-write_element-requires : goal.inside-write_element-requires
-inside-write_element-requires t c =
-    (falls_in c.args.levels c.decreases (lit< tt), (c.requires.0, c.node_name-name.ensures, c.requires.1, c.requires.2))
-
 pub inside-returns-then-flags-has_writer : goal.inside-returns-then-flags-has_writer
 inside-returns-then-flags-has_writer t c =
-    let by_writer_here : (name : Bytes) (attrs : List Attr) (kids : Forest) (anc : Ancestors) → ElementAt c.args.self.now.sheet.now c.args.nodes.now c.args.at name attrs kids → in_element (self_at c.args.self.now.skip c.args.levels) anc (unpacked c.args.bits) name attrs kids (take c.args.text.now.len c.args.text.now.room.now) ≡ write_element (self_at c.args.self.now.skip c.args.levels) anc (unpacked c.args.bits) name attrs kids (take c.args.text.now.len c.args.text.now.room.now) = λ name attrs kids anc x. let a = c.args in let u = c.opts-flags in subst (λ (o : FormatOpts). in_element (self_at a.self.now.skip a.levels) anc o name attrs kids (take a.text.now.len a.text.now.room.now) ≡ write_element (self_at a.self.now.skip a.levels) anc o name attrs kids (take a.text.now.len a.text.now.room.now)) u.ensures (inside_writer (self_at a.self.now.skip a.levels) anc u.result name attrs kids (take a.text.now.len a.text.now.room.now) (ap (λ (k : ℕ). not u.result.skip_md && has_writer u.result k) (sym (c.node_name-name.ensures ∙ element_name x)) ∙ ap (λ (b : Bool). not u.result.skip_md && b) (sym c.has_writer.ensures) ∙ c.if-flags-has_writer.true)) in
     record {
       room = c.write_element.ensures.room;
       kept = c.write_element.ensures.kept;
-      writes_element = record { for = λ name attrs kids anc x h. alike (by_writer_here _ _ _ anc x) (c.write_element.ensures.writes_element.for name attrs kids anc x h) };
+      writes_element = record { for = λ name attrs kids anc x h. alike (inside_writer (self_at c.args.self.now.skip c.args.levels) anc (unpacked c.args.bits) name attrs kids (bytes c.args.text.now) (writer_wanted name c.opts-flags.ensures (c.node_name-name.ensures ∙ element_name x) c.has_writer.ensures c.if-flags-has_writer.true)) (c.write_element.ensures.writes_element.for name attrs kids anc x h) };
     }
-
-pub inside-node_end-to-requires : goal.inside-node_end-to-requires
-inside-node_end-to-requires t c =
-    (placed_node c.args.self.now.sheet.now c.args.nodes.now c.args.at c.requires.0).inside
-
-pub inside-overflow_add-at : goal.inside-overflow_add-at
-inside-overflow_add-at t c =
-    omega (arith, (placed_node c.args.self.now.sheet.now c.args.nodes.now c.args.at c.requires.0).inside, c.well_formed)
 
 pub inside-siblings-requires : goal.inside-siblings-requires
 inside-siblings-requires t c =
-    (falls_in c.args.levels c.decreases (lit< tt), (placed_kids c.args.self.now.sheet.now c.args.nodes.now c.args.at c.requires.0 c.node_end-to.ensures, c.requires.1, omega (arith, c.requires.2)))
+    (falls_in c.args.levels c.decreases (lit< tt), (placed_kids c.requires.0 c.node_end-to.ensures, c.requires.1, omega (arith, c.requires.2)))
 
 pub inside-returns-in_err-siblings : goal.inside-returns-in_err-siblings
 inside-returns-in_err-siblings t c =
-    let plain_here : (name : Bytes) (attrs : List Attr) (kids : Forest) (anc : Ancestors) → ElementAt c.args.self.now.sheet.now c.args.nodes.now c.args.at name attrs kids → in_element (self_at c.args.self.now.skip c.args.levels) anc (unpacked c.args.bits) name attrs kids (take c.args.text.now.len c.args.text.now.room.now) ≡ and_then ((self_at c.args.self.now.skip c.args.levels).below (attrs ∷ anc) (unpacked c.args.bits) kids (take c.args.text.now.len c.args.text.now.room.now)) (closed (unpacked c.args.bits) (tag_of name)) = λ name attrs kids anc x. let a = c.args in let u = c.opts-flags in subst (λ (o : FormatOpts). in_element (self_at a.self.now.skip a.levels) anc o name attrs kids (take a.text.now.len a.text.now.room.now) ≡ and_then ((self_at a.self.now.skip a.levels).below (attrs ∷ anc) o kids (take a.text.now.len a.text.now.room.now)) (closed o (tag_of name))) u.ensures (inside_plain (self_at a.self.now.skip a.levels) anc u.result name attrs kids (take a.text.now.len a.text.now.room.now) (ap (λ (k : ℕ). not u.result.skip_md && has_writer u.result k) (sym (c.node_name-name.ensures ∙ element_name x)) ∙ ap (λ (b : Bool). not u.result.skip_md && b) (sym c.has_writer.ensures) ∙ c.if-flags-has_writer.false)) in
     let a = c.args in record {
       room = c.siblings.ensures.room;
       kept = kept_in (omega arith) (omega (arith, c.node_end-to.ensures)) c.siblings.ensures.kept;
-      writes_element = stops_element (wrote_err _ _ c.from_residual.ensures.0) (record { for = λ name attrs kids anc x h. both-full a.text.now.room.now a.text.now.len c.args.text.now.fits (in_element (self_at a.self.now.skip a.levels) anc (unpacked a.bits) name attrs kids) ((self_at a.self.now.skip a.levels).below (attrs ∷ anc) (unpacked a.bits) kids) (closed (unpacked a.bits) (tag_of name)) (plain_here _ _ _ anc x) (below-wrote a.self.now.skip a.levels (unpacked a.bits) anc x h c.node_end-to.ensures c.siblings.ensures.writes_forest) (ap (wrote c.siblings.new.text) c.in_err-siblings.was) });
+      writes_element = stops_element (wrote_err _ _ c.from_residual.ensures.0) (record { for = λ name attrs kids anc x h. both-full a.text.now.room.now a.text.now.len c.args.text.now.fits (in_element (self_at a.self.now.skip a.levels) anc (unpacked a.bits) name attrs kids) ((self_at a.self.now.skip a.levels).below (attrs ∷ anc) (unpacked a.bits) kids) (closed (unpacked a.bits) (tag_of name)) (inside_plain (self_at c.args.self.now.skip c.args.levels) anc (unpacked c.args.bits) name attrs kids (bytes c.args.text.now) (writer_wanted name c.opts-flags.ensures (c.node_name-name.ensures ∙ element_name x) c.has_writer.ensures c.if-flags-has_writer.false)) (below-wrote a.self.now.skip a.levels (unpacked a.bits) anc x h c.node_end-to.ensures c.siblings.ensures.writes_forest) (ap (wrote c.siblings.new.text) c.in_err-siblings.was) });
     }
 
 pub inside-returns : goal.inside-returns
 inside-returns t c =
-    let plain_here : (name : Bytes) (attrs : List Attr) (kids : Forest) (anc : Ancestors) → ElementAt c.args.self.now.sheet.now c.args.nodes.now c.args.at name attrs kids → in_element (self_at c.args.self.now.skip c.args.levels) anc (unpacked c.args.bits) name attrs kids (take c.args.text.now.len c.args.text.now.room.now) ≡ and_then ((self_at c.args.self.now.skip c.args.levels).below (attrs ∷ anc) (unpacked c.args.bits) kids (take c.args.text.now.len c.args.text.now.room.now)) (closed (unpacked c.args.bits) (tag_of name)) = λ name attrs kids anc x. let a = c.args in let u = c.opts-flags in subst (λ (o : FormatOpts). in_element (self_at a.self.now.skip a.levels) anc o name attrs kids (take a.text.now.len a.text.now.room.now) ≡ and_then ((self_at a.self.now.skip a.levels).below (attrs ∷ anc) o kids (take a.text.now.len a.text.now.room.now)) (closed o (tag_of name))) u.ensures (inside_plain (self_at a.self.now.skip a.levels) anc u.result name attrs kids (take a.text.now.len a.text.now.room.now) (ap (λ (k : ℕ). not u.result.skip_md && has_writer u.result k) (sym (c.node_name-name.ensures ∙ element_name x)) ∙ ap (λ (b : Bool). not u.result.skip_md && b) (sym c.has_writer.ensures) ∙ c.if-flags-has_writer.false)) in
     let a = c.args in record {
       room = room_on (c.siblings.ensures.room) (leaf_room c.closed.ensures);
       kept = kept_in (omega arith) (omega (arith, c.node_end-to.ensures)) c.siblings.ensures.kept;
       writes_element = record {
-        for = λ name attrs kids anc x h. both-done a.text.now.room.now a.text.now.len c.args.text.now.fits (in_element (self_at a.self.now.skip a.levels) anc (unpacked a.bits) name attrs kids) ((self_at a.self.now.skip a.levels).below (attrs ∷ anc) (unpacked a.bits) kids) (closed (unpacked a.bits) (tag_of name)) (plain_here _ _ _ anc x) (below-wrote a.self.now.skip a.levels (unpacked a.bits) anc x h c.node_end-to.ensures c.siblings.ensures.writes_forest) (ap (wrote c.siblings.new.text) c.in_ok-siblings.was)
-            (subst (λ (o : FormatOpts). Writes (length c.siblings.new.text.room.now) c.closed.new.text.room.now (wrote c.closed.new.text c.closed.result) (closed o (tag_of name) (take c.siblings.new.text.len c.siblings.new.text.room.now))) c.opts.ensures
-            (subst (λ (k : ℕ). Writes (length c.siblings.new.text.room.now) c.closed.new.text.room.now (wrote c.closed.new.text c.closed.result) (closed c.opts.result k (take c.siblings.new.text.len c.siblings.new.text.room.now))) (c.node_name-name.ensures ∙ element_name x) c.closed.ensures.writes));
+        for = λ name attrs kids anc x h. both-done a.text.now.room.now a.text.now.len c.args.text.now.fits (in_element (self_at a.self.now.skip a.levels) anc (unpacked a.bits) name attrs kids) ((self_at a.self.now.skip a.levels).below (attrs ∷ anc) (unpacked a.bits) kids) (closed (unpacked a.bits) (tag_of name)) (inside_plain (self_at c.args.self.now.skip c.args.levels) anc (unpacked c.args.bits) name attrs kids (bytes c.args.text.now) (writer_wanted name c.opts-flags.ensures (c.node_name-name.ensures ∙ element_name x) c.has_writer.ensures c.if-flags-has_writer.false)) (below-wrote a.self.now.skip a.levels (unpacked a.bits) anc x h c.node_end-to.ensures c.siblings.ensures.writes_forest) (ap (wrote c.siblings.new.text) c.in_ok-siblings.was)
+            (subst (λ (o : FormatOpts). Writes (length c.siblings.new.text.room.now) c.closed.new.text.room.now (wrote c.closed.new.text c.closed.result) (closed o (tag_of name) (bytes c.siblings.new.text))) c.opts.ensures
+            (subst (λ (k : ℕ). Writes (length c.siblings.new.text.room.now) c.closed.new.text.room.now (wrote c.closed.new.text c.closed.result) (closed c.opts.result k (bytes c.siblings.new.text))) (c.node_name-name.ensures ∙ element_name x) c.closed.ensures.writes));
       };
     }
 
 pub item-node_end-to-requires : goal.item-node_end-to-requires
 item-node_end-to-requires t c =
-    let node_here : NodeAt c.args.self.now.sheet.now c.args.nodes.now c.args.c = placeds_at c.requires.0.alone c.requires.0.later in
-    (node_here).inside
-
-pub item-of-requires : goal.item-of-requires
-item-of-requires t c =
-    let inner_here : c.include_node-inner.result ≡ include_node (fresh c.args.ctx.now.opts) = c.include_node-inner.ensures ∙ ap include_node c.fresh.ensures in
-    omega (arith, fits_plain c.args.levels c.args.ctx.now c.include_node-inner.result (inner_here) c.requires.3)
-
-pub item-write-requires : goal.item-write-requires
-item-write-requires t c =
-    let inner_here : c.include_node-inner.result ≡ include_node (fresh c.args.ctx.now.opts) = c.include_node-inner.ensures ∙ ap include_node c.fresh.ensures in
-    (falls_in c.args.levels c.decreases (lit< tt), (subst (λ (e : ℕ). Placeds c.args.self.now.sheet.now c.args.nodes.now c.args.c e) (sym c.node_end-to.ensures) c.requires.0.alone, c.requires.2, fits_plain c.args.levels c.args.ctx.now (unpacked c.of.result) (c.of.ensures ∙ inner_here) c.requires.3))
+    (node_stands c.requires.0).inside
 
 pub item-returns-then-not-li : goal.item-returns-then-not-li
 item-returns-then-not-li t c =
-    let inner_here : c.include_node-inner.result ≡ include_node (fresh c.args.ctx.now.opts) = c.include_node-inner.ensures ∙ ap include_node c.fresh.ensures in
     let a = c.args in
     let skips = tags_to_skip (skip_of a.self.now.skip) in record {
       room = c.write.ensures.room;
       kept = kept_in (omega arith) (omega (arith, c.node_end-to.ensures)) c.write.ensures.kept;
       writes_forest = record {
         for = λ parent f anc h x.
-            alike (head_other skips a.levels anc a.ctx.now (take a.text.now.len a.text.now.room.now) a.self.now.sheet.now a.nodes.now parent a.c f h c.requires.0.later (sym c.requires.1 ∙ c.if-not-li.true)
-            ∙ ap (λ (o : FormatOpts). write_at skips a.levels anc o f (take a.text.now.len a.text.now.room.now)) (sym (c.of.ensures ∙ inner_here)))
+            alike (head_other skips a.levels anc a.ctx.now (bytes a.text.now) a.self.now.sheet.now a.nodes.now parent a.c f h c.requires.0.later (sym c.requires.1 ∙ c.if-not-li.true)
+            ∙ ap (λ (o : FormatOpts). write_at skips a.levels anc o f (bytes a.text.now)) (sym (c.of.ensures ∙ (c.include_node-inner.ensures ∙ ap include_node c.fresh.ensures))))
             (c.write.ensures.writes_forest.for parent f anc (subst (λ (e : ℕ). Rep a.self.now.sheet.now a.nodes.now parent a.c e f) (sym c.node_end-to.ensures) h) x);
       };
       ctx_value = sym (ap (λ (b : Bool). cond b (advance_ol_number a.ctx.now) a.ctx.now) (c.if-not-li.true));
     }
 
-pub item-overflow_add-c : goal.item-overflow_add-c
-item-overflow_add-c t c =
-    let node_here : NodeAt c.args.self.now.sheet.now c.args.nodes.now c.args.c = placeds_at c.requires.0.alone c.requires.0.later in
-    omega (arith, (node_here).inside, c.well_formed)
-
 pub item-has_blocks-requires : goal.item-has_blocks-requires
 item-has_blocks-requires t c =
-    let named_here : name_at c.args.self.now.sheet.now (place_at c.args.nodes.now c.args.c) ≡ 16 = eqb-true (name_at c.args.self.now.sheet.now (place_at c.args.nodes.now c.args.c)) 16 (sym c.requires.1 ∙ c.if-not-li.false) in
-    let its_here : Placed c.args.self.now.sheet.now c.args.nodes.now c.args.c = item_placed c.requires.0 (named_here) in
-    let kids_here : Placeds c.args.self.now.sheet.now c.args.nodes.now (c.args.c + 1) c.node_end-to.result = placed_kids c.args.self.now.sheet.now c.args.nodes.now c.args.c (its_here) c.node_end-to.ensures in
-    let k = kids_here in
+    let k = placed_kids (item_placed c.requires.0 (eqb-true _ 16 (sym c.requires.1 ∙ c.if-not-li.false))) c.node_end-to.ensures in
     (k.parent, k.forest, k.rep)
 
 pub item-blocks-requires : goal.item-blocks-requires
 item-blocks-requires t c =
-    let named_here : name_at c.args.self.now.sheet.now (place_at c.args.nodes.now c.args.c) ≡ 16 = eqb-true (name_at c.args.self.now.sheet.now (place_at c.args.nodes.now c.args.c)) 16 (sym c.requires.1 ∙ c.if-not-li.false) in
-    let its_here : Placed c.args.self.now.sheet.now c.args.nodes.now c.args.c = item_placed c.requires.0 (named_here) in
-    (falls_in c.args.levels c.decreases (lit< tt), (its_here, c.requires.2, c.requires.3))
+    (falls_in c.args.levels c.decreases (lit< tt), (item_placed c.requires.0 (eqb-true _ 16 (sym c.requires.1 ∙ c.if-not-li.false)), c.requires.2, c.requires.3))
 
 pub item-flat-requires : goal.item-flat-requires
 item-flat-requires t c =
-    let named_here : name_at c.args.self.now.sheet.now (place_at c.args.nodes.now c.args.c) ≡ 16 = eqb-true (name_at c.args.self.now.sheet.now (place_at c.args.nodes.now c.args.c)) 16 (sym c.requires.1 ∙ c.if-not-li.false) in
-    let its_here : Placed c.args.self.now.sheet.now c.args.nodes.now c.args.c = item_placed c.requires.0 (named_here) in
-    (falls_in c.args.levels c.decreases (lit< tt), (its_here, c.requires.2, c.requires.3))
+    (falls_in c.args.levels c.decreases (lit< tt), (item_placed c.requires.0 (eqb-true _ 16 (sym c.requires.1 ∙ c.if-not-li.false)), c.requires.2, c.requires.3))
 
 pub item-returns-then-has_blocks : goal.item-returns-then-has_blocks
 item-returns-then-has_blocks t c =
-    let named_here : name_at c.args.self.now.sheet.now (place_at c.args.nodes.now c.args.c) ≡ 16 = eqb-true (name_at c.args.self.now.sheet.now (place_at c.args.nodes.now c.args.c)) 16 (sym c.requires.1 ∙ c.if-not-li.false) in
     let a = c.args in record {
       room = c.blocks-then-has_blocks.ensures.room;
       kept = c.blocks-then-has_blocks.ensures.kept;
-      writes_forest = head_item c.requires.0 (named_here) (self_at a.self.now.skip a.levels) a.ctx.now true c.node_end-to.ensures (λ parent f h. sym c.if-has_blocks.true ∙ c.has_blocks.ensures parent f h) c.blocks-then-has_blocks.ensures.writes_element;
+      writes_forest = head_item c.requires.0 (eqb-true _ 16 (sym c.requires.1 ∙ c.if-not-li.false)) (self_at a.self.now.skip a.levels) a.ctx.now true c.node_end-to.ensures (λ parent f h. sym c.if-has_blocks.true ∙ c.has_blocks.ensures parent f h) c.blocks-then-has_blocks.ensures.writes_element;
       ctx_value = c.blocks-then-has_blocks.ensures.ctx_value ∙ sym (ap (λ (b : Bool). cond b (advance_ol_number a.ctx.now) a.ctx.now) (c.if-not-li.false));
     }
 
 pub item-returns : goal.item-returns
 item-returns t c =
-    let named_here : name_at c.args.self.now.sheet.now (place_at c.args.nodes.now c.args.c) ≡ 16 = eqb-true (name_at c.args.self.now.sheet.now (place_at c.args.nodes.now c.args.c)) 16 (sym c.requires.1 ∙ c.if-not-li.false) in
     let a = c.args in record {
       room = c.flat.ensures.room;
       kept = c.flat.ensures.kept;
-      writes_forest = head_item c.requires.0 (named_here) (self_at a.self.now.skip a.levels) a.ctx.now false c.node_end-to.ensures (λ parent f h. sym c.if-has_blocks.false ∙ c.has_blocks.ensures parent f h) c.flat.ensures.writes_element;
+      writes_forest = head_item c.requires.0 (eqb-true _ 16 (sym c.requires.1 ∙ c.if-not-li.false)) (self_at a.self.now.skip a.levels) a.ctx.now false c.node_end-to.ensures (λ parent f h. sym c.if-has_blocks.false ∙ c.has_blocks.ensures parent f h) c.flat.ensures.writes_element;
       ctx_value = c.flat.ensures.ctx_value ∙ sym (ap (λ (b : Bool). cond b (advance_ol_number a.ctx.now) a.ctx.now) (c.if-not-li.false));
     }
 
@@ -820,71 +648,55 @@ items-loop-c-init t c = (
 
 pub items-node_place-place-requires : goal.items-node_place-place-requires
 items-node_place-place-requires t c =
-    let here_here : PlacedNode c.args.self.now.sheet.now c.loop-c.nodes c.loop-c.c = node_kept c.loop-c.invariant.1 (placeds_first c.loop-c.invariant.3 c.loop-c-test.true) in
-    let node_here : NodeAt c.args.self.now.sheet.now c.loop-c.nodes c.loop-c.c = placeds_at (here_here).alone (here_here).later in
-    (node_here).inside
+    (node_stands (node_kept c.loop-c.invariant.1 (placeds_first c.loop-c.invariant.3 c.loop-c-test.true))).inside
 
 pub items-node_name-li-requires : goal.items-node_name-li-requires
 items-node_name-li-requires t c =
-    let here_here : PlacedNode c.args.self.now.sheet.now c.loop-c.nodes c.loop-c.c = node_kept c.loop-c.invariant.1 (placeds_first c.loop-c.invariant.3 c.loop-c-test.true) in
-    let node_here : NodeAt c.args.self.now.sheet.now c.loop-c.nodes c.loop-c.c = placeds_at (here_here).alone (here_here).later in
-    node_here
+    node_stands (node_kept c.loop-c.invariant.1 (placeds_first c.loop-c.invariant.3 c.loop-c-test.true))
 
 pub items-renumbered-ctx-requires : goal.items-renumbered-ctx-requires
 items-renumbered-ctx-requires t c =
-    let here_here : PlacedNode c.args.self.now.sheet.now c.loop-c.nodes c.loop-c.c = node_kept c.loop-c.invariant.1 (placeds_first c.loop-c.invariant.3 c.loop-c-test.true) in
-    let node_here : NodeAt c.args.self.now.sheet.now c.loop-c.nodes c.loop-c.c = placeds_at (here_here).alone (here_here).later in
-    omega (arith, c.node_place-place.ensures, (node_here).placed)
+    omega (arith, c.node_place-place.ensures, (node_stands (node_kept c.loop-c.invariant.1 (placeds_first c.loop-c.invariant.3 c.loop-c-test.true))).placed)
 
 pub items-item-requires : goal.items-item-requires
 items-item-requires t c =
-    let here_here : PlacedNode c.args.self.now.sheet.now c.loop-c.nodes c.loop-c.c = node_kept c.loop-c.invariant.1 (placeds_first c.loop-c.invariant.3 c.loop-c-test.true) in
-    let fits_here : FitsIn c.renumbered-ctx.result c.args.levels = fits_child c.args.levels (eqb c.node_name-li.result 16) (number_of (attr (ascii "value") (attrs_behind c.args.self.now.sheet.now c.node_place-place.result))) c.loop-c.ctx c.renumbered-ctx.result c.renumbered-ctx.ensures c.loop-c.invariant.4 in
-    (falls_in c.args.levels c.decreases (lit< tt), (here_here, ap (λ (k : ℕ). eqb k 16) c.node_name-li.ensures, c.requires.1, fits_here))
+    let fits = fits_child c.args.levels (eqb c.node_name-li.result 16) (number_of (attr (ascii "value") (attrs_behind c.args.self.now.sheet.now c.node_place-place.result))) c.loop-c.ctx c.renumbered-ctx.result c.renumbered-ctx.ensures c.loop-c.invariant.4 in
+    (falls_in c.args.levels c.decreases (lit< tt), (node_kept c.loop-c.invariant.1 (placeds_first c.loop-c.invariant.3 c.loop-c-test.true), ap (λ (k : ℕ). eqb k 16) c.node_name-li.ensures, c.requires.1, fits))
 
 pub items-returns-in_err-item : goal.items-returns-in_err-item
 items-returns-in_err-item t c =
-    let kept_here : Kept c.args.from c.args.to c.args.nodes.now c.item.new.nodes = let l = c.loop-c in let lt = c.loop-c-test.true in kept_then l.invariant.1 (kept_in l.invariant.2 (omega (arith, end_kept l.invariant.1 l.c, placeds_within l.invariant.3 lt)) c.item.ensures.kept) in
-    let parts_here : (next : ListContext) → next ≡ cond (eqb c.node_name-li.result 16) (advance_ol_number c.renumbered-ctx.result) c.renumbered-ctx.result → (parent : ℕ) (anc : Ancestors) (g : Forest) → Rep c.args.self.now.sheet.now c.args.nodes.now parent c.loop-c.c c.args.to g → (u : Bytes) → list_children (self_at c.args.self.now.skip c.args.levels) anc g c.loop-c.ctx u ≡ and_then (list_head (self_at c.args.self.now.skip c.args.levels) anc (head_of g) c.renumbered-ctx.result u) (list_children (self_at c.args.self.now.skip c.args.levels) anc (rest_of g) next) = λ next b parent anc g h u. let l = c.loop-c in let k = place_kept l.invariant.1 l.c in list_first (self_at c.args.self.now.skip c.args.levels) anc l.ctx u c.args.self.now.sheet.now c.args.nodes.now parent l.c c.args.to g h c.loop-c-test.true c.node_place-place.result (eqb c.node_name-li.result 16) c.renumbered-ctx.result next (c.node_place-place.ensures ∙ k) (ap (λ (j : ℕ). eqb j 16) (c.node_name-li.ensures ∙ ap (name_at c.args.self.now.sheet.now) k)) c.renumbered-ctx.ensures b in
-    let wrote_here : WritesForest c.args.self.now.sheet.now c.args.nodes.now c.loop-c.c (end_at c.args.nodes.now c.loop-c.c) (λ anc f. list_head (self_at c.args.self.now.skip c.args.levels) anc f c.renumbered-ctx.result) (bytes c.loop-c.text) (length c.loop-c.text.room.now) c.item.new.text.room.now (wrote c.item.new.text c.item.result) = writes_before c.loop-c.invariant.1 c.item.ensures.writes_forest in
     let self = self_at c.args.self.now.skip c.args.levels in
     let next = cond (eqb c.node_name-li.result 16) (advance_ol_number c.renumbered-ctx.result) c.renumbered-ctx.result in record {
       room = room_on (c.loop-c.invariant.0) (c.item.ensures.room);
-      kept = kept_here;
+      kept = kept_on c.loop-c.invariant.1 c.loop-c.invariant.2 c.loop-c.invariant.3 c.loop-c-test.true c.item.ensures.kept;
       writes_forest = stops_forest (wrote_err _ _ c.from_residual.ensures.0) (record {
         for = λ parent f anc h a.
-            turn_stop c.loop-c.invariant.5 (λ anc f. list_head self anc f c.renumbered-ctx.result) (λ anc f. list_children self anc f next) (parts_here next refl) c.loop-c-test.true (wrote_here) (ap (wrote c.item.new.text) c.in_err-item.was) parent f anc h a;
+            turn_stop c.loop-c.invariant.5 (λ anc f. list_head self anc f c.renumbered-ctx.result) (λ anc f. list_children self anc f next) (λ parent anc g h u. list_first (self_at c.args.self.now.skip c.args.levels) anc c.loop-c.ctx u c.args.self.now.sheet.now c.args.nodes.now parent c.loop-c.c c.args.to g h c.loop-c-test.true c.node_place-place.result (eqb c.node_name-li.result 16) c.renumbered-ctx.result next (c.node_place-place.ensures ∙ place_kept c.loop-c.invariant.1 c.loop-c.c) (ap (λ (j : ℕ). eqb j 16) (c.node_name-li.ensures ∙ ap (name_at c.args.self.now.sheet.now) (place_kept c.loop-c.invariant.1 c.loop-c.c))) c.renumbered-ctx.ensures refl) c.loop-c-test.true (writes_before c.loop-c.invariant.1 c.item.ensures.writes_forest) (ap (wrote c.item.new.text) c.in_err-item.was) parent f anc h a;
       });
     }
 
 pub items-node_end-c-requires : goal.items-node_end-c-requires
 items-node_end-c-requires t c =
-    let kept_here : Kept c.args.from c.args.to c.args.nodes.now c.item.new.nodes = let l = c.loop-c in let lt = c.loop-c-test.true in kept_then l.invariant.1 (kept_in l.invariant.2 (omega (arith, end_kept l.invariant.1 l.c, placeds_within l.invariant.3 lt)) c.item.ensures.kept) in
-    omega (arith, (placeds_at c.loop-c.invariant.3 c.loop-c-test.true).inside, (kept_here).long)
+    omega (arith, (placeds_at c.loop-c.invariant.3 c.loop-c-test.true).inside, (kept_on c.loop-c.invariant.1 c.loop-c.invariant.2 c.loop-c.invariant.3 c.loop-c-test.true c.item.ensures.kept).long)
 
 pub items-loop-c-smaller : goal.items-loop-c-smaller
 items-loop-c-smaller t c =
-    let kept_here : Kept c.args.from c.args.to c.args.nodes.now c.item.new.nodes = let l = c.loop-c in let lt = c.loop-c-test.true in kept_then l.invariant.1 (kept_in l.invariant.2 (omega (arith, end_kept l.invariant.1 l.c, placeds_within l.invariant.3 lt)) c.item.ensures.kept) in
-    omega (arith, placeds_later c.loop-c.invariant.3 c.loop-c-test.true, c.node_end-c.ensures, end_kept (kept_here) c.loop-c.c, c.loop-c-test.true)
+    omega (arith, placeds_later c.loop-c.invariant.3 c.loop-c-test.true, c.node_end-c.ensures, end_kept (kept_on c.loop-c.invariant.1 c.loop-c.invariant.2 c.loop-c.invariant.3 c.loop-c-test.true c.item.ensures.kept) c.loop-c.c, c.loop-c-test.true)
 
 pub items-loop-c-preserved : goal.items-loop-c-preserved
 items-loop-c-preserved t c =
-    let kept_here : Kept c.args.from c.args.to c.args.nodes.now c.item.new.nodes = let l = c.loop-c in let lt = c.loop-c-test.true in kept_then l.invariant.1 (kept_in l.invariant.2 (omega (arith, end_kept l.invariant.1 l.c, placeds_within l.invariant.3 lt)) c.item.ensures.kept) in
-    let here_here : PlacedNode c.args.self.now.sheet.now c.loop-c.nodes c.loop-c.c = node_kept c.loop-c.invariant.1 (placeds_first c.loop-c.invariant.3 c.loop-c-test.true) in
-    let fits_here : FitsIn c.renumbered-ctx.result c.args.levels = fits_child c.args.levels (eqb c.node_name-li.result 16) (number_of (attr (ascii "value") (attrs_behind c.args.self.now.sheet.now c.node_place-place.result))) c.loop-c.ctx c.renumbered-ctx.result c.renumbered-ctx.ensures c.loop-c.invariant.4 in
-    let parts_here : (next : ListContext) → next ≡ cond (eqb c.node_name-li.result 16) (advance_ol_number c.renumbered-ctx.result) c.renumbered-ctx.result → (parent : ℕ) (anc : Ancestors) (g : Forest) → Rep c.args.self.now.sheet.now c.args.nodes.now parent c.loop-c.c c.args.to g → (u : Bytes) → list_children (self_at c.args.self.now.skip c.args.levels) anc g c.loop-c.ctx u ≡ and_then (list_head (self_at c.args.self.now.skip c.args.levels) anc (head_of g) c.renumbered-ctx.result u) (list_children (self_at c.args.self.now.skip c.args.levels) anc (rest_of g) next) = λ next b parent anc g h u. let l = c.loop-c in let k = place_kept l.invariant.1 l.c in list_first (self_at c.args.self.now.skip c.args.levels) anc l.ctx u c.args.self.now.sheet.now c.args.nodes.now parent l.c c.args.to g h c.loop-c-test.true c.node_place-place.result (eqb c.node_name-li.result 16) c.renumbered-ctx.result next (c.node_place-place.ensures ∙ k) (ap (λ (j : ℕ). eqb j 16) (c.node_name-li.ensures ∙ ap (name_at c.args.self.now.sheet.now) k)) c.renumbered-ctx.ensures b in
-    let wrote_here : WritesForest c.args.self.now.sheet.now c.args.nodes.now c.loop-c.c (end_at c.args.nodes.now c.loop-c.c) (λ anc f. list_head (self_at c.args.self.now.skip c.args.levels) anc f c.renumbered-ctx.result) (bytes c.loop-c.text) (length c.loop-c.text.room.now) c.item.new.text.room.now (wrote c.item.new.text c.item.result) = writes_before c.loop-c.invariant.1 c.item.ensures.writes_forest in
+    let fits = fits_child c.args.levels (eqb c.node_name-li.result 16) (number_of (attr (ascii "value") (attrs_behind c.args.self.now.sheet.now c.node_place-place.result))) c.loop-c.ctx c.renumbered-ctx.result c.renumbered-ctx.ensures c.loop-c.invariant.4 in
     let l = c.loop-c in
     let lt = c.loop-c-test.true in
-    let K = kept_here in
+    let K = kept_on c.loop-c.invariant.1 c.loop-c.invariant.2 c.loop-c.invariant.3 c.loop-c-test.true c.item.ensures.kept in
     let q = c.node_end-c.ensures ∙ end_kept K l.c in
     let self = self_at c.args.self.now.skip c.args.levels in (
       room_on l.invariant.0 c.item.ensures.room,
       K,
       omega (arith, placeds_later l.invariant.3 lt, l.invariant.2, q),
       subst (λ (k : ℕ). Placeds c.args.self.now.sheet.now c.args.nodes.now k c.args.to) (sym q) (placeds_on l.invariant.3 lt),
-      fits_behind c.args.levels (eqb c.node_name-li.result 16) c.renumbered-ctx.result c.item.new.ctx c.item.ensures.ctx_value (fits_here),
-      turn_on l.invariant.5 (λ anc f. list_head self anc f c.renumbered-ctx.result) (λ anc f. list_children self anc f c.item.new.ctx) (parts_here c.item.new.ctx c.item.ensures.ctx_value) lt (wrote_here) q (ap (wrote c.item.new.text) c.in_ok-item.was),
+      fits_behind c.args.levels (eqb c.node_name-li.result 16) c.renumbered-ctx.result c.item.new.ctx c.item.ensures.ctx_value fits,
+      turn_on l.invariant.5 (λ anc f. list_head self anc f c.renumbered-ctx.result) (λ anc f. list_children self anc f c.item.new.ctx) (λ parent anc g h u. list_first (self_at c.args.self.now.skip c.args.levels) anc c.loop-c.ctx u c.args.self.now.sheet.now c.args.nodes.now parent c.loop-c.c c.args.to g h c.loop-c-test.true c.node_place-place.result (eqb c.node_name-li.result 16) c.renumbered-ctx.result c.item.new.ctx (c.node_place-place.ensures ∙ place_kept c.loop-c.invariant.1 c.loop-c.c) (ap (λ (j : ℕ). eqb j 16) (c.node_name-li.ensures ∙ ap (name_at c.args.self.now.sheet.now) (place_kept c.loop-c.invariant.1 c.loop-c.c))) c.renumbered-ctx.ensures c.item.ensures.ctx_value) lt (writes_before c.loop-c.invariant.1 c.item.ensures.writes_forest) q (ap (wrote c.item.new.text) c.in_ok-item.was),
     )
 
 pub items-returns : goal.items-returns
@@ -898,26 +710,14 @@ items-returns t c =
       };
     }
 
-pub kids-node_end-to-requires : goal.kids-node_end-to-requires
-kids-node_end-to-requires t c =
-    (placed_node c.args.self.now.sheet.now c.args.nodes.now c.args.at c.requires.0).inside
-
-pub kids-overflow_add-at : goal.kids-overflow_add-at
-kids-overflow_add-at t c =
-    omega (arith, (placed_node c.args.self.now.sheet.now c.args.nodes.now c.args.at c.requires.0).inside, c.well_formed)
-
 pub kids-is_one_text-requires : goal.kids-is_one_text-requires
 kids-is_one_text-requires t c =
-    let p = placed_kids c.args.self.now.sheet.now c.args.nodes.now c.args.at c.requires.0 c.node_end-to.ensures in
+    let p = placed_kids c.requires.0 c.node_end-to.ensures in
     (rep_le c.args.self.now.sheet.now c.args.nodes.now p.parent (c.args.at + 1) c.node_end-to.result p.forest p.rep, λ l. placeds_at p l)
-
-pub kids-overflow_add-at-then-levels-is_one_text : goal.kids-overflow_add-at-then-levels-is_one_text
-kids-overflow_add-at-then-levels-is_one_text t c =
-    omega (arith, (placed_node c.args.self.now.sheet.now c.args.nodes.now c.args.at c.requires.0).inside, c.well_formed)
 
 pub kids-trim_behind_text-requires : goal.kids-trim_behind_text-requires
 kids-trim_behind_text-requires t c =
-    placeds_at (placed_kids c.args.self.now.sheet.now c.args.nodes.now c.args.at c.requires.0 c.node_end-to.ensures) (omega (arith, (c.is_one_text.ensures (some_one c.args.levels c.is_one_text.result c.if-levels-is_one_text.true).1).0))
+    placeds_at (placed_kids c.requires.0 c.node_end-to.ensures) (omega (arith, (c.is_one_text.ensures (some_one c.args.levels c.is_one_text.result c.if-levels-is_one_text.true).1).0))
 
 pub kids-returns-then-levels-is_one_text : goal.kids-returns-then-levels-is_one_text
 unfolding serializer
@@ -930,28 +730,24 @@ kids-returns-then-levels-is_one_text t c =
       kept = kept_none a.nodes.now;
       writes_element = record {
         for = λ name attrs kids anc x h.
-            alike (ap (λ (o : FormatOpts). write_kids (self_at a.self.now.skip a.levels) anc o (element name attrs kids nothing) (take a.text.now.len a.text.now.room.now)) (sym u.ensures)
-            ∙ kids_is (self_at a.self.now.skip a.levels) anc u.result name attrs kids (take a.text.now.len a.text.now.room.now)
-            ∙ ap (λ (z : Out). and_then z trim_space) (write_some (tags_to_skip (skip_of a.self.now.skip)) a.levels (attrs ∷ anc) u.result kids (take a.text.now.len a.text.now.room.now) b.0
-            ∙ one_is a.self.now.sheet.now a.nodes.now a.at (a.at + 1) c.node_end-to.result o.0 o.1 (self_at a.self.now.skip (a.levels - 1)) (attrs ∷ anc) u.result (take a.text.now.len a.text.now.room.now) kids (element_kids x c.node_end-to.ensures)))
+            alike (ap (λ (o : FormatOpts). write_kids (self_at a.self.now.skip a.levels) anc o (element name attrs kids nothing) (bytes a.text.now)) (sym u.ensures)
+            ∙ kids_is (self_at a.self.now.skip a.levels) anc u.result name attrs kids (bytes a.text.now)
+            ∙ ap (λ (z : Out). and_then z trim_space) (write_some (tags_to_skip (skip_of a.self.now.skip)) a.levels (attrs ∷ anc) u.result kids (bytes a.text.now) b.0
+            ∙ one_is a.self.now.sheet.now a.nodes.now a.at (a.at + 1) c.node_end-to.result o.0 o.1 (self_at a.self.now.skip (a.levels - 1)) (attrs ∷ anc) u.result (bytes a.text.now) kids (element_kids x c.node_end-to.ensures)))
             c.trim_behind_text.ensures.writes;
       };
     }
 
-pub kids-overflow_add-at-2 : goal.kids-overflow_add-at-2
-kids-overflow_add-at-2 t c =
-    omega (arith, (placed_node c.args.self.now.sheet.now c.args.nodes.now c.args.at c.requires.0).inside, c.well_formed)
-
 pub kids-write-requires : goal.kids-write-requires
 kids-write-requires t c =
-    (falls_in c.args.levels c.decreases (lit< tt), (placed_kids c.args.self.now.sheet.now c.args.nodes.now c.args.at c.requires.0 c.node_end-to.ensures, c.requires.1, c.requires.2))
+    (falls_in c.args.levels c.decreases (lit< tt), (placed_kids c.requires.0 c.node_end-to.ensures, c.requires.1, c.requires.2))
 
 pub kids-returns-in_err-write : goal.kids-returns-in_err-write
 kids-returns-in_err-write t c =
     let a = c.args in record {
       room = c.write.ensures.room;
       kept = kept_in (omega arith) (omega (arith, c.node_end-to.ensures)) c.write.ensures.kept;
-      writes_element = stops_element (wrote_err _ _ c.from_residual.ensures.0) (record { for = λ name attrs kids anc x h. both-full a.text.now.room.now a.text.now.len c.args.text.now.fits (write_kids (self_at a.self.now.skip a.levels) anc (unpacked a.bits) (element name attrs kids nothing)) ((self_at a.self.now.skip a.levels).below (attrs ∷ anc) (unpacked a.bits) kids) trim_space (kids_is (self_at a.self.now.skip a.levels) anc (unpacked a.bits) name attrs kids (take a.text.now.len a.text.now.room.now)) (below-wrote a.self.now.skip a.levels (unpacked a.bits) anc x h c.node_end-to.ensures c.write.ensures.writes_forest) (ap (wrote c.write.new.text) c.in_err-write.was) });
+      writes_element = stops_element (wrote_err _ _ c.from_residual.ensures.0) (record { for = λ name attrs kids anc x h. both-full a.text.now.room.now a.text.now.len c.args.text.now.fits (write_kids (self_at a.self.now.skip a.levels) anc (unpacked a.bits) (element name attrs kids nothing)) ((self_at a.self.now.skip a.levels).below (attrs ∷ anc) (unpacked a.bits) kids) trim_space (kids_is (self_at a.self.now.skip a.levels) anc (unpacked a.bits) name attrs kids (bytes a.text.now)) (below-wrote a.self.now.skip a.levels (unpacked a.bits) anc x h c.node_end-to.ensures c.write.ensures.writes_forest) (ap (wrote c.write.new.text) c.in_err-write.was) });
     }
 
 pub kids-returns : goal.kids-returns
@@ -959,14 +755,8 @@ kids-returns t c =
     let a = c.args in record {
       room = room_on (c.write.ensures.room) (leaf_room c.trim_space.ensures);
       kept = kept_in (omega arith) (omega (arith, c.node_end-to.ensures)) c.write.ensures.kept;
-      writes_element = record { for = λ name attrs kids anc x h. both-done a.text.now.room.now a.text.now.len c.args.text.now.fits (write_kids (self_at a.self.now.skip a.levels) anc (unpacked a.bits) (element name attrs kids nothing)) ((self_at a.self.now.skip a.levels).below (attrs ∷ anc) (unpacked a.bits) kids) trim_space (kids_is (self_at a.self.now.skip a.levels) anc (unpacked a.bits) name attrs kids (take a.text.now.len a.text.now.room.now)) (below-wrote a.self.now.skip a.levels (unpacked a.bits) anc x h c.node_end-to.ensures c.write.ensures.writes_forest) (ap (wrote c.write.new.text) c.in_ok-write.was) c.trim_space.ensures.writes };
+      writes_element = record { for = λ name attrs kids anc x h. both-done a.text.now.room.now a.text.now.len c.args.text.now.fits (write_kids (self_at a.self.now.skip a.levels) anc (unpacked a.bits) (element name attrs kids nothing)) ((self_at a.self.now.skip a.levels).below (attrs ∷ anc) (unpacked a.bits) kids) trim_space (kids_is (self_at a.self.now.skip a.levels) anc (unpacked a.bits) name attrs kids (bytes a.text.now)) (below-wrote a.self.now.skip a.levels (unpacked a.bits) anc x h c.node_end-to.ensures c.write.ensures.writes_forest) (ap (wrote c.write.new.text) c.in_ok-write.was) c.trim_space.ensures.writes };
     }
-
-pub led-flow-requires : goal.led-flow-requires
-led-flow-requires t c = (
-  falls_in c.args.levels c.decreases (lit< tt),
-  (c.requires.0, c.requires.1, c.requires.2, c.requires.3),
-)
 
 pub led-returns : goal.led-returns
 led-returns t c =
@@ -992,27 +782,6 @@ led-returns-in_err-push_block_lead t c =
       writes_element = stops_element (wrote_err _ _ c.from_residual.ensures.0) (led_none c.args.self.now.sheet.now c.args.nodes.now c.args.c c.requires.1 (self_at c.args.self.now.skip c.args.levels) (item_of c.args.item) c.args.first c.args.text.now.room.now c.args.text.now.len c.args.text.now.fits c.push_block_lead.ensures.writes (ap (wrote c.push_block_lead.new.text) c.in_err-push_block_lead.was));
     }
 
-pub link-node_end-end-requires : goal.link-node_end-end-requires
-link-node_end-end-requires t c =
-    (placed_node c.args.self.now.sheet.now c.args.nodes.now c.args.at c.requires.0).inside
-
-pub link-overflow_add-at : goal.link-overflow_add-at
-link-overflow_add-at t c =
-    omega (arith, (placed_node c.args.self.now.sheet.now c.args.nodes.now c.args.at c.requires.0).inside, c.well_formed)
-
-pub link-overflow_add-at-2 : goal.link-overflow_add-at-2
-link-overflow_add-at-2 t c =
-    omega (arith, (placed_node c.args.self.now.sheet.now c.args.nodes.now c.args.at c.requires.0).inside, c.well_formed)
-
-pub link-has_element-requires : goal.link-has_element-requires
-link-has_element-requires t c =
-    let k = placed_kids c.args.self.now.sheet.now c.args.nodes.now c.args.at c.requires.0 c.node_end-end.ensures in
-    ((k.parent, k.forest, k.rep), lit< tt)
-
-pub link-body-requires : goal.link-body-requires
-link-body-requires t c =
-    (falls_in c.args.levels c.decreases (lit< tt), (c.requires.0, c.requires.1, subst (λ (o : FormatOpts). Fits o c.args.levels) (sym (c.link_body.ensures ∙ ap link_body c.fresh-fresh.ensures)) (omega (arith, c.requires.2)), c.requires.3))
-
 pub link-returns-then-has_element : goal.link-returns-then-has_element
 link-returns-then-has_element t c =
     let a = c.args in
@@ -1021,102 +790,83 @@ link-returns-then-has_element t c =
       kept = c.body.ensures.kept;
       writes_element = record {
         for = λ name attrs kids anc x h.
-            alike (to_image (self_at a.self.now.skip a.levels) anc a.opts href name attrs kids (take a.text.now.len a.text.now.room.now) (sym (c.has_element.ensures a.at kids (element_kids x c.node_end-end.ensures)) ∙ c.if-has_element.true))
-            (subst (λ (o : FormatOpts). Writes (length a.text.now.room.now) c.body.new.text.room.now (wrote c.body.new.text c.body.result) (link_of attrs href (write_kids (self_at a.self.now.skip a.levels) anc o (element name attrs kids nothing) []) push (take a.text.now.len a.text.now.room.now))) (c.link_body.ensures ∙ ap link_body c.fresh-fresh.ensures) (c.body.ensures.writes_element.for name attrs kids anc x h));
+            alike (to_image (self_at a.self.now.skip a.levels) anc a.opts href name attrs kids (bytes a.text.now) (sym (c.has_element.ensures a.at kids (element_kids x c.node_end-end.ensures)) ∙ c.if-has_element.true))
+            (subst (λ (o : FormatOpts). Writes (length a.text.now.room.now) c.body.new.text.room.now (wrote c.body.new.text c.body.result) (link_of attrs href (write_kids (self_at a.self.now.skip a.levels) anc o (element name attrs kids nothing) []) push (bytes a.text.now))) (c.link_body.ensures ∙ ap link_body c.fresh-fresh.ensures) (c.body.ensures.writes_element.for name attrs kids anc x h));
       };
     }
 
-pub link-write_text_behind-requires : goal.link-write_text_behind-requires
-link-write_text_behind-requires t c =
-    let k = placed_kids c.args.self.now.sheet.now c.args.nodes.now c.args.at c.requires.0 c.node_end-end.ensures in
-    (k.parent, k.forest, k.rep)
-
 pub link-body-requires-then-n-eq0 : goal.link-body-requires-then-n-eq0
 link-body-requires-then-n-eq0 t c =
-    let wrote_here : (name : Bytes) (attrs : List Attr) (kids : Forest) → ElementAt c.args.self.now.sheet.now c.args.nodes.now c.args.at name attrs kids → Writes (length (lent c.args.text.now.room.now c.args.text.now.len)) c.write_text_behind.new.room c.write_text_behind.result (shown_text c.args.opts kids) = λ name attrs kids x. let a = c.args in subst (λ (o : FormatOpts). Writes (length (lent a.text.now.room.now a.text.now.len)) c.write_text_behind.new.room c.write_text_behind.result (write_text o kids [])) (c.skip_escape-plain.ensures ∙ ap skip_escape (c.include_node.ensures ∙ ap include_node c.fresh-fresh.ensures)) (c.write_text_behind.ensures a.at kids (element_kids x c.node_end-end.ensures)) in
+    let written = shown_below c.args.opts c.fresh-fresh.ensures c.include_node.ensures c.skip_escape-plain.ensures c.node_end-end.ensures c.write_text_behind.ensures in
     let a = c.args in
     let p = c.requires.0 in
-    let w = done c.in_ok-n.was (wrote_here _ _ _ p.0.3) in
+    let w = done c.in_ok-n.was (written _ _ _ p.0.3) in
     (falls_in a.levels c.decreases (lit< tt), (p, c.requires.1, subst (λ (o : FormatOpts). Fits o a.levels) (sym c.fresh-fresh.ensures) (omega (arith, c.requires.2)), c.requires.3))
 
 pub link-returns-then-n-eq0 : goal.link-returns-then-n-eq0
 link-returns-then-n-eq0 t c =
-    let wrote_here : (name : Bytes) (attrs : List Attr) (kids : Forest) → ElementAt c.args.self.now.sheet.now c.args.nodes.now c.args.at name attrs kids → Writes (length (lent c.args.text.now.room.now c.args.text.now.len)) c.write_text_behind.new.room c.write_text_behind.result (shown_text c.args.opts kids) = λ name attrs kids x. let a = c.args in subst (λ (o : FormatOpts). Writes (length (lent a.text.now.room.now a.text.now.len)) c.write_text_behind.new.room c.write_text_behind.result (write_text o kids [])) (c.skip_escape-plain.ensures ∙ ap skip_escape (c.include_node.ensures ∙ ap include_node c.fresh-fresh.ensures)) (c.write_text_behind.ensures a.at kids (element_kids x c.node_end-end.ensures)) in
-    let bare_here : (name : Bytes) (attrs : List Attr) (kids : Forest) → ElementAt c.args.self.now.sheet.now c.args.nodes.now c.args.at name attrs kids → has_element 22 kids ≡ false = λ _ _ kids x. sym (c.has_element.ensures c.args.at kids (element_kids x c.node_end-end.ensures)) ∙ c.if-has_element.false in
+    let written = shown_below c.args.opts c.fresh-fresh.ensures c.include_node.ensures c.skip_escape-plain.ensures c.node_end-end.ensures c.write_text_behind.ensures in
+    let no_image = no_image_below c.node_end-end.ensures c.has_element.ensures c.if-has_element.false in
     let a = c.args in
     let href = a.dest.now in record {
       room = room_on (room_behind _ refl refl c.write_text_behind.auto.room) (c.body-then-n-eq0.ensures.room);
       kept = c.body-then-n-eq0.ensures.kept;
       writes_element = record {
         for = λ name attrs kids anc x h.
-            let w = done c.in_ok-n.was (wrote_here _ _ _ x) in
-            alike (to_body (self_at a.self.now.skip a.levels) anc a.opts href name attrs kids (take a.text.now.len a.text.now.room.now) (bare_here _ _ _ x) (null_none (shown_text a.opts kids).text (sym w.count ∙ c.if-n-eq0.true)))
+            let w = done c.in_ok-n.was (written _ _ _ x) in
+            alike (to_body (self_at a.self.now.skip a.levels) anc a.opts href name attrs kids (bytes a.text.now) (no_image _ _ _ x) (null_none (shown_text a.opts kids).text (sym w.count ∙ c.if-n-eq0.true)))
             (subst₂ (λ (k : ℕ) (u : Bytes). Writes k c.body-then-n-eq0.new.text.room.now (wrote c.body-then-n-eq0.new.text c.body-then-n-eq0.result) (link_of attrs href (write_kids (self_at a.self.now.skip a.levels) anc (fresh a.opts) (element name attrs kids nothing) []) push u)) (back_length a.text.now.room.now a.text.now.len c.args.text.now.fits (shown_text a.opts kids) w) (back_text a.text.now.room.now a.text.now.len c.args.text.now.fits (shown_text a.opts kids) w)
             (subst (λ (o : FormatOpts). Writes (length (back a.text.now.room.now a.text.now.len c.write_text_behind.new.room)) c.body-then-n-eq0.new.text.room.now (wrote c.body-then-n-eq0.new.text c.body-then-n-eq0.result) (link_of attrs href (write_kids (self_at a.self.now.skip a.levels) anc o (element name attrs kids nothing) []) push (take a.text.now.len (back a.text.now.room.now a.text.now.len c.write_text_behind.new.room)))) c.fresh-fresh.ensures (c.body-then-n-eq0.ensures.writes_element.for name attrs kids anc x h)));
       };
     }
 
-pub link-node_place-place-requires : goal.link-node_place-place-requires
-link-node_place-place-requires t c =
-    (placed_node c.args.self.now.sheet.now c.args.nodes.now c.args.at c.requires.0).inside
-
-pub link-push_text_link-requires : goal.link-push_text_link-requires
-link-push_text_link-requires t c =
-    let wrote_here : (name : Bytes) (attrs : List Attr) (kids : Forest) → ElementAt c.args.self.now.sheet.now c.args.nodes.now c.args.at name attrs kids → Writes (length (lent c.args.text.now.room.now c.args.text.now.len)) c.write_text_behind.new.room c.write_text_behind.result (shown_text c.args.opts kids) = λ name attrs kids x. let a = c.args in subst (λ (o : FormatOpts). Writes (length (lent a.text.now.room.now a.text.now.len)) c.write_text_behind.new.room c.write_text_behind.result (write_text o kids [])) (c.skip_escape-plain.ensures ∙ ap skip_escape (c.include_node.ensures ∙ ap include_node c.fresh-fresh.ensures)) (c.write_text_behind.ensures a.at kids (element_kids x c.node_end-end.ensures)) in
-    let p = c.requires.0 in
-    (nest-fits c.args.text.now.room.now c.args.text.now.len c.args.text.now.fits (wrote_here _ _ _ p.0.3) c.in_ok-n.was, omega (arith, c.node_place-place.ensures, (placed_node c.args.self.now.sheet.now c.args.nodes.now c.args.at p).placed), c.requires.3)
-
 pub link-returns : goal.link-returns
 link-returns t c =
-    let wrote_here : (name : Bytes) (attrs : List Attr) (kids : Forest) → ElementAt c.args.self.now.sheet.now c.args.nodes.now c.args.at name attrs kids → Writes (length (lent c.args.text.now.room.now c.args.text.now.len)) c.write_text_behind.new.room c.write_text_behind.result (shown_text c.args.opts kids) = λ name attrs kids x. let a = c.args in subst (λ (o : FormatOpts). Writes (length (lent a.text.now.room.now a.text.now.len)) c.write_text_behind.new.room c.write_text_behind.result (write_text o kids [])) (c.skip_escape-plain.ensures ∙ ap skip_escape (c.include_node.ensures ∙ ap include_node c.fresh-fresh.ensures)) (c.write_text_behind.ensures a.at kids (element_kids x c.node_end-end.ensures)) in
-    let bare_here : (name : Bytes) (attrs : List Attr) (kids : Forest) → ElementAt c.args.self.now.sheet.now c.args.nodes.now c.args.at name attrs kids → has_element 22 kids ≡ false = λ _ _ kids x. sym (c.has_element.ensures c.args.at kids (element_kids x c.node_end-end.ensures)) ∙ c.if-has_element.false in
+    let written = shown_below c.args.opts c.fresh-fresh.ensures c.include_node.ensures c.skip_escape-plain.ensures c.node_end-end.ensures c.write_text_behind.ensures in
+    let no_image = no_image_below c.node_end-end.ensures c.has_element.ensures c.if-has_element.false in
     let a = c.args in
     let href = a.dest.now in record {
       room = room_on (room_behind _ refl refl c.write_text_behind.auto.room) (leaf_room c.push_text_link.ensures);
       kept = kept_none a.nodes.now;
       writes_element = record {
         for = λ name attrs kids anc x h.
-            let w = done c.in_ok-n.was (wrote_here _ _ _ x) in
-            alike (to_text (self_at a.self.now.skip a.levels) anc a.opts href name attrs kids (take a.text.now.len a.text.now.room.now) (bare_here _ _ _ x) (null_more (shown_text a.opts kids).text (λ z. c.if-n-eq0.false (w.count ∙ z))))
-            (nest-done a.text.now.room.now a.text.now.len c.args.text.now.fits (wrote_here _ _ _ x) (λ z. text_link_step a.opts attrs href z) c.in_ok-n.was
+            let w = done c.in_ok-n.was (written _ _ _ x) in
+            alike (to_text (self_at a.self.now.skip a.levels) anc a.opts href name attrs kids (bytes a.text.now) (no_image _ _ _ x) (null_more (shown_text a.opts kids).text (λ z. c.if-n-eq0.false (w.count ∙ z))))
+            (nest-done a.text.now.room.now a.text.now.len c.args.text.now.fits (written _ _ _ x) (λ z. text_link_step a.opts attrs href z) c.in_ok-n.was
             (subst (λ (l : List Attr). Writes (length (back a.text.now.room.now a.text.now.len c.write_text_behind.new.room)) c.push_text_link.new.text.room.now (wrote c.push_text_link.new.text c.push_text_link.result) (text_link_step a.opts l href (take c.in_ok-n.n (drop a.text.now.len (back a.text.now.room.now a.text.now.len c.write_text_behind.new.room))) (take a.text.now.len (back a.text.now.room.now a.text.now.len c.write_text_behind.new.room)))) (ap (attrs_behind a.self.now.sheet.now) c.node_place-place.ensures ∙ sym x.attrs_are) c.push_text_link.ensures.writes));
       };
     }
 
 pub link-returns-in_err-n : goal.link-returns-in_err-n
 link-returns-in_err-n t c =
-    let bare_here : (name : Bytes) (attrs : List Attr) (kids : Forest) → ElementAt c.args.self.now.sheet.now c.args.nodes.now c.args.at name attrs kids → has_element 22 kids ≡ false = λ _ _ kids x. sym (c.has_element.ensures c.args.at kids (element_kids x c.node_end-end.ensures)) ∙ c.if-has_element.false in
-    let wrote_here : (name : Bytes) (attrs : List Attr) (kids : Forest) → ElementAt c.args.self.now.sheet.now c.args.nodes.now c.args.at name attrs kids → Writes (length (lent c.args.text.now.room.now c.args.text.now.len)) c.write_text_behind.new.room c.write_text_behind.result (shown_text c.args.opts kids) = λ name attrs kids x. let a = c.args in subst (λ (o : FormatOpts). Writes (length (lent a.text.now.room.now a.text.now.len)) c.write_text_behind.new.room c.write_text_behind.result (write_text o kids [])) (c.skip_escape-plain.ensures ∙ ap skip_escape (c.include_node.ensures ∙ ap include_node c.fresh-fresh.ensures)) (c.write_text_behind.ensures a.at kids (element_kids x c.node_end-end.ensures)) in
+    let no_image = no_image_below c.node_end-end.ensures c.has_element.ensures c.if-has_element.false in
+    let written = shown_below c.args.opts c.fresh-fresh.ensures c.include_node.ensures c.skip_escape-plain.ensures c.node_end-end.ensures c.write_text_behind.ensures in
     let a = c.args in
     let href = a.dest.now in record {
       room = room_behind _ refl refl c.write_text_behind.auto.room;
       kept = kept_none a.nodes.now;
       writes_element = stops_element (wrote_err _ _ c.from_residual.ensures.0) (record {
         for = λ name attrs kids anc x h.
-            alike (to_text (self_at a.self.now.skip a.levels) anc a.opts href name attrs kids (take a.text.now.len a.text.now.room.now) (bare_here _ _ _ x) (shown_null (shown_text a.opts kids) (text_grown (skip_escape (include_node (fresh a.opts))) kids []) (full c.in_err-n.was (wrote_here _ _ _ x))))
-            (nest-full a.text.now.room.now a.text.now.len c.args.text.now.fits (wrote_here _ _ _ x) (text_link_step a.opts attrs href (shown_text a.opts kids).text) c.in_err-n.was);
+            alike (to_text (self_at a.self.now.skip a.levels) anc a.opts href name attrs kids (bytes a.text.now) (no_image _ _ _ x) (shown_null (shown_text a.opts kids) (text_grown (skip_escape (include_node (fresh a.opts))) kids []) (full c.in_err-n.was (written _ _ _ x))))
+            (nest-full a.text.now.room.now a.text.now.len c.args.text.now.fits (written _ _ _ x) (text_link_step a.opts attrs href (shown_text a.opts kids).text) c.in_err-n.was);
       });
     }
 
 pub node-node_place-place-requires : goal.node-node_place-place-requires
 node-node_place-place-requires t c =
-    let here_here : NodeAt c.args.self.now.sheet.now c.args.nodes.now c.args.at = placeds_at c.requires.0.alone c.requires.0.later in
-    (here_here).inside
+    (node_stands c.requires.0).inside
 
 pub node-tag_at-requires : goal.node-tag_at-requires
 node-tag_at-requires t c =
-    let here_here : NodeAt c.args.self.now.sheet.now c.args.nodes.now c.args.at = placeds_at c.requires.0.alone c.requires.0.later in
-    omega (arith, (here_here).placed, c.node_place-place.ensures)
+    omega (arith, (node_stands c.requires.0).placed, c.node_place-place.ensures)
 
 pub node-node_is_skipped-requires : goal.node-node_is_skipped-requires
 node-node_is_skipped-requires t c =
-    let here_here : NodeAt c.args.self.now.sheet.now c.args.nodes.now c.args.at = placeds_at c.requires.0.alone c.requires.0.later in
-    here_here
+    node_stands c.requires.0
 
 pub node-write_text_node-requires : goal.node-write_text_node-requires
 node-write_text_node-requires t c =
-    let here_here : NodeAt c.args.self.now.sheet.now c.args.nodes.now c.args.at = placeds_at c.requires.0.alone c.requires.0.later in
-    here_here
+    node_stands c.requires.0
 
 pub node-returns-then-tag_at-ne-OPEN : goal.node-returns-then-tag_at-ne-OPEN
 node-returns-then-tag_at-ne-OPEN t c =
@@ -1125,92 +875,65 @@ node-returns-then-tag_at-ne-OPEN t c =
     record {
       room = leaf_room c.write_text_node.ensures;
       kept = kept_none a.nodes.now;
-      writes_forest = record { for = λ parent f anc h q. alike (ap (λ (o : FormatOpts). write_nodes (self_at a.self.now.skip a.levels) anc o f (take a.text.now.len a.text.now.room.now)) (sym u.ensures) ∙ node_text a.self.now.sheet.now a.nodes.now parent a.at c.requires.0.later (self_at a.self.now.skip a.levels) anc u.result (take a.text.now.len a.text.now.room.now) f h (λ e. c.if-tag_at-ne-OPEN.true (c.tag_at.ensures ∙ ap (λ (k : ℕ). get_or a.self.now.sheet.now k 0) c.node_place-place.ensures ∙ e))) c.write_text_node.ensures.writes };
+      writes_forest = record { for = λ parent f anc h q. alike (ap (λ (o : FormatOpts). write_nodes (self_at a.self.now.skip a.levels) anc o f (bytes a.text.now)) (sym u.ensures) ∙ node_text a.self.now.sheet.now a.nodes.now parent a.at c.requires.0.later (self_at a.self.now.skip a.levels) anc u.result (bytes a.text.now) f h (λ e. c.if-tag_at-ne-OPEN.true (c.tag_at.ensures ∙ ap (λ (k : ℕ). get_or a.self.now.sheet.now k 0) c.node_place-place.ensures ∙ e))) c.write_text_node.ensures.writes };
     }
 
 pub node-returns-then-node_is_skipped : goal.node-returns-then-node_is_skipped
 unfolding serializer
 node-returns-then-node_is_skipped t c =
-    let tagged_here : get_or c.args.self.now.sheet.now (place_at c.args.nodes.now c.args.at) 0 ≡ 1 = omega (arith, c.if-tag_at-ne-OPEN.false, c.tag_at.ensures ∙ ap (λ (k : ℕ). get_or c.args.self.now.sheet.now k 0) c.node_place-place.ensures) in
-    let tagged_here_2 : get_or c.args.self.now.sheet.now (place_at c.args.nodes.now c.args.at) 0 ≡ 1 = omega (arith, c.if-tag_at-ne-OPEN.false, c.tag_at.ensures ∙ ap (λ (k : ℕ). get_or c.args.self.now.sheet.now k 0) c.node_place-place.ensures) in
-    let skips_here : among (body_at c.args.self.now.sheet.now (place_at c.args.nodes.now c.args.at)) (tags_to_skip (skip_of c.args.self.now.skip)) ≡ c.node_is_skipped.result = let a = c.args in sym (first_skipped a.self.now.sheet.now (place_at a.nodes.now a.at) (tags_to_skip (skip_of a.self.now.skip)) (tagged_here_2)) ∙ sym c.node_is_skipped.ensures in
+    let tagged = tag_is c.args.self.now.sheet.now c.args.nodes.now c.args.at c.tag_at.ensures c.node_place-place.ensures c.if-tag_at-ne-OPEN.false in
     let a = c.args in record {
       room = room_same c.args.text.now;
       kept = kept_none a.nodes.now;
       writes_forest = record {
         for = λ parent f anc h q.
-            alike (ap (λ (g : Forest). write_nodes (self_at a.self.now.skip a.levels) anc (unpacked a.bits) g (take a.text.now.len a.text.now.room.now)) (alone_element a.self.now.sheet.now a.nodes.now parent a.at c.requires.0.later f h (tagged_here))
-            ∙ element_skipped (self_at a.self.now.skip a.levels) anc (unpacked a.bits) (body_at a.self.now.sheet.now (place_at a.nodes.now a.at)) (attrs_behind a.self.now.sheet.now (place_at a.nodes.now a.at)) (kids_of f) (take a.text.now.len a.text.now.room.now) (skips_here ∙ c.if-node_is_skipped.true))
+            alike (ap (λ (g : Forest). write_nodes (self_at a.self.now.skip a.levels) anc (unpacked a.bits) g (bytes a.text.now)) (alone_element a.self.now.sheet.now a.nodes.now parent a.at c.requires.0.later f h tagged)
+            ∙ element_skipped (self_at a.self.now.skip a.levels) anc (unpacked a.bits) (body_at a.self.now.sheet.now (place_at a.nodes.now a.at)) (attrs_behind a.self.now.sheet.now (place_at a.nodes.now a.at)) (kids_of f) (bytes a.text.now) ((sym (first_skipped c.args.self.now.sheet.now (place_at c.args.nodes.now c.args.at) (tags_to_skip (skip_of c.args.self.now.skip)) tagged) ∙ sym c.node_is_skipped.ensures) ∙ c.if-node_is_skipped.true))
             (record { says = keeps a.text.now.room.now a.text.now.len c.args.text.now.fits });
       };
     }
 
 pub node-opened-requires : goal.node-opened-requires
 node-opened-requires t c =
-    let tagged_here : get_or c.args.self.now.sheet.now (place_at c.args.nodes.now c.args.at) 0 ≡ 1 = omega (arith, c.if-tag_at-ne-OPEN.false, c.tag_at.ensures ∙ ap (λ (k : ℕ). get_or c.args.self.now.sheet.now k 0) c.node_place-place.ensures) in
-    let placed_here : Placed c.args.self.now.sheet.now c.args.nodes.now c.args.at = node_placed c.requires.0 (tagged_here) in
-    (placed_here).0
+    (node_placed c.requires.0 (tag_is c.args.self.now.sheet.now c.args.nodes.now c.args.at c.tag_at.ensures c.node_place-place.ensures c.if-tag_at-ne-OPEN.false)).0
 
 pub node-inside-requires : goal.node-inside-requires
 node-inside-requires t c =
-    let tagged_here : get_or c.args.self.now.sheet.now (place_at c.args.nodes.now c.args.at) 0 ≡ 1 = omega (arith, c.if-tag_at-ne-OPEN.false, c.tag_at.ensures ∙ ap (λ (k : ℕ). get_or c.args.self.now.sheet.now k 0) c.node_place-place.ensures) in
-    let placed_here : Placed c.args.self.now.sheet.now c.args.nodes.now c.args.at = node_placed c.requires.0 (tagged_here) in
-    let p = placed_here in
+    let p = node_placed c.requires.0 (tag_is c.args.self.now.sheet.now c.args.nodes.now c.args.at c.tag_at.ensures c.node_place-place.ensures c.if-tag_at-ne-OPEN.false) in
     (falls_in c.args.levels c.decreases (lit< tt), (p, c.requires.1, c.requires.2))
 
 pub node-returns : goal.node-returns
 unfolding serializer
 node-returns t c =
-    let tagged_here : get_or c.args.self.now.sheet.now (place_at c.args.nodes.now c.args.at) 0 ≡ 1 = omega (arith, c.if-tag_at-ne-OPEN.false, c.tag_at.ensures ∙ ap (λ (k : ℕ). get_or c.args.self.now.sheet.now k 0) c.node_place-place.ensures) in
-    let tagged_here_2 : get_or c.args.self.now.sheet.now (place_at c.args.nodes.now c.args.at) 0 ≡ 1 = omega (arith, c.if-tag_at-ne-OPEN.false, c.tag_at.ensures ∙ ap (λ (k : ℕ). get_or c.args.self.now.sheet.now k 0) c.node_place-place.ensures) in
-    let skips_here : among (body_at c.args.self.now.sheet.now (place_at c.args.nodes.now c.args.at)) (tags_to_skip (skip_of c.args.self.now.skip)) ≡ c.node_is_skipped.result = let a = c.args in sym (first_skipped a.self.now.sheet.now (place_at a.nodes.now a.at) (tags_to_skip (skip_of a.self.now.skip)) (tagged_here_2)) ∙ sym c.node_is_skipped.ensures in
-    let goes_here : (parent : ℕ) (f : Forest) (anc : Ancestors) → Rep c.args.self.now.sheet.now c.args.nodes.now parent c.args.at (end_at c.args.nodes.now c.args.at) f → write_nodes (self_at c.args.self.now.skip c.args.levels) anc (unpacked c.args.bits) f (take c.args.text.now.len c.args.text.now.room.now) ≡ and_then (opened (unpacked c.args.bits) (tag_of (body_at c.args.self.now.sheet.now (place_at c.args.nodes.now c.args.at))) (attrs_behind c.args.self.now.sheet.now (place_at c.args.nodes.now c.args.at)) (kids_of f) (take c.args.text.now.len c.args.text.now.room.now)) (in_element (self_at c.args.self.now.skip c.args.levels) anc (unpacked c.args.bits) (body_at c.args.self.now.sheet.now (place_at c.args.nodes.now c.args.at)) (attrs_behind c.args.self.now.sheet.now (place_at c.args.nodes.now c.args.at)) (kids_of f)) = λ parent f anc h. let a = c.args in ap (λ (g : Forest). write_nodes (self_at a.self.now.skip a.levels) anc (unpacked a.bits) g (take a.text.now.len a.text.now.room.now)) (alone_element a.self.now.sheet.now a.nodes.now parent a.at c.requires.0.later f h (tagged_here)) ∙ element_opened (self_at a.self.now.skip a.levels) anc (unpacked a.bits) (body_at a.self.now.sheet.now (place_at a.nodes.now a.at)) (attrs_behind a.self.now.sheet.now (place_at a.nodes.now a.at)) (kids_of f) (take a.text.now.len a.text.now.room.now) (skips_here ∙ c.if-node_is_skipped.false) in
-    let tagged_here_3 : get_or c.args.self.now.sheet.now (place_at c.args.nodes.now c.args.at) 0 ≡ 1 = omega (arith, c.if-tag_at-ne-OPEN.false, c.tag_at.ensures ∙ ap (λ (k : ℕ). get_or c.args.self.now.sheet.now k 0) c.node_place-place.ensures) in
-    let opens_here : (parent : ℕ) (f : Forest) → Rep c.args.self.now.sheet.now c.args.nodes.now parent c.args.at (end_at c.args.nodes.now c.args.at) f → Writes (length c.args.text.now.room.now) c.opened.new.text.room.now (wrote c.opened.new.text c.opened.result) (opened (unpacked c.args.bits) (tag_of (body_at c.args.self.now.sheet.now (place_at c.args.nodes.now c.args.at))) (attrs_behind c.args.self.now.sheet.now (place_at c.args.nodes.now c.args.at)) (kids_of f) (take c.args.text.now.len c.args.text.now.room.now)) = λ parent f h. let a = c.args in subst (λ (o : FormatOpts). Writes (length a.text.now.room.now) c.opened.new.text.room.now (wrote c.opened.new.text c.opened.result) (opened o (tag_of (body_at a.self.now.sheet.now (place_at a.nodes.now a.at))) (attrs_behind a.self.now.sheet.now (place_at a.nodes.now a.at)) (kids_of f) (take a.text.now.len a.text.now.room.now))) c.opts-2.ensures ((c.opened.ensures (body_at c.args.self.now.sheet.now (place_at c.args.nodes.now c.args.at)) (attrs_behind c.args.self.now.sheet.now (place_at c.args.nodes.now c.args.at)) (kids_of f) (node_element c.args.self.now.sheet.now c.args.nodes.now parent c.args.at (end_at c.args.nodes.now c.args.at) f h c.requires.0.later c.requires.0.alone.positive (tagged_here_3))).writes) in
-    let tagged_here_4 : get_or c.args.self.now.sheet.now (place_at c.args.nodes.now c.args.at) 0 ≡ 1 = omega (arith, c.if-tag_at-ne-OPEN.false, c.tag_at.ensures ∙ ap (λ (k : ℕ). get_or c.args.self.now.sheet.now k 0) c.node_place-place.ensures) in
-    let a = c.args in record {
-      room = room_on (let e = (node_placed c.requires.0 (tagged_here)).0 in leaf_room (c.opened.ensures e.0 e.1 e.2 e.3)) (c.inside.ensures.room);
+    let tagged = tag_is c.args.self.now.sheet.now c.args.nodes.now c.args.at c.tag_at.ensures c.node_place-place.ensures c.if-tag_at-ne-OPEN.false in
+    let a = c.args in
+    let name = body_at a.self.now.sheet.now (place_at a.nodes.now a.at) in
+    let attrs = attrs_behind a.self.now.sheet.now (place_at a.nodes.now a.at) in record {
+      room = room_on (let e = (node_placed c.requires.0 tagged).0 in leaf_room (c.opened.ensures e.0 e.1 e.2 e.3)) (c.inside.ensures.room);
       kept = c.inside.ensures.kept;
       writes_forest = record {
         for = λ parent f anc h q.
-            both-done a.text.now.room.now a.text.now.len c.args.text.now.fits (write_nodes (self_at a.self.now.skip a.levels) anc (unpacked a.bits) f) (opened (unpacked a.bits) (tag_of (body_at a.self.now.sheet.now (place_at a.nodes.now a.at))) (attrs_behind a.self.now.sheet.now (place_at a.nodes.now a.at)) (kids_of f))
-            (in_element (self_at a.self.now.skip a.levels) anc (unpacked a.bits) (body_at a.self.now.sheet.now (place_at a.nodes.now a.at)) (attrs_behind a.self.now.sheet.now (place_at a.nodes.now a.at)) (kids_of f)) (goes_here parent f anc h) (opens_here parent f h) (ap (wrote c.opened.new.text) c.in_ok-opened.was)
-            (alone_writes c.requires.0 (tagged_here_4) c.inside.ensures.writes_element parent f anc h q);
+            both-done a.text.now.room.now a.text.now.len c.args.text.now.fits (write_nodes (self_at a.self.now.skip a.levels) anc (unpacked a.bits) f) (opened (unpacked a.bits) (tag_of name) attrs (kids_of f))
+            (in_element (self_at a.self.now.skip a.levels) anc (unpacked a.bits) name attrs (kids_of f)) (node_goes (self_at a.self.now.skip a.levels) anc (unpacked a.bits) (bytes a.text.now) a.self.now.sheet.now a.nodes.now parent a.at c.requires.0.later f h tagged (sym (first_skipped c.args.self.now.sheet.now (place_at c.args.nodes.now c.args.at) (tags_to_skip (skip_of c.args.self.now.skip)) tagged) ∙ sym c.node_is_skipped.ensures ∙ c.if-node_is_skipped.false)) (opened_as (tag_of name) attrs (kids_of f) (bytes a.text.now) c.opts-2.ensures (c.opened.ensures name attrs (kids_of f) (node_element a.self.now.sheet.now a.nodes.now parent a.at (end_at a.nodes.now a.at) f h c.requires.0.later c.requires.0.alone.positive tagged)).writes) (ap (wrote c.opened.new.text) c.in_ok-opened.was)
+            (alone_writes c.requires.0 tagged c.inside.ensures.writes_element parent f anc h q);
       };
     }
 
 pub node-returns-in_err-opened : goal.node-returns-in_err-opened
 unfolding serializer
 node-returns-in_err-opened t c =
-    let tagged_here : get_or c.args.self.now.sheet.now (place_at c.args.nodes.now c.args.at) 0 ≡ 1 = omega (arith, c.if-tag_at-ne-OPEN.false, c.tag_at.ensures ∙ ap (λ (k : ℕ). get_or c.args.self.now.sheet.now k 0) c.node_place-place.ensures) in
-    let tagged_here_2 : get_or c.args.self.now.sheet.now (place_at c.args.nodes.now c.args.at) 0 ≡ 1 = omega (arith, c.if-tag_at-ne-OPEN.false, c.tag_at.ensures ∙ ap (λ (k : ℕ). get_or c.args.self.now.sheet.now k 0) c.node_place-place.ensures) in
-    let skips_here : among (body_at c.args.self.now.sheet.now (place_at c.args.nodes.now c.args.at)) (tags_to_skip (skip_of c.args.self.now.skip)) ≡ c.node_is_skipped.result = let a = c.args in sym (first_skipped a.self.now.sheet.now (place_at a.nodes.now a.at) (tags_to_skip (skip_of a.self.now.skip)) (tagged_here_2)) ∙ sym c.node_is_skipped.ensures in
-    let goes_here : (parent : ℕ) (f : Forest) (anc : Ancestors) → Rep c.args.self.now.sheet.now c.args.nodes.now parent c.args.at (end_at c.args.nodes.now c.args.at) f → write_nodes (self_at c.args.self.now.skip c.args.levels) anc (unpacked c.args.bits) f (take c.args.text.now.len c.args.text.now.room.now) ≡ and_then (opened (unpacked c.args.bits) (tag_of (body_at c.args.self.now.sheet.now (place_at c.args.nodes.now c.args.at))) (attrs_behind c.args.self.now.sheet.now (place_at c.args.nodes.now c.args.at)) (kids_of f) (take c.args.text.now.len c.args.text.now.room.now)) (in_element (self_at c.args.self.now.skip c.args.levels) anc (unpacked c.args.bits) (body_at c.args.self.now.sheet.now (place_at c.args.nodes.now c.args.at)) (attrs_behind c.args.self.now.sheet.now (place_at c.args.nodes.now c.args.at)) (kids_of f)) = λ parent f anc h. let a = c.args in ap (λ (g : Forest). write_nodes (self_at a.self.now.skip a.levels) anc (unpacked a.bits) g (take a.text.now.len a.text.now.room.now)) (alone_element a.self.now.sheet.now a.nodes.now parent a.at c.requires.0.later f h (tagged_here)) ∙ element_opened (self_at a.self.now.skip a.levels) anc (unpacked a.bits) (body_at a.self.now.sheet.now (place_at a.nodes.now a.at)) (attrs_behind a.self.now.sheet.now (place_at a.nodes.now a.at)) (kids_of f) (take a.text.now.len a.text.now.room.now) (skips_here ∙ c.if-node_is_skipped.false) in
-    let tagged_here_3 : get_or c.args.self.now.sheet.now (place_at c.args.nodes.now c.args.at) 0 ≡ 1 = omega (arith, c.if-tag_at-ne-OPEN.false, c.tag_at.ensures ∙ ap (λ (k : ℕ). get_or c.args.self.now.sheet.now k 0) c.node_place-place.ensures) in
-    let opens_here : (parent : ℕ) (f : Forest) → Rep c.args.self.now.sheet.now c.args.nodes.now parent c.args.at (end_at c.args.nodes.now c.args.at) f → Writes (length c.args.text.now.room.now) c.opened.new.text.room.now (wrote c.opened.new.text c.opened.result) (opened (unpacked c.args.bits) (tag_of (body_at c.args.self.now.sheet.now (place_at c.args.nodes.now c.args.at))) (attrs_behind c.args.self.now.sheet.now (place_at c.args.nodes.now c.args.at)) (kids_of f) (take c.args.text.now.len c.args.text.now.room.now)) = λ parent f h. let a = c.args in subst (λ (o : FormatOpts). Writes (length a.text.now.room.now) c.opened.new.text.room.now (wrote c.opened.new.text c.opened.result) (opened o (tag_of (body_at a.self.now.sheet.now (place_at a.nodes.now a.at))) (attrs_behind a.self.now.sheet.now (place_at a.nodes.now a.at)) (kids_of f) (take a.text.now.len a.text.now.room.now))) c.opts-2.ensures ((c.opened.ensures (body_at c.args.self.now.sheet.now (place_at c.args.nodes.now c.args.at)) (attrs_behind c.args.self.now.sheet.now (place_at c.args.nodes.now c.args.at)) (kids_of f) (node_element c.args.self.now.sheet.now c.args.nodes.now parent c.args.at (end_at c.args.nodes.now c.args.at) f h c.requires.0.later c.requires.0.alone.positive (tagged_here_3))).writes) in
-    let a = c.args in record {
-      room = let e = (node_placed c.requires.0 (tagged_here)).0 in leaf_room (c.opened.ensures e.0 e.1 e.2 e.3);
+    let tagged = tag_is c.args.self.now.sheet.now c.args.nodes.now c.args.at c.tag_at.ensures c.node_place-place.ensures c.if-tag_at-ne-OPEN.false in
+    let a = c.args in
+    let name = body_at a.self.now.sheet.now (place_at a.nodes.now a.at) in
+    let attrs = attrs_behind a.self.now.sheet.now (place_at a.nodes.now a.at) in record {
+      room = let e = (node_placed c.requires.0 tagged).0 in leaf_room (c.opened.ensures e.0 e.1 e.2 e.3);
       kept = kept_none a.nodes.now;
       writes_forest = stops_forest (wrote_err _ _ c.from_residual.ensures.0) (record {
         for = λ parent f anc h q.
-            both-full a.text.now.room.now a.text.now.len c.args.text.now.fits (write_nodes (self_at a.self.now.skip a.levels) anc (unpacked a.bits) f) (opened (unpacked a.bits) (tag_of (body_at a.self.now.sheet.now (place_at a.nodes.now a.at))) (attrs_behind a.self.now.sheet.now (place_at a.nodes.now a.at)) (kids_of f))
-            (in_element (self_at a.self.now.skip a.levels) anc (unpacked a.bits) (body_at a.self.now.sheet.now (place_at a.nodes.now a.at)) (attrs_behind a.self.now.sheet.now (place_at a.nodes.now a.at)) (kids_of f)) (goes_here parent f anc h) (opens_here parent f h) (ap (wrote c.opened.new.text) c.in_err-opened.was);
+            both-full a.text.now.room.now a.text.now.len c.args.text.now.fits (write_nodes (self_at a.self.now.skip a.levels) anc (unpacked a.bits) f) (opened (unpacked a.bits) (tag_of name) attrs (kids_of f))
+            (in_element (self_at a.self.now.skip a.levels) anc (unpacked a.bits) name attrs (kids_of f)) (node_goes (self_at a.self.now.skip a.levels) anc (unpacked a.bits) (bytes a.text.now) a.self.now.sheet.now a.nodes.now parent a.at c.requires.0.later f h tagged (sym (first_skipped c.args.self.now.sheet.now (place_at c.args.nodes.now c.args.at) (tags_to_skip (skip_of c.args.self.now.skip)) tagged) ∙ sym c.node_is_skipped.ensures ∙ c.if-node_is_skipped.false)) (opened_as (tag_of name) attrs (kids_of f) (bytes a.text.now) c.opts-2.ensures (c.opened.ensures name attrs (kids_of f) (node_element a.self.now.sheet.now a.nodes.now parent a.at (end_at a.nodes.now a.at) f h c.requires.0.later c.requires.0.alone.positive tagged)).writes) (ap (wrote c.opened.new.text) c.in_err-opened.was);
       });
     }
-
-pub row-node_end-to-requires : goal.row-node_end-to-requires
-row-node_end-to-requires t c =
-    c.requires.0.1.is_element.inside
-
-pub row-overflow_add-tr : goal.row-overflow_add-tr
-row-overflow_add-tr t c =
-    let x = c.requires.0.1 in
-    omega (arith, rep_le c.args.self.now.sheet.now c.args.nodes.now c.args.tr (c.args.tr + 1) (end_at c.args.nodes.now c.args.tr) x.kids x.is_element.kids_are, c.node_end-to.ensures)
-
-pub row-next_cell-c-requires : goal.row-next_cell-c-requires
-row-next_cell-c-requires t c =
-    let x = c.requires.0.1 in
-    (c.args.tr, x.kids, subst (λ (j : ℕ). Rep c.args.self.now.sheet.now c.args.nodes.now c.args.tr (c.args.tr + 1) j x.kids) (sym c.node_end-to.ensures) x.is_element.kids_are)
 
 pub row-loop-c-init : goal.row-loop-c-init
 row-loop-c-init t c =
@@ -1257,10 +980,6 @@ row-loop-c-preserved t c =
     let p = c.loop-c.invariant.1 in
     (room_on c.loop-c.invariant.0 (room_behind _ refl refl c.cell.auto.room), row_on p c.loop-c-test.true (row_writes p c.loop-c-test.true c.cell.ensures.writes) c.in_ok-n.was c.cell.ensures.kept c.store_span.ensures.0 c.store_span.ensures.2 c.node_end-after.ensures c.next_cell-c-in-loop-c.ensures.later c.next_cell-c-in-loop-c.ensures.cells)
 
-pub row-shape_of-nodes : goal.row-shape_of-nodes
-row-shape_of-nodes t c =
-    c.loop-c.invariant.1.kept.long
-
 pub row-returns : goal.row-returns
 row-returns t c =
     record {
@@ -1288,16 +1007,12 @@ siblings-returns-then-levels-is_one_text t c =
       kept = kept_none a.nodes.now;
       writes_forest = record {
         for = λ parent f anc h q.
-            alike (ap (λ (o : FormatOpts). write_at (tags_to_skip (skip_of a.self.now.skip)) a.levels anc o f (take a.text.now.len a.text.now.room.now)) (sym u.ensures)
-            ∙ write_some (tags_to_skip (skip_of a.self.now.skip)) a.levels anc u.result f (take a.text.now.len a.text.now.room.now) b.0
-            ∙ one_is a.self.now.sheet.now a.nodes.now parent a.from a.to o.0 o.1 (self_at a.self.now.skip (a.levels - 1)) anc u.result (take a.text.now.len a.text.now.room.now) f h)
+            alike (ap (λ (o : FormatOpts). write_at (tags_to_skip (skip_of a.self.now.skip)) a.levels anc o f (bytes a.text.now)) (sym u.ensures)
+            ∙ write_some (tags_to_skip (skip_of a.self.now.skip)) a.levels anc u.result f (bytes a.text.now) b.0
+            ∙ one_is a.self.now.sheet.now a.nodes.now parent a.from a.to o.0 o.1 (self_at a.self.now.skip (a.levels - 1)) anc u.result (bytes a.text.now) f h)
             c.write_text_node.ensures.writes;
       };
     }
-
-pub siblings-write-requires : goal.siblings-write-requires
-siblings-write-requires t c =
-    (falls_in c.args.levels c.decreases (lit< tt), c.requires)
 
 pub siblings-returns : goal.siblings-returns
 siblings-returns t c =
@@ -1308,7 +1023,7 @@ write-returns-then-levels-eq0 t c =
     record {
       room = room_same c.args.text.now;
       kept = kept_none c.args.nodes.now;
-      writes_forest = record { for = λ parent f anc h a. alike (write_none (tags_to_skip (skip_of c.args.self.now.skip)) c.args.levels anc (unpacked c.args.bits) f (take c.args.text.now.len c.args.text.now.room.now) c.if-levels-eq0.true) (record { says = keeps c.args.text.now.room.now c.args.text.now.len c.args.text.now.fits }) };
+      writes_forest = record { for = λ parent f anc h a. alike (write_none (tags_to_skip (skip_of c.args.self.now.skip)) c.args.levels anc (unpacked c.args.bits) f (bytes c.args.text.now) c.if-levels-eq0.true) (record { says = keeps c.args.text.now.room.now c.args.text.now.len c.args.text.now.fits }) };
     }
 
 pub write-loop-at-init : goal.write-loop-at-init
@@ -1320,10 +1035,6 @@ write-loop-at-init t c = (
   turn_first c.args.self.now.sheet.now c.args.nodes.now c.args.from c.args.to (λ anc f. write_nodes (self_at c.args.self.now.skip (c.args.levels - 1)) anc (unpacked c.args.bits) f) c.args.text.now.room.now c.args.text.now.len c.args.text.now.fits,
 )
 
-pub write-overflow_sub-levels : goal.write-overflow_sub-levels
-write-overflow_sub-levels t c =
-    omega (arith, c.if-levels-eq0.false)
-
 pub write-node-requires : goal.write-node-requires
 write-node-requires t c =
     let l = c.loop-at in
@@ -1332,41 +1043,35 @@ write-node-requires t c =
 
 pub write-returns-in_err-node : goal.write-returns-in_err-node
 write-returns-in_err-node t c =
-    let kept_here : Kept c.args.from c.args.to c.args.nodes.now c.node.new.nodes = let l = c.loop-at in let lt = c.loop-at-test.true in kept_then l.invariant.1 (kept_in l.invariant.2 (omega (arith, end_kept l.invariant.1 l.at, placeds_within l.invariant.3 lt)) c.node.ensures.kept) in
-    let wrote_here : WritesForest c.args.self.now.sheet.now c.args.nodes.now c.loop-at.at (end_at c.args.nodes.now c.loop-at.at) (λ anc f. write_nodes (self_at c.args.self.now.skip (c.args.levels - 1)) anc (unpacked c.args.bits) f) (bytes c.loop-at.text) (length c.loop-at.text.room.now) c.node.new.text.room.now (wrote c.node.new.text c.node.result) = writes_before c.loop-at.invariant.1 c.node.ensures.writes_forest in
     record {
       room = room_on (c.loop-at.invariant.0) (c.node.ensures.room);
-      kept = kept_here;
+      kept = kept_on c.loop-at.invariant.1 c.loop-at.invariant.2 c.loop-at.invariant.3 c.loop-at-test.true c.node.ensures.kept;
       writes_forest = stops_forest (wrote_err _ _ c.from_residual.ensures.0) (record {
-        for = λ parent f anc h a. alike (write_some (tags_to_skip (skip_of c.args.self.now.skip)) c.args.levels anc (unpacked c.args.bits) f (take c.args.text.now.len c.args.text.now.room.now) (omega (arith, c.if-levels-eq0.false)))
-            (turn_stop c.loop-at.invariant.4 (λ anc f. write_nodes (self_at c.args.self.now.skip (c.args.levels - 1)) anc (unpacked c.args.bits) f) (λ anc f. write_nodes (self_at c.args.self.now.skip (c.args.levels - 1)) anc (unpacked c.args.bits) f) (λ parent anc g h u. nodes_first (self_at c.args.self.now.skip (c.args.levels - 1)) anc (unpacked c.args.bits) g u) c.loop-at-test.true (wrote_here) (ap (wrote c.node.new.text) c.in_err-node.was) parent f anc h a);
+        for = λ parent f anc h a. alike (write_some (tags_to_skip (skip_of c.args.self.now.skip)) c.args.levels anc (unpacked c.args.bits) f (bytes c.args.text.now) (omega (arith, c.if-levels-eq0.false)))
+            (turn_stop c.loop-at.invariant.4 (λ anc f. write_nodes (self_at c.args.self.now.skip (c.args.levels - 1)) anc (unpacked c.args.bits) f) (λ anc f. write_nodes (self_at c.args.self.now.skip (c.args.levels - 1)) anc (unpacked c.args.bits) f) (λ parent anc g h u. nodes_first (self_at c.args.self.now.skip (c.args.levels - 1)) anc (unpacked c.args.bits) g u) c.loop-at-test.true (writes_before c.loop-at.invariant.1 c.node.ensures.writes_forest) (ap (wrote c.node.new.text) c.in_err-node.was) parent f anc h a);
       });
     }
 
 pub write-node_end-at-requires : goal.write-node_end-at-requires
 write-node_end-at-requires t c =
-    let kept_here : Kept c.args.from c.args.to c.args.nodes.now c.node.new.nodes = let l = c.loop-at in let lt = c.loop-at-test.true in kept_then l.invariant.1 (kept_in l.invariant.2 (omega (arith, end_kept l.invariant.1 l.at, placeds_within l.invariant.3 lt)) c.node.ensures.kept) in
-    omega (arith, (placeds_at c.loop-at.invariant.3 c.loop-at-test.true).inside, (kept_here).long)
+    omega (arith, (placeds_at c.loop-at.invariant.3 c.loop-at-test.true).inside, (kept_on c.loop-at.invariant.1 c.loop-at.invariant.2 c.loop-at.invariant.3 c.loop-at-test.true c.node.ensures.kept).long)
 
 pub write-loop-at-smaller : goal.write-loop-at-smaller
 write-loop-at-smaller t c =
-    let kept_here : Kept c.args.from c.args.to c.args.nodes.now c.node.new.nodes = let l = c.loop-at in let lt = c.loop-at-test.true in kept_then l.invariant.1 (kept_in l.invariant.2 (omega (arith, end_kept l.invariant.1 l.at, placeds_within l.invariant.3 lt)) c.node.ensures.kept) in
-    omega (arith, placeds_later c.loop-at.invariant.3 c.loop-at-test.true, c.node_end-at.ensures, end_kept (kept_here) c.loop-at.at, c.loop-at-test.true)
+    omega (arith, placeds_later c.loop-at.invariant.3 c.loop-at-test.true, c.node_end-at.ensures, end_kept (kept_on c.loop-at.invariant.1 c.loop-at.invariant.2 c.loop-at.invariant.3 c.loop-at-test.true c.node.ensures.kept) c.loop-at.at, c.loop-at-test.true)
 
 pub write-loop-at-preserved : goal.write-loop-at-preserved
 write-loop-at-preserved t c =
-    let kept_here : Kept c.args.from c.args.to c.args.nodes.now c.node.new.nodes = let l = c.loop-at in let lt = c.loop-at-test.true in kept_then l.invariant.1 (kept_in l.invariant.2 (omega (arith, end_kept l.invariant.1 l.at, placeds_within l.invariant.3 lt)) c.node.ensures.kept) in
-    let wrote_here : WritesForest c.args.self.now.sheet.now c.args.nodes.now c.loop-at.at (end_at c.args.nodes.now c.loop-at.at) (λ anc f. write_nodes (self_at c.args.self.now.skip (c.args.levels - 1)) anc (unpacked c.args.bits) f) (bytes c.loop-at.text) (length c.loop-at.text.room.now) c.node.new.text.room.now (wrote c.node.new.text c.node.result) = writes_before c.loop-at.invariant.1 c.node.ensures.writes_forest in
     let l = c.loop-at in
     let lt = c.loop-at-test.true in
-    let K = kept_here in
+    let K = kept_on c.loop-at.invariant.1 c.loop-at.invariant.2 c.loop-at.invariant.3 c.loop-at-test.true c.node.ensures.kept in
     let q = c.node_end-at.ensures ∙ end_kept K l.at in
     let d = done (ap (wrote c.node.new.text) c.in_ok-node.was) (c.node.ensures.writes_forest.for (node_kept l.invariant.1 (placeds_first l.invariant.3 lt)).alone.parent (node_kept l.invariant.1 (placeds_first l.invariant.3 lt)).alone.forest (node_kept l.invariant.1 (placeds_first l.invariant.3 lt)).alone.anc (node_kept l.invariant.1 (placeds_first l.invariant.3 lt)).alone.rep (node_kept l.invariant.1 (placeds_first l.invariant.3 lt)).alone.around) in (
       room_on l.invariant.0 c.node.ensures.room,
       K,
       omega (arith, placeds_later l.invariant.3 lt, l.invariant.2, q),
       subst (λ (k : ℕ). Placeds c.args.self.now.sheet.now c.args.nodes.now k c.args.to) (sym q) (placeds_on l.invariant.3 lt),
-      turn_on l.invariant.4 (λ anc f. write_nodes (self_at c.args.self.now.skip (c.args.levels - 1)) anc (unpacked c.args.bits) f) (λ anc f. write_nodes (self_at c.args.self.now.skip (c.args.levels - 1)) anc (unpacked c.args.bits) f) (λ parent anc g h u. nodes_first (self_at c.args.self.now.skip (c.args.levels - 1)) anc (unpacked c.args.bits) g u) lt (wrote_here) q (ap (wrote c.node.new.text) c.in_ok-node.was),
+      turn_on l.invariant.4 (λ anc f. write_nodes (self_at c.args.self.now.skip (c.args.levels - 1)) anc (unpacked c.args.bits) f) (λ anc f. write_nodes (self_at c.args.self.now.skip (c.args.levels - 1)) anc (unpacked c.args.bits) f) (λ parent anc g h u. nodes_first (self_at c.args.self.now.skip (c.args.levels - 1)) anc (unpacked c.args.bits) g u) lt (writes_before c.loop-at.invariant.1 c.node.ensures.writes_forest) q (ap (wrote c.node.new.text) c.in_ok-node.was),
     )
 
 pub write-returns : goal.write-returns
@@ -1375,46 +1080,29 @@ write-returns t c =
       room = c.loop-at.invariant.0;
       kept = l.invariant.1;
       writes_forest = record {
-        for = λ parent f anc h a. alike (write_some (tags_to_skip (skip_of c.args.self.now.skip)) c.args.levels anc (unpacked c.args.bits) f (take c.args.text.now.len c.args.text.now.room.now) (omega (arith, c.if-levels-eq0.false)))
+        for = λ parent f anc h a. alike (write_some (tags_to_skip (skip_of c.args.self.now.skip)) c.args.levels anc (unpacked c.args.bits) f (bytes c.args.text.now) (omega (arith, c.if-levels-eq0.false)))
             (turn_last l.invariant.4 c.loop-at-test.false (λ anc u. nodes_none (self_at c.args.self.now.skip (c.args.levels - 1)) anc (unpacked c.args.bits) u) parent f anc h a);
       };
     }
 
-pub write_element-write_list-requires : goal.write_element-write_list-requires
-write_element-write_list-requires t c =
-    let u = c.opts-opts in
-    (falls_in c.args.levels c.decreases (lit< tt), (c.requires.0, c.requires.1, c.requires.2, subst (λ (o : FormatOpts). Fits o (c.args.levels + 1)) (sym u.ensures) c.requires.3))
-
 pub write_element-returns-then-is_list : goal.write_element-returns-then-is_list
 write_element-returns-then-is_list t c =
-    let named_here : (name : Bytes) (attrs : List Attr) (kids : Forest) → ElementAt c.args.self.now.sheet.now c.args.nodes.now c.args.at name attrs kids → c.args.name ≡ tag_of name = λ _ _ _ x. c.requires.1 ∙ element_name x in
     let u = c.opts-opts in
     let a = c.args in record {
       room = c.write_list.ensures.room;
       kept = c.write_list.ensures.kept;
       writes_element = record {
         for = λ name attrs kids anc x h.
-            alike (ap (λ (o : FormatOpts). write_element (self_at a.self.now.skip a.levels) anc o name attrs kids (take a.text.now.len a.text.now.room.now)) (sym u.ensures) ∙ by_list (self_at a.self.now.skip a.levels) anc u.result name attrs kids (take a.text.now.len a.text.now.room.now) (named_here _ _ _ x) (sym c.is_list.ensures ∙ c.if-is_list.true)) (c.write_list.ensures.writes_element.for name attrs kids anc x h);
+            element_as (self_at a.self.now.skip a.levels) anc name attrs kids (bytes a.text.now) u.ensures
+            (by_list (self_at a.self.now.skip a.levels) anc u.result name attrs kids (bytes a.text.now) (c.requires.1 ∙ element_name x) (sym c.is_list.ensures ∙ c.if-is_list.true)) (c.write_list.ensures.writes_element.for name attrs kids anc x h);
       };
     }
-
-pub write_emphasis-node_end-to-requires : goal.write_emphasis-node_end-to-requires
-write_emphasis-node_end-to-requires t c =
-    (placed_node c.args.self.now.sheet.now c.args.nodes.now c.args.at c.requires.0).inside
-
-pub write_emphasis-overflow_add-at : goal.write_emphasis-overflow_add-at
-write_emphasis-overflow_add-at t c =
-    omega (arith, (placed_node c.args.self.now.sheet.now c.args.nodes.now c.args.at c.requires.0).inside, c.well_formed)
-
-pub write_emphasis-of-bits-requires : goal.write_emphasis-of-bits-requires
-write_emphasis-of-bits-requires t c =
-    omega (arith, subst (λ (o : FormatOpts). Fits o c.args.levels) (sym c.emphasis_opts.ensures) (omega (arith, c.requires.3)))
 
 pub write_emphasis-write_behind-requires : goal.write_emphasis-write_behind-requires
 write_emphasis-write_behind-requires t c = (
   falls_in c.args.levels c.decreases (lit< tt),
   (
-    placed_kids c.args.self.now.sheet.now c.args.nodes.now c.args.at c.requires.0 c.node_end-to.ensures,
+    placed_kids c.requires.0 c.node_end-to.ensures,
     c.requires.2,
     subst (λ (o : FormatOpts). Fits o c.args.levels) (sym (c.of-bits.ensures ∙ c.emphasis_opts.ensures)) (omega (arith, c.requires.3)),
   ),
@@ -1422,47 +1110,34 @@ write_emphasis-write_behind-requires t c = (
 
 pub write_emphasis-push_emphasis_by-requires : goal.write_emphasis-push_emphasis_by-requires
 write_emphasis-push_emphasis_by-requires t c =
-    let wrote_here : (name : Bytes) (attrs : List Attr) (kids : Forest) (anc : Ancestors) → ElementAt c.args.self.now.sheet.now c.args.nodes.now c.args.at name attrs kids → Around c.args.self.now.sheet.now c.args.nodes.now (parent_at c.args.nodes.now c.args.at) anc → Writes (length (lent c.args.text.now.room.now c.args.text.now.len)) c.write_behind.new.room c.write_behind.result ((self_at c.args.self.now.skip c.args.levels).below (attrs ∷ anc) (emphasis_scope (scope_of (md_emphasis (tag_of name))) (inline (include_node c.args.opts))) kids []) = λ name attrs kids anc x h. let a = c.args in subst (λ (o : FormatOpts). Writes (length (lent a.text.now.room.now a.text.now.len)) c.write_behind.new.room c.write_behind.result ((self_at a.self.now.skip a.levels).below (attrs ∷ anc) o kids [])) (c.of-bits.ensures ∙ c.emphasis_opts.ensures ∙ ap (λ (k : ℕ). emphasis_scope (scope_of (md_emphasis k)) (inline (include_node a.opts))) (c.requires.1 ∙ element_name x)) (below-wrote a.self.now.skip a.levels (unpacked c.of-bits.result) anc x h c.node_end-to.ensures c.write_behind.ensures.writes_forest) in
+    let written = emphasis_below c.args.self.now.skip c.args.levels c.args.opts c.requires.1 c.emphasis_opts.ensures c.of-bits.ensures c.node_end-to.ensures c.write_behind.ensures.writes_forest in
     let p = c.requires.0 in
-    nest-fits c.args.text.now.room.now c.args.text.now.len c.args.text.now.fits (wrote_here _ _ _ p.1.0 p.0.3 p.1.1) c.in_ok-n.was
+    nest-fits c.args.text.now.room.now c.args.text.now.len c.args.text.now.fits (written _ _ _ p.1.0 p.0.3 p.1.1) c.in_ok-n.was
 
 pub write_emphasis-returns : goal.write_emphasis-returns
 write_emphasis-returns t c =
-    let wrote_here : (name : Bytes) (attrs : List Attr) (kids : Forest) (anc : Ancestors) → ElementAt c.args.self.now.sheet.now c.args.nodes.now c.args.at name attrs kids → Around c.args.self.now.sheet.now c.args.nodes.now (parent_at c.args.nodes.now c.args.at) anc → Writes (length (lent c.args.text.now.room.now c.args.text.now.len)) c.write_behind.new.room c.write_behind.result ((self_at c.args.self.now.skip c.args.levels).below (attrs ∷ anc) (emphasis_scope (scope_of (md_emphasis (tag_of name))) (inline (include_node c.args.opts))) kids []) = λ name attrs kids anc x h. let a = c.args in subst (λ (o : FormatOpts). Writes (length (lent a.text.now.room.now a.text.now.len)) c.write_behind.new.room c.write_behind.result ((self_at a.self.now.skip a.levels).below (attrs ∷ anc) o kids [])) (c.of-bits.ensures ∙ c.emphasis_opts.ensures ∙ ap (λ (k : ℕ). emphasis_scope (scope_of (md_emphasis k)) (inline (include_node a.opts))) (c.requires.1 ∙ element_name x)) (below-wrote a.self.now.skip a.levels (unpacked c.of-bits.result) anc x h c.node_end-to.ensures c.write_behind.ensures.writes_forest) in
+    let written = emphasis_below c.args.self.now.skip c.args.levels c.args.opts c.requires.1 c.emphasis_opts.ensures c.of-bits.ensures c.node_end-to.ensures c.write_behind.ensures.writes_forest in
     let a = c.args in record {
       room = room_on (room_behind _ refl refl c.write_behind.auto.room) (leaf_room c.push_emphasis_by.ensures);
       kept = kept_in (omega arith) (omega (arith, c.node_end-to.ensures)) c.write_behind.ensures.kept;
       writes_element = record {
-        for = λ name attrs kids anc x h. alike (ap (λ (f : Step). f (take a.text.now.len a.text.now.room.now)) (emphasis_is (self_at a.self.now.skip a.levels) anc a.opts (tag_of name) attrs kids))
-            (nest-done a.text.now.room.now a.text.now.len c.args.text.now.fits (wrote_here _ _ _ anc x h) (λ z. emphasis_step a.opts (tag_of name) z) c.in_ok-n.was
+        for = λ name attrs kids anc x h. alike (ap (λ (f : Step). f (bytes a.text.now)) (emphasis_is (self_at a.self.now.skip a.levels) anc a.opts (tag_of name) attrs kids))
+            (nest-done a.text.now.room.now a.text.now.len c.args.text.now.fits (written _ _ _ anc x h) (λ z. emphasis_step a.opts (tag_of name) z) c.in_ok-n.was
             (subst (λ (k : ℕ). Writes (length (back a.text.now.room.now a.text.now.len c.write_behind.new.room)) c.push_emphasis_by.new.text.room.now (wrote c.push_emphasis_by.new.text c.push_emphasis_by.result) (emphasis_step a.opts k (take c.in_ok-n.n (drop a.text.now.len (back a.text.now.room.now a.text.now.len c.write_behind.new.room))) (take a.text.now.len (back a.text.now.room.now a.text.now.len c.write_behind.new.room)))) (c.requires.1 ∙ element_name x) c.push_emphasis_by.ensures.writes));
       };
     }
 
 pub write_emphasis-returns-in_err-n : goal.write_emphasis-returns-in_err-n
 write_emphasis-returns-in_err-n t c =
-    let wrote_here : (name : Bytes) (attrs : List Attr) (kids : Forest) (anc : Ancestors) → ElementAt c.args.self.now.sheet.now c.args.nodes.now c.args.at name attrs kids → Around c.args.self.now.sheet.now c.args.nodes.now (parent_at c.args.nodes.now c.args.at) anc → Writes (length (lent c.args.text.now.room.now c.args.text.now.len)) c.write_behind.new.room c.write_behind.result ((self_at c.args.self.now.skip c.args.levels).below (attrs ∷ anc) (emphasis_scope (scope_of (md_emphasis (tag_of name))) (inline (include_node c.args.opts))) kids []) = λ name attrs kids anc x h. let a = c.args in subst (λ (o : FormatOpts). Writes (length (lent a.text.now.room.now a.text.now.len)) c.write_behind.new.room c.write_behind.result ((self_at a.self.now.skip a.levels).below (attrs ∷ anc) o kids [])) (c.of-bits.ensures ∙ c.emphasis_opts.ensures ∙ ap (λ (k : ℕ). emphasis_scope (scope_of (md_emphasis k)) (inline (include_node a.opts))) (c.requires.1 ∙ element_name x)) (below-wrote a.self.now.skip a.levels (unpacked c.of-bits.result) anc x h c.node_end-to.ensures c.write_behind.ensures.writes_forest) in
+    let written = emphasis_below c.args.self.now.skip c.args.levels c.args.opts c.requires.1 c.emphasis_opts.ensures c.of-bits.ensures c.node_end-to.ensures c.write_behind.ensures.writes_forest in
     let a = c.args in record {
       room = room_behind _ refl refl c.write_behind.auto.room;
       kept = kept_in (omega arith) (omega (arith, c.node_end-to.ensures)) c.write_behind.ensures.kept;
       writes_element = stops_element (wrote_err _ _ c.from_residual.ensures.0) (record {
-        for = λ name attrs kids anc x h. alike (ap (λ (f : Step). f (take a.text.now.len a.text.now.room.now)) (emphasis_is (self_at a.self.now.skip a.levels) anc a.opts (tag_of name) attrs kids))
-            (nest-full a.text.now.room.now a.text.now.len c.args.text.now.fits (wrote_here _ _ _ anc x h) (emphasis_step a.opts (tag_of name) ((self_at a.self.now.skip a.levels).below (attrs ∷ anc) (emphasis_scope (scope_of (md_emphasis (tag_of name))) (inline (include_node a.opts))) kids []).text) c.in_err-n.was);
+        for = λ name attrs kids anc x h. alike (ap (λ (f : Step). f (bytes a.text.now)) (emphasis_is (self_at a.self.now.skip a.levels) anc a.opts (tag_of name) attrs kids))
+            (nest-full a.text.now.room.now a.text.now.len c.args.text.now.fits (written _ _ _ anc x h) (emphasis_step a.opts (tag_of name) ((self_at a.self.now.skip a.levels).below (attrs ∷ anc) (emphasis_scope (scope_of (md_emphasis (tag_of name))) (inline (include_node a.opts))) kids []).text) c.in_err-n.was);
       });
     }
-
-pub write_link-node_place-place-requires : goal.write_link-node_place-place-requires
-write_link-node_place-place-requires t c =
-    (placed_node c.args.self.now.sheet.now c.args.nodes.now c.args.at c.requires.0).inside
-
-pub write_link-attribute-requires : goal.write_link-attribute-requires
-write_link-attribute-requires t c =
-    omega (arith, c.node_place-place.ensures, (placed_node c.args.self.now.sheet.now c.args.nodes.now c.args.at c.requires.0).placed)
-
-pub write_link-link-requires : goal.write_link-link-requires
-write_link-link-requires t c =
-    let k = c.in-Some.ensures in
-    (falls_in c.args.levels c.decreases (lit< tt), (c.requires.0, c.requires.1, c.requires.2, omega (arith, part_short c.args.self.now.sheet.now c.in-Some.dest.now k.inside, c.requires.1)))
 
 pub write_link-returns-in-Some : goal.write_link-returns-in-Some
 write_link-returns-in-Some t c =
@@ -1472,18 +1147,10 @@ write_link-returns-in-Some t c =
       kept = c.link.ensures.kept;
       writes_element = record {
         for = λ name attrs kids anc x h.
-            alike (link_some (self_at a.self.now.skip a.levels) anc a.opts c.in-Some.dest.now name attrs kids (take a.text.now.len a.text.now.room.now)
+            alike (link_some (self_at a.self.now.skip a.levels) anc a.opts c.in-Some.dest.now name attrs kids (bytes a.text.now)
             (ap (attr (ascii "href")) (x.attrs_are ∙ ap (attrs_behind a.self.now.sheet.now) (sym c.node_place-place.ensures)) ∙ k.value_is)) (c.link.ensures.writes_element.for name attrs kids anc x h);
       };
     }
-
-pub write_link-of-requires : goal.write_link-of-requires
-write_link-of-requires t c =
-    omega (arith, subst (λ (o : FormatOpts). Fits o c.args.levels) (sym c.fresh.ensures) (omega (arith, c.requires.2)))
-
-pub write_link-kids-requires : goal.write_link-kids-requires
-write_link-kids-requires t c =
-    (falls_in c.args.levels c.decreases (lit< tt), (c.requires.0, c.requires.1, subst (λ (o : FormatOpts). Fits o c.args.levels) (sym (c.of.ensures ∙ c.fresh.ensures)) (omega (arith, c.requires.2))))
 
 pub write_link-returns-in-None : goal.write_link-returns-in-None
 write_link-returns-in-None t c =
@@ -1492,39 +1159,15 @@ write_link-returns-in-None t c =
       kept = c.kids.ensures.kept;
       writes_element = record {
         for = λ name attrs kids anc x h.
-            alike (link_none (self_at a.self.now.skip a.levels) anc a.opts name attrs kids (take a.text.now.len a.text.now.room.now)
+            alike (link_none (self_at a.self.now.skip a.levels) anc a.opts name attrs kids (bytes a.text.now)
             (ap (attr (ascii "href")) (x.attrs_are ∙ ap (attrs_behind a.self.now.sheet.now) (sym c.node_place-place.ensures)) ∙ (c.in-None.ensures).value_is))
-            (subst (λ (o : FormatOpts). Writes (length a.text.now.room.now) c.kids.new.text.room.now (wrote c.kids.new.text c.kids.result) (write_kids (self_at a.self.now.skip a.levels) anc o (element name attrs kids nothing) (take a.text.now.len a.text.now.room.now))) (c.of.ensures ∙ c.fresh.ensures) (c.kids.ensures.writes_element.for name attrs kids anc x h));
+            (kids_as (self_at c.args.self.now.skip c.args.levels) (c.of.ensures ∙ c.fresh.ensures) c.kids.ensures.writes_element name attrs kids anc x h);
       };
     }
 
-pub write_list-node_place-place-requires : goal.write_list-node_place-place-requires
-write_list-node_place-place-requires t c =
-    let node_here : NodeAt c.args.self.now.sheet.now c.args.nodes.now c.args.at = placed_node c.args.self.now.sheet.now c.args.nodes.now c.args.at c.requires.0 in
-    (node_here).inside
-
-pub write_list-node_end-to-requires : goal.write_list-node_end-to-requires
-write_list-node_end-to-requires t c =
-    let node_here : NodeAt c.args.self.now.sheet.now c.args.nodes.now c.args.at = placed_node c.args.self.now.sheet.now c.args.nodes.now c.args.at c.requires.0 in
-    (node_here).inside
-
-pub write_list-kind_of-kind-requires : goal.write_list-kind_of-kind-requires
-write_list-kind_of-kind-requires t c =
-    let node_here : NodeAt c.args.self.now.sheet.now c.args.nodes.now c.args.at = placed_node c.args.self.now.sheet.now c.args.nodes.now c.args.at c.requires.0 in
-    omega (arith, c.node_place-place.ensures, (node_here).placed)
-
-pub write_list-new-ctx-requires : goal.write_list-new-ctx-requires
-write_list-new-ctx-requires t c =
-    omega (arith, c.requires.3)
-
-pub write_list-overflow_add-at : goal.write_list-overflow_add-at
-write_list-overflow_add-at t c =
-    let node_here : NodeAt c.args.self.now.sheet.now c.args.nodes.now c.args.at = placed_node c.args.self.now.sheet.now c.args.nodes.now c.args.at c.requires.0 in
-    omega (arith, (node_here).inside, c.well_formed)
-
 pub write_list-items-requires : goal.write_list-items-requires
 write_list-items-requires t c =
-    (falls_in c.args.levels c.decreases (lit< tt), (placed_kids c.args.self.now.sheet.now c.args.nodes.now c.args.at c.requires.0 c.node_end-to.ensures, c.requires.2, fits_begun c.args.self.now.sheet.now c.node_place-place.result c.args.name c.args.opts c.new-ctx.ensures c.kind_of-kind.ensures c.args.levels c.requires.3))
+    (falls_in c.args.levels c.decreases (lit< tt), (placed_kids c.requires.0 c.node_end-to.ensures, c.requires.2, fits_begun c.args.self.now.sheet.now c.node_place-place.result c.args.name c.args.opts c.new-ctx.ensures c.kind_of-kind.ensures c.args.levels c.requires.3))
 
 pub write_list-returns : goal.write_list-returns
 write_list-returns t c =
@@ -1535,7 +1178,7 @@ write_list-returns t c =
       writes_element = record {
         for = λ name attrs kids anc x h.
             both-done a.text.now.room.now a.text.now.len c.args.text.now.fits (write_list self anc a.opts (tag_of name) attrs kids) (list_children self (attrs ∷ anc) kids c.new-ctx.result) (ended_list a.opts)
-            (list_parts a.self.now.sheet.now c.node_place-place.result a.name a.opts c.new-ctx.ensures c.kind_of-kind.ensures self anc (take a.text.now.len a.text.now.room.now) c.node_place-place.ensures c.requires.1 x)
+            (list_parts a.self.now.sheet.now c.node_place-place.result a.name a.opts c.new-ctx.ensures c.kind_of-kind.ensures self anc (bytes a.text.now) c.node_place-place.ensures c.requires.1 x)
             (c.items.ensures.writes_forest.for a.at kids (attrs ∷ anc) (element_kids x c.node_end-to.ensures) (around_it anc x h)) (ap (wrote c.items.new.text) c.in_ok-items.was) c.end_list.ensures.writes;
       };
     }
@@ -1549,69 +1192,45 @@ write_list-returns-in_err-items t c =
       writes_element = stops_element (wrote_err _ _ c.from_residual.ensures.0) (record {
         for = λ name attrs kids anc x h.
             both-full a.text.now.room.now a.text.now.len c.args.text.now.fits (write_list self anc a.opts (tag_of name) attrs kids) (list_children self (attrs ∷ anc) kids c.new-ctx.result) (ended_list a.opts)
-            (list_parts a.self.now.sheet.now c.node_place-place.result a.name a.opts c.new-ctx.ensures c.kind_of-kind.ensures self anc (take a.text.now.len a.text.now.room.now) c.node_place-place.ensures c.requires.1 x)
+            (list_parts a.self.now.sheet.now c.node_place-place.result a.name a.opts c.new-ctx.ensures c.kind_of-kind.ensures self anc (bytes a.text.now) c.node_place-place.ensures c.requires.1 x)
             (c.items.ensures.writes_forest.for a.at kids (attrs ∷ anc) (element_kids x c.node_end-to.ensures) (around_it anc x h)) (ap (wrote c.items.new.text) c.in_err-items.was);
       });
     }
 
-pub write_table-node_end-to-requires : goal.write_table-node_end-to-requires
-write_table-node_end-to-requires t c =
-    (placed_node c.args.self.now.sheet.now c.args.nodes.now c.args.at c.requires.0).inside
-
-pub write_table-overflow_add-at : goal.write_table-overflow_add-at
-write_table-overflow_add-at t c =
-    omega (arith, (placed_node c.args.self.now.sheet.now c.args.nodes.now c.args.at c.requires.0).inside, c.well_formed)
-
-pub write_table-overflow_add-at-2 : goal.write_table-overflow_add-at-2
-write_table-overflow_add-at-2 t c =
-    omega (arith, (placed_node c.args.self.now.sheet.now c.args.nodes.now c.args.at c.requires.0).inside, c.well_formed)
-
 pub write_table-next_filled_row-first-requires : goal.write_table-next_filled_row-first-requires
 write_table-next_filled_row-first-requires t c =
-    let rows_here : (name : Bytes) (attrs : List Attr) (kids : Forest) (anc : Ancestors) → ElementAt c.args.self.now.sheet.now c.args.nodes.now c.args.at name attrs kids → Around c.args.self.now.sheet.now c.args.nodes.now (parent_at c.args.nodes.now c.args.at) anc → Rows c.args.self.now.sheet.now c.args.nodes.now (c.args.at + 1) c.node_end-to.result (rows_of (attrs ∷ anc) kids) = λ name attrs kids anc x h. let a = c.args in rows_of_lem a.self.now.sheet.now a.nodes.now a.at (a.at + 1) c.node_end-to.result kids (attrs ∷ anc) (element_kids x c.node_end-to.ensures) (around_it anc x h) (omega arith) in
+    let rows = rows_below c.args.self.now.sheet.now c.node_end-to.ensures in
     let p = c.requires.0 in
-    (rows_of (p.0.1 ∷ p.1.0) p.0.2, rows_here _ _ _ p.1.0 p.0.3 p.1.1)
+    (rows_of (p.0.1 ∷ p.1.0) p.0.2, rows _ _ _ p.1.0 p.0.3 p.1.1)
 
 pub write_table-is_table_node_writable-requires : goal.write_table-is_table_node_writable-requires
 write_table-is_table_node_writable-requires t c =
-    let rows_here : (name : Bytes) (attrs : List Attr) (kids : Forest) (anc : Ancestors) → ElementAt c.args.self.now.sheet.now c.args.nodes.now c.args.at name attrs kids → Around c.args.self.now.sheet.now c.args.nodes.now (parent_at c.args.nodes.now c.args.at) anc → Rows c.args.self.now.sheet.now c.args.nodes.now (c.args.at + 1) c.node_end-to.result (rows_of (attrs ∷ anc) kids) = λ name attrs kids anc x h. let a = c.args in rows_of_lem a.self.now.sheet.now a.nodes.now a.at (a.at + 1) c.node_end-to.result kids (attrs ∷ anc) (element_kids x c.node_end-to.ensures) (around_it anc x h) (omega arith) in
-    let filled_here : (name : Bytes) (attrs : List Attr) (kids : Forest) (anc : Ancestors) → ElementAt c.args.self.now.sheet.now c.args.nodes.now c.args.at name attrs kids → Around c.args.self.now.sheet.now c.args.nodes.now (parent_at c.args.nodes.now c.args.at) anc → RowsAt c.args.self.now.sheet.now c.args.nodes.now c.next_filled_row-first.result c.node_end-to.result (from_cells (rows_of (attrs ∷ anc) kids)) = λ name attrs kids anc x h. c.next_filled_row-first.ensures.rows (rows_of (attrs ∷ anc) kids) (rows_here _ _ _ anc x h) in
+    let filled = filled_below c.next_filled_row-first.result c.node_end-to.ensures c.next_filled_row-first.ensures.rows in
     let p = c.requires.0 in
-    let k = placed_kids c.args.self.now.sheet.now c.args.nodes.now c.args.at p c.node_end-to.ensures in
-    ((k.parent, k.forest, k.rep), (from_cells (rows_of (p.0.1 ∷ p.1.0) p.0.2), filled_here _ _ _ p.1.0 p.0.3 p.1.1))
-
-pub write_table-of-requires : goal.write_table-of-requires
-write_table-of-requires t c =
-    omega (arith, subst (λ (o : FormatOpts). Fits o c.args.levels) (sym c.fresh.ensures) (omega (arith, c.requires.2)))
-
-pub write_table-kids-requires : goal.write_table-kids-requires
-write_table-kids-requires t c =
-    (falls_in c.args.levels c.decreases (lit< tt), (c.requires.0, c.requires.1, subst (λ (o : FormatOpts). Fits o c.args.levels) (sym (c.of.ensures ∙ c.fresh.ensures)) (omega (arith, c.requires.2))))
+    let k = placed_kids p c.node_end-to.ensures in
+    ((k.parent, k.forest, k.rep), (from_cells (rows_of (p.0.1 ∷ p.1.0) p.0.2), filled _ _ _ p.1.0 p.0.3 p.1.1))
 
 pub write_table-returns-then-not-is_table_node_writable : goal.write_table-returns-then-not-is_table_node_writable
 write_table-returns-then-not-is_table_node_writable t c =
-    let rows_here : (name : Bytes) (attrs : List Attr) (kids : Forest) (anc : Ancestors) → ElementAt c.args.self.now.sheet.now c.args.nodes.now c.args.at name attrs kids → Around c.args.self.now.sheet.now c.args.nodes.now (parent_at c.args.nodes.now c.args.at) anc → Rows c.args.self.now.sheet.now c.args.nodes.now (c.args.at + 1) c.node_end-to.result (rows_of (attrs ∷ anc) kids) = λ name attrs kids anc x h. let a = c.args in rows_of_lem a.self.now.sheet.now a.nodes.now a.at (a.at + 1) c.node_end-to.result kids (attrs ∷ anc) (element_kids x c.node_end-to.ensures) (around_it anc x h) (omega arith) in
-    let filled_here : (name : Bytes) (attrs : List Attr) (kids : Forest) (anc : Ancestors) → ElementAt c.args.self.now.sheet.now c.args.nodes.now c.args.at name attrs kids → Around c.args.self.now.sheet.now c.args.nodes.now (parent_at c.args.nodes.now c.args.at) anc → RowsAt c.args.self.now.sheet.now c.args.nodes.now c.next_filled_row-first.result c.node_end-to.result (from_cells (rows_of (attrs ∷ anc) kids)) = λ name attrs kids anc x h. c.next_filled_row-first.ensures.rows (rows_of (attrs ∷ anc) kids) (rows_here _ _ _ anc x h) in
-    let writable_here : (name : Bytes) (attrs : List Attr) (kids : Forest) (anc : Ancestors) → ElementAt c.args.self.now.sheet.now c.args.nodes.now c.args.at name attrs kids → Around c.args.self.now.sheet.now c.args.nodes.now (parent_at c.args.nodes.now c.args.at) anc → c.is_table_node_writable.result ≡ is_table_node_writable kids (from_cells (rows_of (attrs ∷ anc) kids)) = λ name attrs kids anc x h. c.is_table_node_writable.ensures c.args.at kids (from_cells (rows_of (attrs ∷ anc) kids)) (element_kids x c.node_end-to.ensures) (filled_here _ _ _ anc x h) in
+    let writable = writable_below c.next_filled_row-first.result c.node_end-to.ensures c.next_filled_row-first.ensures.rows c.is_table_node_writable.ensures in
     let a = c.args in record {
       room = c.kids.ensures.room;
       kept = c.kids.ensures.kept;
       writes_element = record {
         for = λ name attrs kids anc x h.
-            alike (table_flat (self_at a.self.now.skip a.levels) anc a.opts name attrs kids (take a.text.now.len a.text.now.room.now) (sym (writable_here _ _ _ anc x h) ∙ c.if-not-is_table_node_writable.true))
-            (subst (λ (o : FormatOpts). Writes (length a.text.now.room.now) c.kids.new.text.room.now (wrote c.kids.new.text c.kids.result) (write_kids (self_at a.self.now.skip a.levels) anc o (element name attrs kids nothing) (take a.text.now.len a.text.now.room.now))) (c.of.ensures ∙ c.fresh.ensures) (c.kids.ensures.writes_element.for name attrs kids anc x h));
+            alike (table_flat (self_at a.self.now.skip a.levels) anc a.opts name attrs kids (bytes a.text.now) (sym (writable _ _ _ anc x h) ∙ c.if-not-is_table_node_writable.true))
+            (kids_as (self_at c.args.self.now.skip c.args.levels) (c.of.ensures ∙ c.fresh.ensures) c.kids.ensures.writes_element name attrs kids anc x h);
       };
     }
 
 pub write_table-cells-requires : goal.write_table-cells-requires
 write_table-cells-requires t c =
-    let rows_here : (name : Bytes) (attrs : List Attr) (kids : Forest) (anc : Ancestors) → ElementAt c.args.self.now.sheet.now c.args.nodes.now c.args.at name attrs kids → Around c.args.self.now.sheet.now c.args.nodes.now (parent_at c.args.nodes.now c.args.at) anc → Rows c.args.self.now.sheet.now c.args.nodes.now (c.args.at + 1) c.node_end-to.result (rows_of (attrs ∷ anc) kids) = λ name attrs kids anc x h. let a = c.args in rows_of_lem a.self.now.sheet.now a.nodes.now a.at (a.at + 1) c.node_end-to.result kids (attrs ∷ anc) (element_kids x c.node_end-to.ensures) (around_it anc x h) (omega arith) in
-    let filled_here : (name : Bytes) (attrs : List Attr) (kids : Forest) (anc : Ancestors) → ElementAt c.args.self.now.sheet.now c.args.nodes.now c.args.at name attrs kids → Around c.args.self.now.sheet.now c.args.nodes.now (parent_at c.args.nodes.now c.args.at) anc → RowsAt c.args.self.now.sheet.now c.args.nodes.now c.next_filled_row-first.result c.node_end-to.result (from_cells (rows_of (attrs ∷ anc) kids)) = λ name attrs kids anc x h. c.next_filled_row-first.ensures.rows (rows_of (attrs ∷ anc) kids) (rows_here _ _ _ anc x h) in
+    let filled = filled_below c.next_filled_row-first.result c.node_end-to.ensures c.next_filled_row-first.ensures.rows in
     let p = c.requires.0 in
     let R = from_cells (rows_of (p.0.1 ∷ p.1.0) p.0.2) in (
       falls_in c.args.levels c.decreases (lit< tt),
       (
-        (R, rows_at c.args.self.now.sheet.now c.args.nodes.now c.next_filled_row-first.result c.node_end-to.result R (filled_here _ _ _ p.1.0 p.0.3 p.1.1)),
+        (R, rows_at c.args.self.now.sheet.now c.args.nodes.now c.next_filled_row-first.result c.node_end-to.result R (filled _ _ _ p.1.0 p.0.3 p.1.1)),
         (λ j l m. ends_in c.args.self.now.sheet.now c.args.nodes.now c.args.at (c.args.at + 1) c.node_end-to.result p.0.2 (element_kids p.0.3 c.node_end-to.ensures) j (omega (arith, l, c.next_filled_row-first.ensures.later)) m),
         c.requires.1,
         c.requires.2,
@@ -1620,94 +1239,75 @@ write_table-cells-requires t c =
 
 pub write_table-overflow_sub-n : goal.write_table-overflow_sub-n
 write_table-overflow_sub-n t c =
-    let rows_here : (name : Bytes) (attrs : List Attr) (kids : Forest) (anc : Ancestors) → ElementAt c.args.self.now.sheet.now c.args.nodes.now c.args.at name attrs kids → Around c.args.self.now.sheet.now c.args.nodes.now (parent_at c.args.nodes.now c.args.at) anc → Rows c.args.self.now.sheet.now c.args.nodes.now (c.args.at + 1) c.node_end-to.result (rows_of (attrs ∷ anc) kids) = λ name attrs kids anc x h. let a = c.args in rows_of_lem a.self.now.sheet.now a.nodes.now a.at (a.at + 1) c.node_end-to.result kids (attrs ∷ anc) (element_kids x c.node_end-to.ensures) (around_it anc x h) (omega arith) in
-    let filled_here : (name : Bytes) (attrs : List Attr) (kids : Forest) (anc : Ancestors) → ElementAt c.args.self.now.sheet.now c.args.nodes.now c.args.at name attrs kids → Around c.args.self.now.sheet.now c.args.nodes.now (parent_at c.args.nodes.now c.args.at) anc → RowsAt c.args.self.now.sheet.now c.args.nodes.now c.next_filled_row-first.result c.node_end-to.result (from_cells (rows_of (attrs ∷ anc) kids)) = λ name attrs kids anc x h. c.next_filled_row-first.ensures.rows (rows_of (attrs ∷ anc) kids) (rows_here _ _ _ anc x h) in
-    let wrote_here : (name : Bytes) (attrs : List Attr) (kids : Forest) (anc : Ancestors) → ElementAt c.args.self.now.sheet.now c.args.nodes.now c.args.at name attrs kids → Around c.args.self.now.sheet.now c.args.nodes.now (parent_at c.args.nodes.now c.args.at) anc → RowsWrites (length c.args.text.now.room.now) c.cells.new.text.room.now (table_lengths c.args.self.now.sheet.now c.cells.new.nodes c.next_filled_row-first.result c.node_end-to.result) (wrote c.cells.new.text c.cells.result) (rows_texts (self_at c.args.self.now.skip c.args.levels) c.args.opts (from_cells (rows_of (attrs ∷ anc) kids))) (take c.args.text.now.len c.args.text.now.room.now) = λ name attrs kids anc x h. let a = c.args in c.cells.ensures.rows_writes (from_cells (rows_of (attrs ∷ anc) kids)) (rows_at a.self.now.sheet.now a.nodes.now c.next_filled_row-first.result c.node_end-to.result (from_cells (rows_of (attrs ∷ anc) kids)) (filled_here _ _ _ anc x h)) in
+    let written = cells_below c.next_filled_row-first.result c.node_end-to.ensures c.next_filled_row-first.ensures.rows (self_at c.args.self.now.skip c.args.levels) c.args.opts c.cells.ensures.rows_writes in
     let a = c.args in
     let p = c.requires.0 in
-    omega (arith, behind_count a.text.now.room.now a.text.now.len (concat (rows_texts (self_at a.self.now.skip a.levels) a.opts (from_cells (rows_of (p.0.1 ∷ p.1.0) p.0.2)))) c.args.text.now.fits (done (ap (wrote c.cells.new.text) c.in_ok-cells.was) (wrote_here _ _ _ p.1.0 p.0.3 p.1.1).writes))
+    omega (arith, behind_count a.text.now.room.now a.text.now.len (concat (rows_texts (self_at a.self.now.skip a.levels) a.opts (from_cells (rows_of (p.0.1 ∷ p.1.0) p.0.2)))) c.args.text.now.fits (done (ap (wrote c.cells.new.text) c.in_ok-cells.was) (written _ _ _ p.1.0 p.0.3 p.1.1).writes))
 
 pub write_table-push_table-requires : goal.write_table-push_table-requires
 write_table-push_table-requires t c =
-    let rows_here : (name : Bytes) (attrs : List Attr) (kids : Forest) (anc : Ancestors) → ElementAt c.args.self.now.sheet.now c.args.nodes.now c.args.at name attrs kids → Around c.args.self.now.sheet.now c.args.nodes.now (parent_at c.args.nodes.now c.args.at) anc → Rows c.args.self.now.sheet.now c.args.nodes.now (c.args.at + 1) c.node_end-to.result (rows_of (attrs ∷ anc) kids) = λ name attrs kids anc x h. let a = c.args in rows_of_lem a.self.now.sheet.now a.nodes.now a.at (a.at + 1) c.node_end-to.result kids (attrs ∷ anc) (element_kids x c.node_end-to.ensures) (around_it anc x h) (omega arith) in
-    let filled_here : (name : Bytes) (attrs : List Attr) (kids : Forest) (anc : Ancestors) → ElementAt c.args.self.now.sheet.now c.args.nodes.now c.args.at name attrs kids → Around c.args.self.now.sheet.now c.args.nodes.now (parent_at c.args.nodes.now c.args.at) anc → RowsAt c.args.self.now.sheet.now c.args.nodes.now c.next_filled_row-first.result c.node_end-to.result (from_cells (rows_of (attrs ∷ anc) kids)) = λ name attrs kids anc x h. c.next_filled_row-first.ensures.rows (rows_of (attrs ∷ anc) kids) (rows_here _ _ _ anc x h) in
-    let wrote_here : (name : Bytes) (attrs : List Attr) (kids : Forest) (anc : Ancestors) → ElementAt c.args.self.now.sheet.now c.args.nodes.now c.args.at name attrs kids → Around c.args.self.now.sheet.now c.args.nodes.now (parent_at c.args.nodes.now c.args.at) anc → RowsWrites (length c.args.text.now.room.now) c.cells.new.text.room.now (table_lengths c.args.self.now.sheet.now c.cells.new.nodes c.next_filled_row-first.result c.node_end-to.result) (wrote c.cells.new.text c.cells.result) (rows_texts (self_at c.args.self.now.skip c.args.levels) c.args.opts (from_cells (rows_of (attrs ∷ anc) kids))) (take c.args.text.now.len c.args.text.now.room.now) = λ name attrs kids anc x h. let a = c.args in c.cells.ensures.rows_writes (from_cells (rows_of (attrs ∷ anc) kids)) (rows_at a.self.now.sheet.now a.nodes.now c.next_filled_row-first.result c.node_end-to.result (from_cells (rows_of (attrs ∷ anc) kids)) (filled_here _ _ _ anc x h)) in
-    let rows_here_2 : (name : Bytes) (attrs : List Attr) (kids : Forest) (anc : Ancestors) → ElementAt c.args.self.now.sheet.now c.args.nodes.now c.args.at name attrs kids → Around c.args.self.now.sheet.now c.args.nodes.now (parent_at c.args.nodes.now c.args.at) anc → Rows c.args.self.now.sheet.now c.args.nodes.now (c.args.at + 1) c.node_end-to.result (rows_of (attrs ∷ anc) kids) = λ name attrs kids anc x h. let a = c.args in rows_of_lem a.self.now.sheet.now a.nodes.now a.at (a.at + 1) c.node_end-to.result kids (attrs ∷ anc) (element_kids x c.node_end-to.ensures) (around_it anc x h) (omega arith) in
-    let filled_here_2 : (name : Bytes) (attrs : List Attr) (kids : Forest) (anc : Ancestors) → ElementAt c.args.self.now.sheet.now c.args.nodes.now c.args.at name attrs kids → Around c.args.self.now.sheet.now c.args.nodes.now (parent_at c.args.nodes.now c.args.at) anc → RowsAt c.args.self.now.sheet.now c.args.nodes.now c.next_filled_row-first.result c.node_end-to.result (from_cells (rows_of (attrs ∷ anc) kids)) = λ name attrs kids anc x h. c.next_filled_row-first.ensures.rows (rows_of (attrs ∷ anc) kids) (rows_here_2 _ _ _ anc x h) in
-    let writable_here : (name : Bytes) (attrs : List Attr) (kids : Forest) (anc : Ancestors) → ElementAt c.args.self.now.sheet.now c.args.nodes.now c.args.at name attrs kids → Around c.args.self.now.sheet.now c.args.nodes.now (parent_at c.args.nodes.now c.args.at) anc → c.is_table_node_writable.result ≡ is_table_node_writable kids (from_cells (rows_of (attrs ∷ anc) kids)) = λ name attrs kids anc x h. c.is_table_node_writable.ensures c.args.at kids (from_cells (rows_of (attrs ∷ anc) kids)) (element_kids x c.node_end-to.ensures) (filled_here_2 _ _ _ anc x h) in
-    let rows_here_3 : (name : Bytes) (attrs : List Attr) (kids : Forest) (anc : Ancestors) → ElementAt c.args.self.now.sheet.now c.args.nodes.now c.args.at name attrs kids → Around c.args.self.now.sheet.now c.args.nodes.now (parent_at c.args.nodes.now c.args.at) anc → Rows c.args.self.now.sheet.now c.args.nodes.now (c.args.at + 1) c.node_end-to.result (rows_of (attrs ∷ anc) kids) = λ name attrs kids anc x h. let a = c.args in rows_of_lem a.self.now.sheet.now a.nodes.now a.at (a.at + 1) c.node_end-to.result kids (attrs ∷ anc) (element_kids x c.node_end-to.ensures) (around_it anc x h) (omega arith) in
-    let filled_here_3 : (name : Bytes) (attrs : List Attr) (kids : Forest) (anc : Ancestors) → ElementAt c.args.self.now.sheet.now c.args.nodes.now c.args.at name attrs kids → Around c.args.self.now.sheet.now c.args.nodes.now (parent_at c.args.nodes.now c.args.at) anc → RowsAt c.args.self.now.sheet.now c.args.nodes.now c.next_filled_row-first.result c.node_end-to.result (from_cells (rows_of (attrs ∷ anc) kids)) = λ name attrs kids anc x h. c.next_filled_row-first.ensures.rows (rows_of (attrs ∷ anc) kids) (rows_here_3 _ _ _ anc x h) in
-    let some_here : c.next_filled_row-first.result < c.node_end-to.result = let p = c.requires.0 in first_before c.next_filled_row-first.result c.node_end-to.result (c.if-not-is_table_node_writable.false) (λ l. writable_here _ _ _ p.1.0 p.0.3 p.1.1 ∙ writable_none c.args.self.now.sheet.now c.args.nodes.now c.next_filled_row-first.result c.node_end-to.result p.0.2 (from_cells (rows_of (p.0.1 ∷ p.1.0) p.0.2)) (filled_here_3 _ _ _ p.1.0 p.0.3 p.1.1) l) in
-    let rows_here_4 : (name : Bytes) (attrs : List Attr) (kids : Forest) (anc : Ancestors) → ElementAt c.args.self.now.sheet.now c.args.nodes.now c.args.at name attrs kids → Around c.args.self.now.sheet.now c.args.nodes.now (parent_at c.args.nodes.now c.args.at) anc → Rows c.args.self.now.sheet.now c.args.nodes.now (c.args.at + 1) c.node_end-to.result (rows_of (attrs ∷ anc) kids) = λ name attrs kids anc x h. let a = c.args in rows_of_lem a.self.now.sheet.now a.nodes.now a.at (a.at + 1) c.node_end-to.result kids (attrs ∷ anc) (element_kids x c.node_end-to.ensures) (around_it anc x h) (omega arith) in
-    let filled_here_4 : (name : Bytes) (attrs : List Attr) (kids : Forest) (anc : Ancestors) → ElementAt c.args.self.now.sheet.now c.args.nodes.now c.args.at name attrs kids → Around c.args.self.now.sheet.now c.args.nodes.now (parent_at c.args.nodes.now c.args.at) anc → RowsAt c.args.self.now.sheet.now c.args.nodes.now c.next_filled_row-first.result c.node_end-to.result (from_cells (rows_of (attrs ∷ anc) kids)) = λ name attrs kids anc x h. c.next_filled_row-first.ensures.rows (rows_of (attrs ∷ anc) kids) (rows_here_4 _ _ _ anc x h) in
+    let filled = filled_below c.next_filled_row-first.result c.node_end-to.ensures c.next_filled_row-first.ensures.rows in
+    let written = cells_below c.next_filled_row-first.result c.node_end-to.ensures c.next_filled_row-first.ensures.rows (self_at c.args.self.now.skip c.args.levels) c.args.opts c.cells.ensures.rows_writes in
+    let writable = writable_below c.next_filled_row-first.result c.node_end-to.ensures c.next_filled_row-first.ensures.rows c.is_table_node_writable.ensures in
+    let some : c.next_filled_row-first.result < c.node_end-to.result = let p = c.requires.0 in first_before c.next_filled_row-first.result c.node_end-to.result (c.if-not-is_table_node_writable.false) (λ l. writable _ _ _ p.1.0 p.0.3 p.1.1 ∙ writable_none c.args.self.now.sheet.now c.args.nodes.now c.next_filled_row-first.result c.node_end-to.result p.0.2 (from_cells (rows_of (p.0.1 ∷ p.1.0) p.0.2)) (filled _ _ _ p.1.0 p.0.3 p.1.1) l) in
     let a = c.args in
     let p = c.requires.0 in
     let R = from_cells (rows_of (p.0.1 ∷ p.1.0) p.0.2) in
     let k = c.cells.ensures.kept in
-    let w = wrote_here _ _ _ p.1.0 p.0.3 p.1.1 in
+    let w = written _ _ _ p.1.0 p.0.3 p.1.1 in
     let d = done (ap (wrote c.cells.new.text) c.in_ok-cells.was) w.writes in (
       table_at a.self.now.sheet.now c.cells.new.nodes a.at (a.at + 1) c.next_filled_row-first.result c.node_end-to.result p.0.2 (p.0.1 ∷ p.1.0)
-          (rep_kept k a.self.now.sheet.now a.at (a.at + 1) c.node_end-to.result p.0.2 (element_kids p.0.3 c.node_end-to.ensures)) (omega arith) c.next_filled_row-first.ensures.later (some_here)
-          (rows_at_kept k a.self.now.sheet.now c.next_filled_row-first.result c.node_end-to.result R (filled_here_4 _ _ _ p.1.0 p.0.3 p.1.1)),
+          (rep_kept k a.self.now.sheet.now a.at (a.at + 1) c.node_end-to.result p.0.2 (element_kids p.0.3 c.node_end-to.ensures)) (omega arith) c.next_filled_row-first.ensures.later some
+          (rows_at_kept k a.self.now.sheet.now c.next_filled_row-first.result c.node_end-to.result R (filled _ _ _ p.1.0 p.0.3 p.1.1)),
       omega (arith, reaches d, behind_count a.text.now.room.now a.text.now.len (concat (rows_texts (self_at a.self.now.skip a.levels) a.opts R)) c.args.text.now.fits d),
       table_sum (self_at a.self.now.skip a.levels) a.opts R a.text.now.room.now a.text.now.len c.args.text.now.fits d (w.lengths_are c.cells.new.text.len (ap (wrote c.cells.new.text) c.in_ok-cells.was)),
     )
 
 pub write_table-returns : goal.write_table-returns
 write_table-returns t c =
-    let rows_here : (name : Bytes) (attrs : List Attr) (kids : Forest) (anc : Ancestors) → ElementAt c.args.self.now.sheet.now c.args.nodes.now c.args.at name attrs kids → Around c.args.self.now.sheet.now c.args.nodes.now (parent_at c.args.nodes.now c.args.at) anc → Rows c.args.self.now.sheet.now c.args.nodes.now (c.args.at + 1) c.node_end-to.result (rows_of (attrs ∷ anc) kids) = λ name attrs kids anc x h. let a = c.args in rows_of_lem a.self.now.sheet.now a.nodes.now a.at (a.at + 1) c.node_end-to.result kids (attrs ∷ anc) (element_kids x c.node_end-to.ensures) (around_it anc x h) (omega arith) in
-    let filled_here : (name : Bytes) (attrs : List Attr) (kids : Forest) (anc : Ancestors) → ElementAt c.args.self.now.sheet.now c.args.nodes.now c.args.at name attrs kids → Around c.args.self.now.sheet.now c.args.nodes.now (parent_at c.args.nodes.now c.args.at) anc → RowsAt c.args.self.now.sheet.now c.args.nodes.now c.next_filled_row-first.result c.node_end-to.result (from_cells (rows_of (attrs ∷ anc) kids)) = λ name attrs kids anc x h. c.next_filled_row-first.ensures.rows (rows_of (attrs ∷ anc) kids) (rows_here _ _ _ anc x h) in
-    let wrote_here : (name : Bytes) (attrs : List Attr) (kids : Forest) (anc : Ancestors) → ElementAt c.args.self.now.sheet.now c.args.nodes.now c.args.at name attrs kids → Around c.args.self.now.sheet.now c.args.nodes.now (parent_at c.args.nodes.now c.args.at) anc → RowsWrites (length c.args.text.now.room.now) c.cells.new.text.room.now (table_lengths c.args.self.now.sheet.now c.cells.new.nodes c.next_filled_row-first.result c.node_end-to.result) (wrote c.cells.new.text c.cells.result) (rows_texts (self_at c.args.self.now.skip c.args.levels) c.args.opts (from_cells (rows_of (attrs ∷ anc) kids))) (take c.args.text.now.len c.args.text.now.room.now) = λ name attrs kids anc x h. let a = c.args in c.cells.ensures.rows_writes (from_cells (rows_of (attrs ∷ anc) kids)) (rows_at a.self.now.sheet.now a.nodes.now c.next_filled_row-first.result c.node_end-to.result (from_cells (rows_of (attrs ∷ anc) kids)) (filled_here _ _ _ anc x h)) in
-    let rows_here_2 : (name : Bytes) (attrs : List Attr) (kids : Forest) (anc : Ancestors) → ElementAt c.args.self.now.sheet.now c.args.nodes.now c.args.at name attrs kids → Around c.args.self.now.sheet.now c.args.nodes.now (parent_at c.args.nodes.now c.args.at) anc → Rows c.args.self.now.sheet.now c.args.nodes.now (c.args.at + 1) c.node_end-to.result (rows_of (attrs ∷ anc) kids) = λ name attrs kids anc x h. let a = c.args in rows_of_lem a.self.now.sheet.now a.nodes.now a.at (a.at + 1) c.node_end-to.result kids (attrs ∷ anc) (element_kids x c.node_end-to.ensures) (around_it anc x h) (omega arith) in
-    let filled_here_2 : (name : Bytes) (attrs : List Attr) (kids : Forest) (anc : Ancestors) → ElementAt c.args.self.now.sheet.now c.args.nodes.now c.args.at name attrs kids → Around c.args.self.now.sheet.now c.args.nodes.now (parent_at c.args.nodes.now c.args.at) anc → RowsAt c.args.self.now.sheet.now c.args.nodes.now c.next_filled_row-first.result c.node_end-to.result (from_cells (rows_of (attrs ∷ anc) kids)) = λ name attrs kids anc x h. c.next_filled_row-first.ensures.rows (rows_of (attrs ∷ anc) kids) (rows_here_2 _ _ _ anc x h) in
-    let writable_here : (name : Bytes) (attrs : List Attr) (kids : Forest) (anc : Ancestors) → ElementAt c.args.self.now.sheet.now c.args.nodes.now c.args.at name attrs kids → Around c.args.self.now.sheet.now c.args.nodes.now (parent_at c.args.nodes.now c.args.at) anc → c.is_table_node_writable.result ≡ is_table_node_writable kids (from_cells (rows_of (attrs ∷ anc) kids)) = λ name attrs kids anc x h. c.is_table_node_writable.ensures c.args.at kids (from_cells (rows_of (attrs ∷ anc) kids)) (element_kids x c.node_end-to.ensures) (filled_here_2 _ _ _ anc x h) in
-    let rows_here_3 : (name : Bytes) (attrs : List Attr) (kids : Forest) (anc : Ancestors) → ElementAt c.args.self.now.sheet.now c.args.nodes.now c.args.at name attrs kids → Around c.args.self.now.sheet.now c.args.nodes.now (parent_at c.args.nodes.now c.args.at) anc → Rows c.args.self.now.sheet.now c.args.nodes.now (c.args.at + 1) c.node_end-to.result (rows_of (attrs ∷ anc) kids) = λ name attrs kids anc x h. let a = c.args in rows_of_lem a.self.now.sheet.now a.nodes.now a.at (a.at + 1) c.node_end-to.result kids (attrs ∷ anc) (element_kids x c.node_end-to.ensures) (around_it anc x h) (omega arith) in
-    let filled_here_3 : (name : Bytes) (attrs : List Attr) (kids : Forest) (anc : Ancestors) → ElementAt c.args.self.now.sheet.now c.args.nodes.now c.args.at name attrs kids → Around c.args.self.now.sheet.now c.args.nodes.now (parent_at c.args.nodes.now c.args.at) anc → RowsAt c.args.self.now.sheet.now c.args.nodes.now c.next_filled_row-first.result c.node_end-to.result (from_cells (rows_of (attrs ∷ anc) kids)) = λ name attrs kids anc x h. c.next_filled_row-first.ensures.rows (rows_of (attrs ∷ anc) kids) (rows_here_3 _ _ _ anc x h) in
+    let filled = filled_below c.next_filled_row-first.result c.node_end-to.ensures c.next_filled_row-first.ensures.rows in
+    let written = cells_below c.next_filled_row-first.result c.node_end-to.ensures c.next_filled_row-first.ensures.rows (self_at c.args.self.now.skip c.args.levels) c.args.opts c.cells.ensures.rows_writes in
+    let writable = writable_below c.next_filled_row-first.result c.node_end-to.ensures c.next_filled_row-first.ensures.rows c.is_table_node_writable.ensures in
     let a = c.args in record {
       room =
           let p = c.requires.0 in
           let R = from_cells (rows_of (p.0.1 ∷ p.1.0) p.0.2) in
-          let w = wrote_here _ _ _ p.1.0 p.0.3 p.1.1 in
+          let w = written _ _ _ p.1.0 p.0.3 p.1.1 in
           let d = done (ap (wrote c.cells.new.text) c.in_ok-cells.was) w.writes in
           let v =
-          c.push_table.ensures (self_at a.self.now.skip a.levels) a.opts R (rows_at_kept c.cells.ensures.kept a.self.now.sheet.now c.next_filled_row-first.result c.node_end-to.result R (filled_here_3 _ _ _ p.1.0 p.0.3 p.1.1))
+          c.push_table.ensures (self_at a.self.now.skip a.levels) a.opts R (rows_at_kept c.cells.ensures.kept a.self.now.sheet.now c.next_filled_row-first.result c.node_end-to.result R (filled _ _ _ p.1.0 p.0.3 p.1.1))
           (w.lengths_are c.cells.new.text.len (ap (wrote c.cells.new.text) c.in_ok-cells.was)) (behind_bytes a.text.now.room.now a.text.now.len (concat (rows_texts (self_at a.self.now.skip a.levels) a.opts R)) c.args.text.now.fits d) in
           record { room_is = v.room_is ∙ c.cells.ensures.room.room_is; long = v.long ∙ c.cells.ensures.room.long };
       kept = kept_in (omega (arith, c.next_filled_row-first.ensures.later)) (omega (arith, c.node_end-to.ensures)) c.cells.ensures.kept;
       writes_element = record {
         for = λ name attrs kids anc x h.
             let R = from_cells (rows_of (attrs ∷ anc) kids) in
-            let w = wrote_here _ _ _ anc x h in
+            let w = written _ _ _ anc x h in
             let d = done (ap (wrote c.cells.new.text) c.in_ok-cells.was) w.writes in
-            alike (table_written (self_at a.self.now.skip a.levels) anc a.opts name attrs kids (take a.text.now.len a.text.now.room.now) (sym (writable_here _ _ _ anc x h) ∙ c.if-not-is_table_node_writable.false))
+            alike (table_written (self_at a.self.now.skip a.levels) anc a.opts name attrs kids (bytes a.text.now) (sym (writable _ _ _ anc x h) ∙ c.if-not-is_table_node_writable.false))
             (table_done (self_at a.self.now.skip a.levels) a.opts R a.text.now.room.now a.text.now.len c.args.text.now.fits d
-            ((c.push_table.ensures (self_at a.self.now.skip a.levels) a.opts R (rows_at_kept c.cells.ensures.kept a.self.now.sheet.now c.next_filled_row-first.result c.node_end-to.result R (filled_here_3 _ _ _ anc x h)) (w.lengths_are c.cells.new.text.len (ap (wrote c.cells.new.text) c.in_ok-cells.was))
+            ((c.push_table.ensures (self_at a.self.now.skip a.levels) a.opts R (rows_at_kept c.cells.ensures.kept a.self.now.sheet.now c.next_filled_row-first.result c.node_end-to.result R (filled _ _ _ anc x h)) (w.lengths_are c.cells.new.text.len (ap (wrote c.cells.new.text) c.in_ok-cells.was))
             (behind_bytes a.text.now.room.now a.text.now.len (concat (rows_texts (self_at a.self.now.skip a.levels) a.opts R)) c.args.text.now.fits d)).writes));
       };
     }
 
 pub write_table-returns-in_err-cells : goal.write_table-returns-in_err-cells
 write_table-returns-in_err-cells t c =
-    let rows_here : (name : Bytes) (attrs : List Attr) (kids : Forest) (anc : Ancestors) → ElementAt c.args.self.now.sheet.now c.args.nodes.now c.args.at name attrs kids → Around c.args.self.now.sheet.now c.args.nodes.now (parent_at c.args.nodes.now c.args.at) anc → Rows c.args.self.now.sheet.now c.args.nodes.now (c.args.at + 1) c.node_end-to.result (rows_of (attrs ∷ anc) kids) = λ name attrs kids anc x h. let a = c.args in rows_of_lem a.self.now.sheet.now a.nodes.now a.at (a.at + 1) c.node_end-to.result kids (attrs ∷ anc) (element_kids x c.node_end-to.ensures) (around_it anc x h) (omega arith) in
-    let filled_here : (name : Bytes) (attrs : List Attr) (kids : Forest) (anc : Ancestors) → ElementAt c.args.self.now.sheet.now c.args.nodes.now c.args.at name attrs kids → Around c.args.self.now.sheet.now c.args.nodes.now (parent_at c.args.nodes.now c.args.at) anc → RowsAt c.args.self.now.sheet.now c.args.nodes.now c.next_filled_row-first.result c.node_end-to.result (from_cells (rows_of (attrs ∷ anc) kids)) = λ name attrs kids anc x h. c.next_filled_row-first.ensures.rows (rows_of (attrs ∷ anc) kids) (rows_here _ _ _ anc x h) in
-    let writable_here : (name : Bytes) (attrs : List Attr) (kids : Forest) (anc : Ancestors) → ElementAt c.args.self.now.sheet.now c.args.nodes.now c.args.at name attrs kids → Around c.args.self.now.sheet.now c.args.nodes.now (parent_at c.args.nodes.now c.args.at) anc → c.is_table_node_writable.result ≡ is_table_node_writable kids (from_cells (rows_of (attrs ∷ anc) kids)) = λ name attrs kids anc x h. c.is_table_node_writable.ensures c.args.at kids (from_cells (rows_of (attrs ∷ anc) kids)) (element_kids x c.node_end-to.ensures) (filled_here _ _ _ anc x h) in
-    let rows_here_2 : (name : Bytes) (attrs : List Attr) (kids : Forest) (anc : Ancestors) → ElementAt c.args.self.now.sheet.now c.args.nodes.now c.args.at name attrs kids → Around c.args.self.now.sheet.now c.args.nodes.now (parent_at c.args.nodes.now c.args.at) anc → Rows c.args.self.now.sheet.now c.args.nodes.now (c.args.at + 1) c.node_end-to.result (rows_of (attrs ∷ anc) kids) = λ name attrs kids anc x h. let a = c.args in rows_of_lem a.self.now.sheet.now a.nodes.now a.at (a.at + 1) c.node_end-to.result kids (attrs ∷ anc) (element_kids x c.node_end-to.ensures) (around_it anc x h) (omega arith) in
-    let filled_here_2 : (name : Bytes) (attrs : List Attr) (kids : Forest) (anc : Ancestors) → ElementAt c.args.self.now.sheet.now c.args.nodes.now c.args.at name attrs kids → Around c.args.self.now.sheet.now c.args.nodes.now (parent_at c.args.nodes.now c.args.at) anc → RowsAt c.args.self.now.sheet.now c.args.nodes.now c.next_filled_row-first.result c.node_end-to.result (from_cells (rows_of (attrs ∷ anc) kids)) = λ name attrs kids anc x h. c.next_filled_row-first.ensures.rows (rows_of (attrs ∷ anc) kids) (rows_here_2 _ _ _ anc x h) in
-    let wrote_here : (name : Bytes) (attrs : List Attr) (kids : Forest) (anc : Ancestors) → ElementAt c.args.self.now.sheet.now c.args.nodes.now c.args.at name attrs kids → Around c.args.self.now.sheet.now c.args.nodes.now (parent_at c.args.nodes.now c.args.at) anc → RowsWrites (length c.args.text.now.room.now) c.cells.new.text.room.now (table_lengths c.args.self.now.sheet.now c.cells.new.nodes c.next_filled_row-first.result c.node_end-to.result) (wrote c.cells.new.text c.cells.result) (rows_texts (self_at c.args.self.now.skip c.args.levels) c.args.opts (from_cells (rows_of (attrs ∷ anc) kids))) (take c.args.text.now.len c.args.text.now.room.now) = λ name attrs kids anc x h. let a = c.args in c.cells.ensures.rows_writes (from_cells (rows_of (attrs ∷ anc) kids)) (rows_at a.self.now.sheet.now a.nodes.now c.next_filled_row-first.result c.node_end-to.result (from_cells (rows_of (attrs ∷ anc) kids)) (filled_here_2 _ _ _ anc x h)) in
+    let writable = writable_below c.next_filled_row-first.result c.node_end-to.ensures c.next_filled_row-first.ensures.rows c.is_table_node_writable.ensures in
+    let written = cells_below c.next_filled_row-first.result c.node_end-to.ensures c.next_filled_row-first.ensures.rows (self_at c.args.self.now.skip c.args.levels) c.args.opts c.cells.ensures.rows_writes in
     let a = c.args in record {
       room = c.cells.ensures.room;
       kept = kept_in (omega (arith, c.next_filled_row-first.ensures.later)) (omega (arith, c.node_end-to.ensures)) c.cells.ensures.kept;
       writes_element = stops_element (wrote_err _ _ c.from_residual.ensures.0) (record {
         for = λ name attrs kids anc x h.
             let R = from_cells (rows_of (attrs ∷ anc) kids) in
-            alike (table_written (self_at a.self.now.skip a.levels) anc a.opts name attrs kids (take a.text.now.len a.text.now.room.now) (sym (writable_here _ _ _ anc x h) ∙ c.if-not-is_table_node_writable.false))
-            (record { says = table_full (self_at a.self.now.skip a.levels) a.opts R a.text.now.room.now a.text.now.len (full (ap (wrote c.cells.new.text) c.in_err-cells.was) (wrote_here _ _ _ anc x h).writes) });
+            alike (table_written (self_at a.self.now.skip a.levels) anc a.opts name attrs kids (bytes a.text.now) (sym (writable _ _ _ anc x h) ∙ c.if-not-is_table_node_writable.false))
+            (record { says = table_full (self_at a.self.now.skip a.levels) a.opts R a.text.now.room.now a.text.now.len (full (ap (wrote c.cells.new.text) c.in_err-cells.was) (written _ _ _ anc x h).writes) });
       });
     }
 
 pub write_element-returns-in-21 : goal.write_element-returns-in-21
 write_element-returns-in-21 t c =
-    let named_here : (name : Bytes) (attrs : List Attr) (kids : Forest) → ElementAt c.args.self.now.sheet.now c.args.nodes.now c.args.at name attrs kids → c.args.name ≡ tag_of name = λ _ _ _ x. c.requires.1 ∙ element_name x in
     let u = c.opts-opts in
     let a = c.args in
     record {
@@ -1715,14 +1315,13 @@ write_element-returns-in-21 t c =
       kept = c.write_link.ensures.kept;
       writes_element = record {
         for = λ name attrs kids anc x h.
-            alike (ap (λ (o : FormatOpts). write_element (self_at a.self.now.skip a.levels) anc o name attrs kids (bytes a.text.now)) (sym u.ensures)
-            ∙ by_link (self_at a.self.now.skip a.levels) anc u.result name attrs kids (bytes a.text.now) (named_here _ _ _ x) (sym c.is_list.ensures ∙ c.if-is_list.false) c.in-21.is) (c.write_link.ensures.writes_element.for name attrs kids anc x h);
+            element_as (self_at a.self.now.skip a.levels) anc name attrs kids (bytes a.text.now) u.ensures
+            (by_link (self_at a.self.now.skip a.levels) anc u.result name attrs kids (bytes a.text.now) (c.requires.1 ∙ element_name x) (sym c.is_list.ensures ∙ c.if-is_list.false) c.in-21.is) (c.write_link.ensures.writes_element.for name attrs kids anc x h);
       };
     }
 
 pub write_element-returns-in-22 : goal.write_element-returns-in-22
 write_element-returns-in-22 t c =
-    let named_here : (name : Bytes) (attrs : List Attr) (kids : Forest) → ElementAt c.args.self.now.sheet.now c.args.nodes.now c.args.at name attrs kids → c.args.name ≡ tag_of name = λ _ _ _ x. c.requires.1 ∙ element_name x in
     let u = c.opts-opts in
     let a = c.args in
     record {
@@ -1730,15 +1329,14 @@ write_element-returns-in-22 t c =
       kept = kept_none a.nodes.now;
       writes_element = record {
         for = λ name attrs kids anc x h.
-            alike (ap (λ (o : FormatOpts). write_element (self_at a.self.now.skip a.levels) anc o name attrs kids (bytes a.text.now)) (sym u.ensures)
-            ∙ by_img (self_at a.self.now.skip a.levels) anc u.result name attrs kids (bytes a.text.now) (named_here _ _ _ x) (sym c.is_list.ensures ∙ c.if-is_list.false) c.in-22.is
+            element_as (self_at a.self.now.skip a.levels) anc name attrs kids (bytes a.text.now) u.ensures
+            (by_img (self_at a.self.now.skip a.levels) anc u.result name attrs kids (bytes a.text.now) (c.requires.1 ∙ element_name x) (sym c.is_list.ensures ∙ c.if-is_list.false) c.in-22.is
             ∙ ap (λ (l : List Attr). write_img l (bytes a.text.now)) (x.attrs_are ∙ ap (attrs_behind a.self.now.sheet.now) (sym c.node_place.ensures))) c.write_img.ensures.writes;
       };
     }
 
 pub write_element-returns-in-23 : goal.write_element-returns-in-23
 write_element-returns-in-23 t c =
-    let named_here : (name : Bytes) (attrs : List Attr) (kids : Forest) → ElementAt c.args.self.now.sheet.now c.args.nodes.now c.args.at name attrs kids → c.args.name ≡ tag_of name = λ _ _ _ x. c.requires.1 ∙ element_name x in
     let u = c.opts-opts in
     let a = c.args in
     record {
@@ -1746,14 +1344,13 @@ write_element-returns-in-23 t c =
       kept = kept_none a.nodes.now;
       writes_element = record {
         for = λ name attrs kids anc x h.
-            alike (ap (λ (o : FormatOpts). write_element (self_at a.self.now.skip a.levels) anc o name attrs kids (bytes a.text.now)) (sym u.ensures)
-            ∙ by_pre (self_at a.self.now.skip a.levels) anc u.result name attrs kids (bytes a.text.now) (named_here _ _ _ x) (sym c.is_list.ensures ∙ c.if-is_list.false) c.in-23.is) ((c.write_pre.ensures name attrs kids anc x h).writes);
+            element_as (self_at a.self.now.skip a.levels) anc name attrs kids (bytes a.text.now) u.ensures
+            (by_pre (self_at a.self.now.skip a.levels) anc u.result name attrs kids (bytes a.text.now) (c.requires.1 ∙ element_name x) (sym c.is_list.ensures ∙ c.if-is_list.false) c.in-23.is) ((c.write_pre.ensures name attrs kids anc x h).writes);
       };
     }
 
 pub write_element-returns-in-14 : goal.write_element-returns-in-14
 write_element-returns-in-14 t c =
-    let named_here : (name : Bytes) (attrs : List Attr) (kids : Forest) → ElementAt c.args.self.now.sheet.now c.args.nodes.now c.args.at name attrs kids → c.args.name ≡ tag_of name = λ _ _ _ x. c.requires.1 ∙ element_name x in
     let u = c.opts-opts in
     let a = c.args in
     record {
@@ -1761,14 +1358,13 @@ write_element-returns-in-14 t c =
       kept = c.write_table.ensures.kept;
       writes_element = record {
         for = λ name attrs kids anc x h.
-            alike (ap (λ (o : FormatOpts). write_element (self_at a.self.now.skip a.levels) anc o name attrs kids (bytes a.text.now)) (sym u.ensures)
-            ∙ by_table (self_at a.self.now.skip a.levels) anc u.result name attrs kids (bytes a.text.now) (named_here _ _ _ x) (sym c.is_list.ensures ∙ c.if-is_list.false) c.in-14.is) (c.write_table.ensures.writes_element.for name attrs kids anc x h);
+            element_as (self_at a.self.now.skip a.levels) anc name attrs kids (bytes a.text.now) u.ensures
+            (by_table (self_at a.self.now.skip a.levels) anc u.result name attrs kids (bytes a.text.now) (c.requires.1 ∙ element_name x) (sym c.is_list.ensures ∙ c.if-is_list.false) c.in-14.is) (c.write_table.ensures.writes_element.for name attrs kids anc x h);
       };
     }
 
 pub write_element-returns-in-24 : goal.write_element-returns-in-24
 write_element-returns-in-24 t c =
-    let named_here : (name : Bytes) (attrs : List Attr) (kids : Forest) → ElementAt c.args.self.now.sheet.now c.args.nodes.now c.args.at name attrs kids → c.args.name ≡ tag_of name = λ _ _ _ x. c.requires.1 ∙ element_name x in
     let u = c.opts-opts in
     let a = c.args in
     record {
@@ -1776,14 +1372,13 @@ write_element-returns-in-24 t c =
       kept = kept_none a.nodes.now;
       writes_element = record {
         for = λ name attrs kids anc x h.
-            alike (ap (λ (o : FormatOpts). write_element (self_at a.self.now.skip a.levels) anc o name attrs kids (bytes a.text.now)) (sym u.ensures)
-            ∙ by_code (self_at a.self.now.skip a.levels) anc u.result name attrs kids (bytes a.text.now) (named_here _ _ _ x) (sym c.is_list.ensures ∙ c.if-is_list.false) c.in-24.is) ((c.write_code.ensures a.levels name attrs kids anc x h).writes);
+            element_as (self_at a.self.now.skip a.levels) anc name attrs kids (bytes a.text.now) u.ensures
+            (by_code (self_at a.self.now.skip a.levels) anc u.result name attrs kids (bytes a.text.now) (c.requires.1 ∙ element_name x) (sym c.is_list.ensures ∙ c.if-is_list.false) c.in-24.is) ((c.write_code.ensures a.levels name attrs kids anc x h).writes);
       };
     }
 
 pub write_element-returns-in_default : goal.write_element-returns-in_default
 write_element-returns-in_default t c =
-    let named_here : (name : Bytes) (attrs : List Attr) (kids : Forest) → ElementAt c.args.self.now.sheet.now c.args.nodes.now c.args.at name attrs kids → c.args.name ≡ tag_of name = λ _ _ _ x. c.requires.1 ∙ element_name x in
     let u = c.opts-opts in
     let a = c.args in
     record {
@@ -1791,8 +1386,8 @@ write_element-returns-in_default t c =
       kept = c.write_emphasis.ensures.kept;
       writes_element = record {
         for = λ name attrs kids anc x h.
-            alike (ap (λ (o : FormatOpts). write_element (self_at a.self.now.skip a.levels) anc o name attrs kids (bytes a.text.now)) (sym u.ensures)
-            ∙ by_emphasis (self_at a.self.now.skip a.levels) anc u.result name attrs kids (bytes a.text.now) (named_here _ _ _ x) (sym c.is_list.ensures ∙ c.if-is_list.false) (search rules) (search rules) (search rules) (search rules) (search rules)) (c.write_emphasis.ensures.writes_element.for name attrs kids anc x h);
+            element_as (self_at a.self.now.skip a.levels) anc name attrs kids (bytes a.text.now) u.ensures
+            (by_emphasis (self_at a.self.now.skip a.levels) anc u.result name attrs kids (bytes a.text.now) (c.requires.1 ∙ element_name x) (sym c.is_list.ensures ∙ c.if-is_list.false) (search rules) (search rules) (search rules) (search rules) (search rules)) (c.write_emphasis.ensures.writes_element.for name attrs kids anc x h);
       };
     }
 

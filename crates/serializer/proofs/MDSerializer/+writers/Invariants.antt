@@ -13,8 +13,7 @@ use Rattle.spec.specs.Call.{tags_to_skip}
 use Rattle.spec.specs.Md.Elements.List.{item_children, list_children}
 use Rattle.spec.specs.Md.Serializer.{serializer, write_nodes}
 use Rattle.tree.specs.Memory.{Kept}
-use lib.ListN.{take, length}
-use mathlib.Core.Path.{◌≡◌}
+use lib.ListN.{length}
 use Rattle.serializer.proofs.MDSerializer.+writers.Given as goal
 
 abbrev pub decreases-alone : goal.decreases-alone

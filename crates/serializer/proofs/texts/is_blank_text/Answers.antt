@@ -1,15 +1,11 @@
 use mathlib.Core.Path.{ap, sym, ◌∙◌}
 use mathlib.Core.Bool.{Bool, ◌&&◌}
 use lib.ListN.{get_or}
-use borrow.Author.Tests.{eq-eqb, ne_eqb}
+use borrow.Author.Tests.{eq-eqb}
 use Rattle.spec.specs.Bytes.{is_blank}
 use Rattle.tree.specs.Nodes.{body_at}
 use Rattle.tree.proofs.Kin.{first_text_lem}
 use Rattle.serializer.proofs.texts.is_blank_text.Goals as goal
-
-pub returns-then-tag_at-ne-TEXT : goal.returns-then-tag_at-ne-TEXT
-returns-then-tag_at-ne-TEXT c =
-    ap (λ (b : Bool). b && is_blank (body_at c.args.sheet.now c.args.place)) (sym (ne_eqb (get_or c.args.sheet.now c.args.place 0) 4 (λ q. c.if-tag_at-ne-TEXT.true (c.tag_at.ensures ∙ q))))
 
 pub returns : goal.returns
 unfolding is_blank

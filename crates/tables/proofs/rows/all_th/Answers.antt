@@ -1,11 +1,8 @@
 use mathlib.Core.Path.{refl, ap, sym, ◌∙◌}
 use Rattle.spec.specs.Md.Elements.Table.{all_th}
 use Rattle.nodes.proofs.Siblings.{over_begun, gives_before, gives_next, gives_over, gives_none}
-use Rattle.tables.proofs.TableCells.{cells_all, cells_at, cells_kids, cells_node, cells_none, th_on, th_not}
+use Rattle.tables.proofs.TableCells.{cells_all, cells_at, cells_node, cells_none, th_on, th_not}
 use Rattle.tables.proofs.rows.all_th.Goals as goal
-
-pub siblings-c-items-requires : goal.siblings-c-items-requires
-siblings-c-items-requires c = cells_kids c.requires.1 c.node_end.ensures
 
 pub loop-c-init : goal.loop-c-init
 loop-c-init c =

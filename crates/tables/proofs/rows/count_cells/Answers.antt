@@ -5,11 +5,8 @@ use mathlib.Core.Bool.{cond}
 use lib.ListN.{length}
 use Rattle.spec.specs.Md.Elements.Table.{is_table_cell}
 use Rattle.nodes.proofs.Siblings.{over_begun, gives_before, gives_next, gives_over, gives_none}
-use Rattle.tables.proofs.TableCells.{cells_all, cells_at, cells_kids, cells_node, cells_first, cells_none, count_on, count_one}
+use Rattle.tables.proofs.TableCells.{cells_all, cells_at, cells_node, cells_first, cells_none, count_on, count_one}
 use Rattle.tables.proofs.rows.count_cells.Goals as goal
-
-pub siblings-c-items-requires : goal.siblings-c-items-requires
-siblings-c-items-requires c = cells_kids c.requires.1 c.node_end.ensures
 
 pub loop-c-init : goal.loop-c-init
 loop-c-init c =

@@ -1,13 +1,10 @@
-use mathlib.Core.Path.{refl, ap, sym, ◌∙◌}
+use mathlib.Core.Path.{ap, sym, ◌∙◌}
 use Prim.Native.Nat.{ℕ}
 use Rattle.spec.specs.Md.Elements.Table.{equal_rows}
 use Rattle.tables.proofs.TableRows.{rows_node, rows_here, rows_on, rows_none}
 use Rattle.tables.proofs.RowTests.{some_row, equal_no, equal_on}
 use Rattle.tables.proofs.rows.equal_rows.Goals.{then-node_name-eq-TR+else-common-n, else-node_name-eq-TR}
 use Rattle.tables.proofs.rows.equal_rows.Goals as goal
-
-pub loop-r-init : goal.loop-r-init
-loop-r-init c = λ rows x. (rows, x, refl)
 
 pub node_name-requires : goal.node_name-requires
 node_name-requires c =

@@ -7,9 +7,6 @@ use Rattle.tables.proofs.RowTests.{filled_here}
 use Rattle.tables.proofs.Lines.{maybe_row, line_skip}
 use Rattle.tables.proofs.rows.next_filled_row.Goals as goal
 
-pub loop-r-init : goal.loop-r-init
-loop-r-init c = (omega arith, λ rows x. (rows, x, refl))
-
 pub is_filled_row-requires : goal.is_filled_row-requires
 is_filled_row-requires c =
     let q = c.loop-r.invariant.1 c.requires.0 c.requires.1 in

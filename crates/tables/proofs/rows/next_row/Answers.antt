@@ -3,9 +3,6 @@ use mathlib.Core.Path.{sym, ◌∙◌}
 use Rattle.tables.proofs.TableRows.{rows_node, rows_here, rows_on, rows_ended, rows_le}
 use Rattle.tables.proofs.rows.next_row.Goals as goal
 
-pub loop-r-init : goal.loop-r-init
-loop-r-init c = (omega arith, λ rows x. x)
-
 pub node_name-requires : goal.node_name-requires
 node_name-requires c =
     rows_node c.args.tree.now.sheet.now c.args.tree.now.nodes.now c.loop-r.r c.args.to c.requires.0 (c.loop-r.invariant.1 c.requires.0 c.requires.1) c.loop-r-test.true

@@ -1,33 +1,18 @@
-use Prim.Native.Nat.{ℕ, ◌+◌}
+use Prim.Native.Nat.{◌+◌}
 use lib.ListN.{length}
 use mathlib.Core.Path.{refl, ap, sym, ◌∙◌}
 use Rattle.spec.specs.Md.Elements.Table.{is_table_cell}
 use Rattle.tree.proofs.Firsts.{rep_le}
 use Rattle.tree.proofs.Numbers.{long_is}
-use Rattle.nodes.proofs.Siblings.{over_begun, gives_before, gives_next, gives_over, gives_none}
+use Rattle.nodes.proofs.Siblings.{gives_before, gives_next, gives_over, gives_none}
 use Rattle.tables.specs.Spans.{cell_lengths, sum, zeros}
-use Rattle.tables.proofs.Gathering.{few_cells, child_at, child_none, child_node, child_on, child_cell, child_other, sum_first, zeros_first, length_first, sum_none, zeros_none, zeros_few}
+use Rattle.tables.proofs.Gathering.{few_cells, child_none, child_node, child_on, child_cell, child_other, sum_first, zeros_first, length_first, sum_none, zeros_none, zeros_few}
 use native.Mathlib.Omega.{arith}
 use Rattle.tables.proofs.table.measure.Goals as goal
 
 pub overflow_add-row : goal.overflow_add-row
 overflow_add-row c =
     omega (arith, rep_le c.args.tree.now.sheet.now c.args.tree.now.nodes.now c.args.row (c.args.row + 1) c.args.to c.requires.0.0 c.requires.0.1)
-
-pub siblings-c-items-requires : goal.siblings-c-items-requires
-siblings-c-items-requires c = (c.args.row, c.requires.0.0, c.requires.0.1)
-
-pub loop-c-init : goal.loop-c-init
-loop-c-init c =
-    let a = c.args in let sh = a.tree.now.sheet.now in let ns = a.tree.now.nodes.now in
-    let b = over_begun c.siblings-c-items.ensures c.into_iter-c-iterator.ensures.into_iter_gives refl in
-    let e = ap (λ (j : ℕ). cell_lengths sh ns a.row j a.to) b.1 in (
-      b.0,
-      child_at (record { rest = c.requires.0.0; later = omega arith; rep = c.requires.0.1 }) b.1,
-      omega (arith, ap length e),
-      omega (arith, ap sum e),
-      omega (arith, ap zeros e),
-    )
 
 pub node_name-requires : goal.node_name-requires
 node_name-requires c =

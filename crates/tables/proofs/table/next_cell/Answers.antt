@@ -1,14 +1,9 @@
 use native.Mathlib.Omega.{arith}
-use mathlib.Core.Path.{refl, sym, ap, ◌∙◌}
+use mathlib.Core.Path.{sym, ap, ◌∙◌}
 use Rattle.spec.specs.Md.Elements.Table.{is_table_cell}
-use Rattle.nodes.proofs.Siblings.{over_begun, gives_before, gives_next, gives_over, gives_none}
-use Rattle.tables.proofs.Gathering.{looking_all, looking_at, looking_first, looking_node, looking_on, looking_done, looking_ended}
+use Rattle.nodes.proofs.Siblings.{gives_before, gives_next, gives_over, gives_none}
+use Rattle.tables.proofs.Gathering.{looking_at, looking_first, looking_node, looking_on, looking_done, looking_ended}
 use Rattle.tables.proofs.table.next_cell.Goals as goal
-
-pub loop-c-init : goal.loop-c-init
-loop-c-init c =
-    let a = c.args in let b = over_begun c.siblings-c-items.ensures c.into_iter-c-iterator.ensures.into_iter_gives refl in
-    (b.0, omega (arith, b.1), looking_at (looking_all a.tree.now.sheet.now a.tree.now.nodes.now a.from a.to c.requires) b.1)
 
 pub node_name-requires : goal.node_name-requires
 node_name-requires c =

@@ -5,35 +5,19 @@ use lib.ListN.{drop}
 use Rattle.spec.specs.Md.Elements.Table.{is_table_cell}
 use Rattle.tree.proofs.Firsts.{rep_le}
 use Rattle.tree.proofs.Numbers.{long_is}
-use Rattle.nodes.proofs.Siblings.{over_begun, gives_before, gives_next, gives_over, gives_none}
+use Rattle.nodes.proofs.Siblings.{gives_before, gives_next, gives_over, gives_none}
 use Rattle.tables.specs.Puts.{bars}
 use Rattle.tables.specs.Spans.{cell_lengths, sum}
 use Rattle.tables.specs.Columns.{columns}
-use Rattle.tables.proofs.Putting.{Due, due_all, due_done}
+use Rattle.tables.proofs.Putting.{Due, due_done}
 use Rattle.tables.proofs.Columns.{columns_none, column_room, column_on}
-use Rattle.tables.proofs.Gathering.{child_at, child_none, child_node, child_on, child_cell, child_other, sum_first}
+use Rattle.tables.proofs.Gathering.{child_none, child_node, child_on, child_cell, child_other, sum_first}
 use native.Mathlib.Omega.{arith}
 use Rattle.tables.proofs.table.put_columns.Goals as goal
 
 pub overflow_add-row : goal.overflow_add-row
 overflow_add-row c =
     omega (arith, rep_le c.args.tree.now.sheet.now c.args.tree.now.nodes.now c.args.row (c.args.row + 1) c.args.to c.requires.0.0 c.requires.0.1)
-
-pub siblings-c-items-requires : goal.siblings-c-items-requires
-siblings-c-items-requires c = (c.args.row, c.requires.0.0, c.requires.0.1)
-
-pub loop-c-init : goal.loop-c-init
-loop-c-init c =
-    let a = c.args in let sh = a.tree.now.sheet.now in let ns = a.tree.now.nodes.now in
-    let b = over_begun c.siblings-c-items.ensures c.into_iter-c-iterator.ensures.into_iter_gives refl in
-    let e = ap (λ (j : ℕ). cell_lengths sh ns a.row j a.to) b.1 in (
-      b.0,
-      child_at (record { rest = c.requires.0.0; later = omega arith; rep = c.requires.0.1 }) b.1,
-      subst (λ (x : List ℕ). Due a.text.now a.text.now (bars (columns a.under x (drop a.src a.text.now.room.now))) (bars (columns a.under (cell_lengths sh ns a.row (a.row + 1) a.to) (drop a.src a.text.now.room.now)))) (sym e)
-          (due_all a.text.now _),
-      omega arith,
-      omega (arith, ap sum e),
-    )
 
 pub node_name-requires : goal.node_name-requires
 node_name-requires c =

@@ -5,11 +5,6 @@ use Rattle.tables.proofs.Putting.{puts_next, puts_text, puts_end, puts_long, put
 use Rattle.tables.proofs.Cutting.{row_put, rule_put, table_is}
 use Rattle.tables.proofs.table.put_table.Goals as goal
 
-pub put_row-requires : goal.put_row-requires
-put_row-requires c =
-    let p = c.put_byte.ensures in
-    (c.requires.0, omega (arith, puts_end p, c.requires.2, c.requires.4), omega (arith, puts_long p, c.requires.2, c.requires.5))
-
 pub put_rule-requires : goal.put_rule-requires
 put_rule-requires c =
     let a = c.args in let p = c.put_byte.ensures in let r = c.put_row.ensures in
