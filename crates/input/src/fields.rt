@@ -13,12 +13,6 @@ pub struct Span {
     pub end: usize,
 }
 
-pub fn wide(x: u8) -> usize
-    ensures { (result ≡ x) × (result < 256) }
-{
-    x as usize
-}
-
 // The length that the head of the field at p says.
 #[tactic(auto, unfolding(spec::specs::Fields::word))]
 pub fn length_at(s: &[u8], p: usize) -> usize

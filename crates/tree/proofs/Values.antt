@@ -5,7 +5,7 @@ use mathlib.Core.Bool.{Bool, true, false, cond, ◌||◌, or-false, or_self}
 use mathlib.Core.Logic.{⊎_elim}
 use mathlib.Core.List.{List, [], ◌∷◌}
 use mathlib.Core.Option.{Option, some, map}
-use lib.ListN.{length, take, drop, length-take, length-drop, drop_of_length-le}
+use lib.ListN.{length, take, drop, length-drop, drop_of_length-le}
 use lib.Seq.{length-take-le, take-take, drop-drop, take_all}
 use Rattle.std.proofs.lemmas.List.{drop-take}
 use native.Mathlib.Omega.{arith}
