@@ -72,8 +72,8 @@ pub struct MDSerializer<'s, 'k> {
 
 impl<'s, 'k> MDSerializer<'s, 'k> {
     // serializer.rs: the nodes from number `from` up to `to`, siblings of one another, each with itself; `levels` falls. The hints
-    // make a level one function without those that have writers: left to LLVM, a wide sheet takes 13 in a hundred more instructions,
-    // and nested wrappers 9.
+    // make a level one function without those that have writers: left to LLVM, a wide sheet takes 12 in a hundred more instructions,
+    // and nested wrappers 10.
     #[cycle(writers)]
     #[inline(never)]
     pub fn write(
