@@ -16,7 +16,6 @@ use Rattle.spec.specs.Reading.{read}
 use Rattle.spec.specs.Call as spec
 use Rattle.spec.specs.Call.{written, question10, zeros, refused, no_room, accepted, answer_for, call}
 use Rattle.spec.specs.Promise.{Promise}
-use Rattle.tree.specs.Accepted.{storable}
 use Rattle.tree.specs.Represents.{Holds}
 use Rattle.recovery.proofs.Recovered.{recovers_call}
 use Rattle.text.specs.Writes as writes
@@ -58,7 +57,6 @@ pub started : {sheet nodes : Bytes} {start n : ℕ} (skips : SkipList) (memory :
 unfolding refusal question7
 started {sheet} {nodes} {start} skips memory e q h =
     record {
-      short = (storable sheet skips start memory e).short;
       holds = subst (Holds sheet nodes) q h;
       node = ltb-true start (node_count sheet)
           (said_yes 0 (question1 sheet ∷ question2 sheet ∷ question3 sheet ∷ question4 sheet ∷ question5 sheet ∷ question6 sheet ∷ []) (question7 sheet start)

@@ -1,14 +1,13 @@
 -- What is known once questions 1 to 9 have let a call pass and its sheet is stored, and what the call then answers. Assumes nothing.
-use Rattle.std.specs.Prelude.{ℕ, ◌<◌, ◌≤◌, ◌≡◌, eqb, length}
+use Rattle.std.specs.Prelude.{ℕ, ◌<◌, ◌≡◌, eqb}
 use Rattle.spec.specs.Bytes.{Bytes}
 use Rattle.spec.specs.Questions.{node_count}
 use Rattle.spec.specs.Call as spec
 use Rattle.tree.specs.Represents.{Holds}
 use Rattle.md.specs.Answer.{Answer, number_of, length_of, is_written}
 
--- node memory holds the tree of a sheet that passes question 1, and the start number is that of a node
+-- node memory holds the tree of the sheet, and the start number is that of a node
 pub record Started (sh ns : Bytes) (start : ℕ) : Type 0 where
-  pub short : length sh ≤ 1048576
   pub holds : Holds sh ns (node_count sh)
   pub node : start < node_count sh
 

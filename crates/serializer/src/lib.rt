@@ -63,11 +63,12 @@ pub mod options;
 pub mod progress;
 pub mod texts;
 
-// serializer.rs: the sheet that a call writes, and its skip list where it isn't the default.
+// serializer.rs: the sheet that a call writes, which passes question 1, and its skip list where it isn't the default.
 #[derive(Clone, Copy)]
 pub struct MDSerializer<'s, 'k> {
     pub sheet: &'s [u8],
     pub skip: Option<&'k [u8]>,
+    ghost short: { Short sheet.now },
 }
 
 impl<'s, 'k> MDSerializer<'s, 'k> {
@@ -85,7 +86,7 @@ impl<'s, 'k> MDSerializer<'s, 'k> {
         bits: PackedOpts,
         levels: usize,
     ) -> Result<(), Full>
-        requires { Placeds self.now.sheet.now nodes.old from to × Short self.now.sheet.now × Fits (def.unpacked bits) levels }
+        requires { Placeds self.now.sheet.now nodes.old from to × Fits (def.unpacked bits) levels }
         ensures kept { Kept from to nodes.old nodes.new }
         ensures room { SameRoom text.old text.new }
         ensures writes_forest { ForestTo self.now.sheet.now nodes.old from to (λ anc f. write_at (tags_to_skip (skip_of self.now.skip)) levels anc (def.unpacked bits) f) text.old text.new result }
@@ -113,7 +114,7 @@ impl<'s, 'k> MDSerializer<'s, 'k> {
         bits: PackedOpts,
         levels: usize,
     ) -> Result<(), Full>
-        requires { Placeds self.now.sheet.now nodes.old from to × Short self.now.sheet.now × Fits (def.unpacked bits) levels }
+        requires { Placeds self.now.sheet.now nodes.old from to × Fits (def.unpacked bits) levels }
         ensures kept { Kept from to nodes.old nodes.new }
         ensures room { SameRoom text.old text.new }
         ensures writes_forest { ForestTo self.now.sheet.now nodes.old from to (λ anc f. write_at (tags_to_skip (skip_of self.now.skip)) levels anc (def.unpacked bits) f) text.old text.new result }
@@ -136,7 +137,7 @@ impl<'s, 'k> MDSerializer<'s, 'k> {
         bits: PackedOpts,
         levels: usize,
     ) -> Result<(), Full>
-        requires { PlacedNode self.now.sheet.now nodes.old at × Short self.now.sheet.now × Fits (def.unpacked bits) (levels + 1) }
+        requires { PlacedNode self.now.sheet.now nodes.old at × Fits (def.unpacked bits) (levels + 1) }
         ensures kept { Kept at (end_at nodes.old at) nodes.old nodes.new }
         ensures room { SameRoom text.old text.new }
         ensures writes_forest { ForestTo self.now.sheet.now nodes.old at (end_at nodes.old at) (λ anc f. write_nodes (self_at self.now.skip levels) anc (def.unpacked bits) f) text.old text.new result }
@@ -164,7 +165,7 @@ impl<'s, 'k> MDSerializer<'s, 'k> {
         bits: PackedOpts,
         levels: usize,
     ) -> Result<(), Full>
-        requires { Placed self.now.sheet.now nodes.old at × Short self.now.sheet.now × Fits (def.unpacked bits) (levels + 1) }
+        requires { Placed self.now.sheet.now nodes.old at × Fits (def.unpacked bits) (levels + 1) }
         ensures kept { Kept at (end_at nodes.old at) nodes.old nodes.new }
         ensures room { SameRoom text.old text.new }
         ensures writes_element { ElementTo self.now.sheet.now nodes.old at (λ anc name attrs kids. in_element (self_at self.now.skip levels) anc (def.unpacked bits) name attrs kids) text.old text.new result }
@@ -192,7 +193,7 @@ impl<'s, 'k> MDSerializer<'s, 'k> {
         bits: PackedOpts,
         levels: usize,
     ) -> Result<(), Full>
-        requires { Placed self.now.sheet.now nodes.old at × (name ≡ name_at self.now.sheet.now (place_at nodes.old at)) × Short self.now.sheet.now × Fits (def.unpacked bits) (levels + 1) }
+        requires { Placed self.now.sheet.now nodes.old at × (name ≡ name_at self.now.sheet.now (place_at nodes.old at)) × Fits (def.unpacked bits) (levels + 1) }
         ensures kept { Kept at (end_at nodes.old at) nodes.old nodes.new }
         ensures room { SameRoom text.old text.new }
         ensures writes_element { ElementTo self.now.sheet.now nodes.old at (λ anc name attrs kids. write_element (self_at self.now.skip levels) anc (def.unpacked bits) name attrs kids) text.old text.new result }
@@ -222,7 +223,7 @@ impl<'s, 'k> MDSerializer<'s, 'k> {
         bits: PackedOpts,
         levels: usize,
     ) -> Result<(), Full>
-        requires { Placed self.now.sheet.now nodes.old at × Short self.now.sheet.now × Fits (def.unpacked bits) levels }
+        requires { Placed self.now.sheet.now nodes.old at × Fits (def.unpacked bits) levels }
         ensures kept { Kept at (end_at nodes.old at) nodes.old nodes.new }
         ensures room { SameRoom text.old text.new }
         ensures writes_element { ElementTo self.now.sheet.now nodes.old at (λ anc name attrs kids. write_kids (self_at self.now.skip levels) anc (def.unpacked bits) (element name attrs kids nothing)) text.old text.new result }
@@ -248,7 +249,7 @@ impl<'s, 'k> MDSerializer<'s, 'k> {
         bits: PackedOpts,
         levels: usize,
     ) -> Wrote
-        requires { Placeds self.now.sheet.now nodes.old from to × Short self.now.sheet.now × Fits (def.unpacked bits) levels }
+        requires { Placeds self.now.sheet.now nodes.old from to × Fits (def.unpacked bits) levels }
         ensures kept { Kept from to nodes.old nodes.new }
         ensures writes_forest { WritesForest self.now.sheet.now nodes.old from to (λ anc f. write_at (tags_to_skip (skip_of self.now.skip)) levels anc (def.unpacked bits) f) [] (length room.old) room.new result }
     {
@@ -267,7 +268,7 @@ impl<'s, 'k> MDSerializer<'s, 'k> {
         bits: PackedOpts,
         levels: usize,
     ) -> Wrote
-        requires { Placed self.now.sheet.now nodes.old at × Short self.now.sheet.now × Fits (def.unpacked bits) levels }
+        requires { Placed self.now.sheet.now nodes.old at × Fits (def.unpacked bits) levels }
         ensures kept { Kept at (end_at nodes.old at) nodes.old nodes.new }
         ensures writes_element { WritesElement self.now.sheet.now nodes.old at (λ anc name attrs kids. write_kids (self_at self.now.skip levels) anc (def.unpacked bits) (element name attrs kids nothing)) [] (length room.old) room.new result }
     {
@@ -287,7 +288,7 @@ impl<'s, 'k> MDSerializer<'s, 'k> {
         opts: FormatOpts,
         levels: usize,
     ) -> Result<(), Full>
-        requires { Placed self.now.sheet.now nodes.old at × (name ≡ name_at self.now.sheet.now (place_at nodes.old at)) × Short self.now.sheet.now × Fits opts (levels + 1) }
+        requires { Placed self.now.sheet.now nodes.old at × (name ≡ name_at self.now.sheet.now (place_at nodes.old at)) × Fits opts (levels + 1) }
         ensures kept { Kept at (end_at nodes.old at) nodes.old nodes.new }
         ensures room { SameRoom text.old text.new }
         ensures writes_element { ElementTo self.now.sheet.now nodes.old at (λ anc name attrs kids. write_emphasis (self_at self.now.skip levels) anc opts (tag_of name) attrs kids) text.old text.new result }
@@ -309,7 +310,7 @@ impl<'s, 'k> MDSerializer<'s, 'k> {
         opts: FormatOpts,
         levels: usize,
     ) -> Result<(), Full>
-        requires { Placed self.now.sheet.now nodes.old at × Short self.now.sheet.now × Fits opts (levels + 1) }
+        requires { Placed self.now.sheet.now nodes.old at × Fits opts (levels + 1) }
         ensures kept { Kept at (end_at nodes.old at) nodes.old nodes.new }
         ensures room { SameRoom text.old text.new }
         ensures writes_element { ElementTo self.now.sheet.now nodes.old at (λ anc name attrs kids. write_link (self_at self.now.skip levels) anc opts name attrs kids) text.old text.new result }
@@ -333,7 +334,7 @@ impl<'s, 'k> MDSerializer<'s, 'k> {
         opts: FormatOpts,
         levels: usize,
     ) -> Result<(), Full>
-        requires { Placed self.now.sheet.now nodes.old at × Short self.now.sheet.now × Fits opts (levels + 1) × (length dest.now ≤ 1048576) }
+        requires { Placed self.now.sheet.now nodes.old at × Fits opts (levels + 1) × (length dest.now ≤ 1048576) }
         ensures kept { Kept at (end_at nodes.old at) nodes.old nodes.new }
         ensures room { SameRoom text.old text.new }
         ensures writes_element { ElementTo self.now.sheet.now nodes.old at (λ anc name attrs kids. link_to (self_at self.now.skip levels) anc opts dest.now name attrs kids) text.old text.new result }
@@ -365,7 +366,7 @@ impl<'s, 'k> MDSerializer<'s, 'k> {
         opts: FormatOpts,
         levels: usize,
     ) -> Result<(), Full>
-        requires { Placed self.now.sheet.now nodes.old at × Short self.now.sheet.now × Fits opts levels × (length dest.now ≤ 1048576) }
+        requires { Placed self.now.sheet.now nodes.old at × Fits opts levels × (length dest.now ≤ 1048576) }
         ensures kept { Kept at (end_at nodes.old at) nodes.old nodes.new }
         ensures room { SameRoom text.old text.new }
         ensures writes_element { ElementTo self.now.sheet.now nodes.old at (λ anc name attrs kids. link_of attrs dest.now (write_kids (self_at self.now.skip levels) anc opts (element name attrs kids nothing) []) push) text.old text.new result }
@@ -388,7 +389,7 @@ impl<'s, 'k> MDSerializer<'s, 'k> {
         opts: FormatOpts,
         levels: usize,
     ) -> Result<(), Full>
-        requires { Placed self.now.sheet.now nodes.old at × (name ≡ name_at self.now.sheet.now (place_at nodes.old at)) × Short self.now.sheet.now × Fits opts (levels + 1) }
+        requires { Placed self.now.sheet.now nodes.old at × (name ≡ name_at self.now.sheet.now (place_at nodes.old at)) × Fits opts (levels + 1) }
         ensures kept { Kept at (end_at nodes.old at) nodes.old nodes.new }
         ensures room { SameRoom text.old text.new }
         ensures writes_element { ElementTo self.now.sheet.now nodes.old at (λ anc name attrs kids. write_list (self_at self.now.skip levels) anc opts (tag_of name) attrs kids) text.old text.new result }
@@ -413,7 +414,7 @@ impl<'s, 'k> MDSerializer<'s, 'k> {
         first: ListContext,
         levels: usize,
     ) -> Result<(), Full>
-        requires { Placeds self.now.sheet.now nodes.old from to × Short self.now.sheet.now × FitsIn first levels }
+        requires { Placeds self.now.sheet.now nodes.old from to × FitsIn first levels }
         ensures kept { Kept from to nodes.old nodes.new }
         ensures room { SameRoom text.old text.new }
         ensures writes_forest { ForestTo self.now.sheet.now nodes.old from to (λ anc f. list_children (self_at self.now.skip levels) anc f first) text.old text.new result }
@@ -442,7 +443,7 @@ impl<'s, 'k> MDSerializer<'s, 'k> {
         ctx: &mut ListContext,
         levels: usize,
     ) -> Result<(), Full>
-        requires { PlacedNode self.now.sheet.now nodes.old c × (li ≡ eqb (name_at self.now.sheet.now (place_at nodes.old c)) 16) × Short self.now.sheet.now × FitsIn ctx.old levels }
+        requires { PlacedNode self.now.sheet.now nodes.old c × (li ≡ eqb (name_at self.now.sheet.now (place_at nodes.old c)) 16) × FitsIn ctx.old levels }
         ensures kept { Kept c (end_at nodes.old c) nodes.old nodes.new }
         ensures room { SameRoom text.old text.new }
         ensures writes_forest { ForestTo self.now.sheet.now nodes.old c (end_at nodes.old c) (λ anc f. list_head (self_at self.now.skip levels) anc f ctx.old) text.old text.new result }
@@ -470,7 +471,7 @@ impl<'s, 'k> MDSerializer<'s, 'k> {
         ctx: &mut ListContext,
         levels: usize,
     ) -> Result<(), Full>
-        requires { Placed self.now.sheet.now nodes.old c × Short self.now.sheet.now × FitsIn ctx.old levels }
+        requires { Placed self.now.sheet.now nodes.old c × FitsIn ctx.old levels }
         ensures kept { Kept c (end_at nodes.old c) nodes.old nodes.new }
         ensures room { SameRoom text.old text.new }
         ensures writes_element { ElementTo self.now.sheet.now nodes.old c (λ anc name attrs kids. write_list_item (self_at self.now.skip levels) anc (element name attrs kids nothing) ctx.old) text.old text.new result }
@@ -493,7 +494,7 @@ impl<'s, 'k> MDSerializer<'s, 'k> {
         ctx: &mut ListContext,
         levels: usize,
     ) -> Result<(), Full>
-        requires { Placed self.now.sheet.now nodes.old c × Short self.now.sheet.now × FitsIn ctx.old levels }
+        requires { Placed self.now.sheet.now nodes.old c × FitsIn ctx.old levels }
         ensures kept { Kept c (end_at nodes.old c) nodes.old nodes.new }
         ensures room { SameRoom text.old text.new }
         ensures writes_element { ElementTo self.now.sheet.now nodes.old c (λ anc name attrs kids. write_list_item_blocks (self_at self.now.skip levels) anc attrs kids ctx.old) text.old text.new result }
@@ -524,7 +525,7 @@ impl<'s, 'k> MDSerializer<'s, 'k> {
         before: Going,
         levels: usize,
     ) -> Result<Going, Full>
-        requires { Placeds self.now.sheet.now nodes.old from to × Short self.now.sheet.now × FitsIn item.ctx levels }
+        requires { Placeds self.now.sheet.now nodes.old from to × FitsIn item.ctx levels }
         ensures kept { Kept from to nodes.old nodes.new }
         ensures room { SameRoom text.old text.new }
         ensures goes_forest { ForestGoes self.now.sheet.now nodes.old from to (λ anc f. item_children (self_at self.now.skip levels) anc f (item_of item) (progress_on before text.old)) text.old text.new result }
@@ -551,7 +552,7 @@ impl<'s, 'k> MDSerializer<'s, 'k> {
         before: Going,
         levels: usize,
     ) -> Result<Going, Full>
-        requires { PlacedNode self.now.sheet.now nodes.old c × (end_at nodes.old c ≤ to) × Short self.now.sheet.now × FitsIn item.ctx levels }
+        requires { PlacedNode self.now.sheet.now nodes.old c × (end_at nodes.old c ≤ to) × FitsIn item.ctx levels }
         ensures kept { Kept c (end_at nodes.old c) nodes.old nodes.new }
         ensures room { SameRoom text.old text.new }
         ensures goes_forest { ForestGoes self.now.sheet.now nodes.old c (end_at nodes.old c) (λ anc f. item_children (self_at self.now.skip levels) anc f (item_of item) (progress_on before text.old)) text.old text.new result }
@@ -585,7 +586,7 @@ impl<'s, 'k> MDSerializer<'s, 'k> {
         before: Going,
         levels: usize,
     ) -> Result<Going, Full>
-        requires { PlacedNode self.now.sheet.now nodes.old c × Short self.now.sheet.now × FitsIn item.ctx levels }
+        requires { PlacedNode self.now.sheet.now nodes.old c × FitsIn item.ctx levels }
         ensures kept { Kept c (end_at nodes.old c) nodes.old nodes.new }
         ensures room { SameRoom text.old text.new }
         ensures goes_forest { ForestGoes self.now.sheet.now nodes.old c (end_at nodes.old c) (λ anc f. item_child (self_at self.now.skip levels) anc f blank (item_of item) (progress_on before text.old)) text.old text.new result }
@@ -617,7 +618,7 @@ impl<'s, 'k> MDSerializer<'s, 'k> {
         item: Item,
         levels: usize,
     ) -> Result<(), Full>
-        requires { PlacedNode self.now.sheet.now nodes.old c × (name ≡ name_at self.now.sheet.now (place_at nodes.old c)) × Short self.now.sheet.now × FitsIn item.ctx levels }
+        requires { PlacedNode self.now.sheet.now nodes.old c × (name ≡ name_at self.now.sheet.now (place_at nodes.old c)) × FitsIn item.ctx levels }
         ensures kept { Kept c (end_at nodes.old c) nodes.old nodes.new }
         ensures room { SameRoom text.old text.new }
         ensures writes_forest { ForestTo self.now.sheet.now nodes.old c (end_at nodes.old c) (λ anc f. inline_step (self_at self.now.skip levels) anc f blank (item_of item)) text.old text.new result }
@@ -641,7 +642,7 @@ impl<'s, 'k> MDSerializer<'s, 'k> {
         before: Going,
         levels: usize,
     ) -> Result<Going, Full>
-        requires { Placed self.now.sheet.now nodes.old c × (name ≡ name_at self.now.sheet.now (place_at nodes.old c)) × Short self.now.sheet.now × FitsIn item.ctx levels }
+        requires { Placed self.now.sheet.now nodes.old c × (name ≡ name_at self.now.sheet.now (place_at nodes.old c)) × FitsIn item.ctx levels }
         ensures kept { Kept c (end_at nodes.old c) nodes.old nodes.new }
         ensures room { SameRoom text.old text.new }
         ensures goes_element { ElementGoes self.now.sheet.now nodes.old c (λ anc name attrs kids. block_child (self_at self.now.skip levels) anc (element name attrs kids nothing) (item_of item) (progress_on before text.old)) text.old text.new result }
@@ -668,7 +669,7 @@ impl<'s, 'k> MDSerializer<'s, 'k> {
         first: bool,
         levels: usize,
     ) -> Result<(), Full>
-        requires { Placed self.now.sheet.now nodes.old c × (name ≡ name_at self.now.sheet.now (place_at nodes.old c)) × Short self.now.sheet.now × FitsIn item.ctx levels }
+        requires { Placed self.now.sheet.now nodes.old c × (name ≡ name_at self.now.sheet.now (place_at nodes.old c)) × FitsIn item.ctx levels }
         ensures kept { Kept c (end_at nodes.old c) nodes.old nodes.new }
         ensures room { SameRoom text.old text.new }
         ensures writes_element { ElementTo self.now.sheet.now nodes.old c (λ anc name attrs kids. led_step (self_at self.now.skip levels) anc (element name attrs kids nothing) (item_of item) first) text.old text.new result }
@@ -689,7 +690,7 @@ impl<'s, 'k> MDSerializer<'s, 'k> {
         item: Item,
         levels: usize,
     ) -> Result<(), Full>
-        requires { Placed self.now.sheet.now nodes.old c × (name ≡ name_at self.now.sheet.now (place_at nodes.old c)) × Short self.now.sheet.now × FitsIn item.ctx levels }
+        requires { Placed self.now.sheet.now nodes.old c × (name ≡ name_at self.now.sheet.now (place_at nodes.old c)) × FitsIn item.ctx levels }
         ensures kept { Kept c (end_at nodes.old c) nodes.old nodes.new }
         ensures room { SameRoom text.old text.new }
         ensures writes_element { ElementTo self.now.sheet.now nodes.old c (λ anc name attrs kids. body_step (self_at self.now.skip levels) anc (element name attrs kids nothing) (item_of item)) text.old text.new result }
@@ -713,7 +714,7 @@ impl<'s, 'k> MDSerializer<'s, 'k> {
         item: Item,
         levels: usize,
     ) -> Result<(), Full>
-        requires { Placed self.now.sheet.now nodes.old c × Short self.now.sheet.now × FitsIn item.ctx levels }
+        requires { Placed self.now.sheet.now nodes.old c × FitsIn item.ctx levels }
         ensures kept { Kept c (end_at nodes.old c) nodes.old nodes.new }
         ensures room { SameRoom text.old text.new }
         ensures writes_element { ElementTo self.now.sheet.now nodes.old c (λ anc name attrs kids. write_list_item_indented (self_at self.now.skip levels) anc (element name attrs kids nothing) (item_of item)) text.old text.new result }
@@ -735,7 +736,7 @@ impl<'s, 'k> MDSerializer<'s, 'k> {
         opts: FormatOpts,
         levels: usize,
     ) -> Result<(), Full>
-        requires { Placed self.now.sheet.now nodes.old at × Short self.now.sheet.now × Fits opts (levels + 1) }
+        requires { Placed self.now.sheet.now nodes.old at × Fits opts (levels + 1) }
         ensures kept { Kept at (end_at nodes.old at) nodes.old nodes.new }
         ensures room { SameRoom text.old text.new }
         ensures writes_element { ElementTo self.now.sheet.now nodes.old at (λ anc name attrs kids. write_table (self_at self.now.skip levels) anc opts name attrs kids) text.old text.new result }
@@ -764,7 +765,7 @@ impl<'s, 'k> MDSerializer<'s, 'k> {
         opts: FormatOpts,
         levels: usize,
     ) -> Result<(), Full>
-        requires { SomeRows self.now.sheet.now nodes.old from to × ((j : ℕ) → from ≤ j → j < to → end_at nodes.old j ≤ to) × Short self.now.sheet.now × Fits opts (levels + 1) }
+        requires { SomeRows self.now.sheet.now nodes.old from to × ((j : ℕ) → from ≤ j → j < to → end_at nodes.old j ≤ to) × Fits opts (levels + 1) }
         ensures kept { Kept from to nodes.old nodes.new }
         ensures room { SameRoom text.old text.new }
         ensures rows_writes { (rows : List (List Cell)) → Rows self.now.sheet.now nodes.old from to rows → RowsTo text.old text.new (table_lengths self.now.sheet.now nodes.new from to) result (rows_texts (self_at self.now.skip levels) opts rows) }
@@ -788,7 +789,7 @@ impl<'s, 'k> MDSerializer<'s, 'k> {
         opts: FormatOpts,
         levels: usize,
     ) -> Result<(), Full>
-        requires { SomeRow self.now.sheet.now nodes.old tr × Short self.now.sheet.now × Fits opts (levels + 1) }
+        requires { SomeRow self.now.sheet.now nodes.old tr × Fits opts (levels + 1) }
         ensures kept { Kept (tr + 1) (end_at nodes.old tr) nodes.old nodes.new }
         ensures room { SameRoom text.old text.new }
         ensures row_writes { (cells : List Cell) → RowAt self.now.sheet.now nodes.old tr cells → RowTo text.old text.new (row_lengths self.now.sheet.now nodes.new tr) result (row_texts (self_at self.now.skip levels) opts cells) }
@@ -816,7 +817,7 @@ impl<'s, 'k> MDSerializer<'s, 'k> {
         opts: FormatOpts,
         levels: usize,
     ) -> Wrote
-        requires { Placed self.now.sheet.now nodes.old c × (length self.now.sheet.now ≤ 1048576) × Fits opts (levels + 1) }
+        requires { Placed self.now.sheet.now nodes.old c × Fits opts (levels + 1) }
         ensures kept { Kept c (end_at nodes.old c) nodes.old nodes.new }
         ensures writes { (name : Bytes) (attrs : List Attr) (kids : Forest) (anc : Ancestors) (th : Bool) → ElementAt self.now.sheet.now nodes.old c name attrs kids → Around self.now.sheet.now nodes.old (parent_at nodes.old c) anc → Writes (length room.old) room.new result (cell_text (self_at self.now.skip levels) opts (record { ancestors = anc; is_th = th; node = element name attrs kids nothing })) }
     {

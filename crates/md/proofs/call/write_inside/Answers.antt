@@ -26,7 +26,6 @@ pub write_behind-requires : goal.write_behind-requires
 write_behind-requires c =
     let a = c.args in (
       (without (skip_of a.serializer.now.skip) a.serializer.now.sheet.now a.nodes.now a.start _ c.requires c.node_end-end.ensures).at,
-      c.requires.short,
       subst (λ (o : FormatOpts). Fits o 101) (sym (c.of-bits.ensures ∙ c.new.ensures)) (lit< tt),
     )
 

@@ -12,6 +12,11 @@ store_nodes-requires c =
     let a = c.args in
     storable a.sheet.now (skip_of a.skip) a.start (length a.nodes.now) c.requires
 
+pub invariant_of-serialize : goal.invariant_of-serialize
+invariant_of-serialize c =
+    let a = c.args in
+    record { short = (storable a.sheet.now (skip_of a.skip) a.start (length a.nodes.now) c.requires).short }
+
 pub serialize-requires : goal.serialize-requires
 serialize-requires c =
     let a = c.args in

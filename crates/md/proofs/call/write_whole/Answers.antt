@@ -24,7 +24,6 @@ pub write_behind-requires : goal.write_behind-requires
 write_behind-requires c =
     let a = c.args in (
       (with_node (skip_of a.serializer.now.skip) a.serializer.now.sheet.now a.nodes.now a.start _ c.requires (pos_of_ne-zero c.if-start-eq0.false) c.node_end-to.ensures).at,
-      c.requires.short,
       subst (λ (o : FormatOpts). Fits o 101) (sym (c.of-bits.ensures ∙ c.include_node.ensures ∙ ap include_node c.new.ensures)) (lit< tt),
     )
 

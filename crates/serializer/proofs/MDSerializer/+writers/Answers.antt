@@ -81,7 +81,6 @@ alone-block-requires t c = (
     node_placed c.requires.0 (block_tag_lem c.args.self.now.sheet.now (place_at c.args.nodes.now c.args.c) c.node_name-name.ensures c.node_is_list_item_block.ensures c.if-node_is_list_item_block.true),
     c.node_name-name.ensures,
     c.requires.1,
-    c.requires.2,
   ),
 )
 
@@ -162,8 +161,7 @@ blocks-children-requires t c =
       falls_children c.args.levels (c.args.c + 1) c.decreases c.node_end-to.type_inv,
       (
         placed_kids c.requires.0 c.node_end-to.ensures,
-        c.requires.1,
-        fits_blocks c.args.levels c.args.ctx.now c.item_from-item.result (begin_item true c.args.ctx.now (bytes c.args.text.now)) item_is c.requires.2,
+        fits_blocks c.args.levels c.args.ctx.now c.item_from-item.result (begin_item true c.args.ctx.now (bytes c.args.text.now)) item_is c.requires.1,
       ),
     )
 
@@ -204,7 +202,7 @@ body-push_link-requires t c =
     let p = c.requires.0 in (
       nest-fits c.args.text.now.room.now c.args.text.now.len c.args.text.now.fits (c.kids_behind.ensures.writes_element.for p.0.0 p.0.1 p.0.2 p.1.0 p.0.3 p.1.1) c.in_ok-n.was,
       omega (arith, c.node_place-place.ensures, (placed_node p).placed),
-      c.requires.3,
+      c.requires.2,
     )
 
 pub body-returns : goal.body-returns
@@ -284,7 +282,7 @@ cells-loop-r-init t c =
 
 pub cells-row-requires : goal.cells-row-requires
 cells-row-requires t c =
-    (falls_in c.args.levels c.decreases (lit< tt), (rows_row c.loop-r.invariant.1 c.loop-r-test.true, c.requires.2, c.requires.3))
+    (falls_in c.args.levels c.decreases (lit< tt), (rows_row c.loop-r.invariant.1 c.loop-r-test.true, c.requires.2))
 
 pub cells-returns-in_err-row : goal.cells-returns-in_err-row
 cells-returns-in_err-row t c =
@@ -330,7 +328,7 @@ child-node_end-end-requires t c =
 pub child-children-requires : goal.child-children-requires
 child-children-requires t c = (
   kids_fall c.args.levels c.args.c c.args.to c.decreases c.node_end-end.ensures c.requires.1 c.requires.0.later,
-  (wrapper_kids c.requires.0 c.node_end-end.ensures c.node_is_block_wrapper.ensures c.if-node_is_block_wrapper.true, c.requires.2, c.requires.3),
+  (wrapper_kids c.requires.0 c.node_end-end.ensures c.node_is_block_wrapper.ensures c.if-node_is_block_wrapper.true, c.requires.2),
 )
 
 pub child-is_blank_text-blank-requires : goal.child-is_blank_text-blank-requires
@@ -383,7 +381,7 @@ children-child-requires t c =
     let l = c.loop-c in
     let lt = c.loop-c-test.true in (
       child_falls c.args.levels c.decreases l.invariant.2 lt,
-      (node_kept l.invariant.1 (placeds_first l.invariant.3 lt), omega (arith, end_kept l.invariant.1 l.c, placeds_within l.invariant.3 lt), c.requires.1, c.requires.2),
+      (node_kept l.invariant.1 (placeds_first l.invariant.3 lt), omega (arith, end_kept l.invariant.1 l.c, placeds_within l.invariant.3 lt), c.requires.1),
     )
 
 pub children-returns-in_err-going : goal.children-returns-in_err-going
@@ -428,11 +426,11 @@ children-returns t c =
 
 pub flat-of-bits-requires : goal.flat-of-bits-requires
 flat-of-bits-requires t c =
-    omega (arith, fits_item c.args.levels c.args.ctx.now c.start_item.new.ctx c.list_item.result c.start_item.ensures.1 c.list_item.ensures c.requires.2)
+    omega (arith, fits_item c.args.levels c.args.ctx.now c.start_item.new.ctx c.list_item.result c.start_item.ensures.1 c.list_item.ensures c.requires.1)
 
 pub flat-kids-requires : goal.flat-kids-requires
 flat-kids-requires t c =
-    (falls_in c.args.levels c.decreases (lit< tt), (c.requires.0, c.requires.1, fits_item c.args.levels c.args.ctx.now c.start_item.new.ctx (unpacked c.of-bits.result) c.start_item.ensures.1 (c.of-bits.ensures ∙ c.list_item.ensures) c.requires.2))
+    (falls_in c.args.levels c.decreases (lit< tt), (c.requires.0, fits_item c.args.levels c.args.ctx.now c.start_item.new.ctx (unpacked c.of-bits.result) c.start_item.ensures.1 (c.of-bits.ensures ∙ c.list_item.ensures) c.requires.1))
 
 pub flat-returns : goal.flat-returns
 flat-returns t c =
@@ -509,8 +507,7 @@ indented-write_behind-requires t c = (
   falls_in c.args.levels c.decreases (lit< tt),
   (
     node_range c.node_end-to.ensures (placed_alone c.requires.0),
-    c.requires.1,
-    fits_alike (unpacked c.of-bits.result) c.args.item.ctx.opts c.args.levels (ap (λ (o : FormatOpts). o.offset) (c.of-bits.ensures ∙ c.include_node.ensures)) c.requires.2.0,
+    fits_alike (unpacked c.of-bits.result) c.args.item.ctx.opts c.args.levels (ap (λ (o : FormatOpts). o.offset) (c.of-bits.ensures ∙ c.include_node.ensures)) c.requires.1.0,
   ),
 )
 
@@ -564,7 +561,7 @@ inside-returns-then-flags-has_writer t c =
 
 pub inside-siblings-requires : goal.inside-siblings-requires
 inside-siblings-requires t c =
-    (falls_in c.args.levels c.decreases (lit< tt), (placed_kids c.requires.0 c.node_end-to.ensures, c.requires.1, omega (arith, c.requires.2)))
+    (falls_in c.args.levels c.decreases (lit< tt), (placed_kids c.requires.0 c.node_end-to.ensures, omega (arith, c.requires.1)))
 
 pub inside-returns-in_err-siblings : goal.inside-returns-in_err-siblings
 inside-returns-in_err-siblings t c =
@@ -612,11 +609,11 @@ item-has_blocks-requires t c =
 
 pub item-blocks-requires : goal.item-blocks-requires
 item-blocks-requires t c =
-    (falls_in c.args.levels c.decreases (lit< tt), (item_placed c.requires.0 (eqb-true _ 16 (sym c.requires.1 ∙ c.if-not-li.false)), c.requires.2, c.requires.3))
+    (falls_in c.args.levels c.decreases (lit< tt), (item_placed c.requires.0 (eqb-true _ 16 (sym c.requires.1 ∙ c.if-not-li.false)), c.requires.2))
 
 pub item-flat-requires : goal.item-flat-requires
 item-flat-requires t c =
-    (falls_in c.args.levels c.decreases (lit< tt), (item_placed c.requires.0 (eqb-true _ 16 (sym c.requires.1 ∙ c.if-not-li.false)), c.requires.2, c.requires.3))
+    (falls_in c.args.levels c.decreases (lit< tt), (item_placed c.requires.0 (eqb-true _ 16 (sym c.requires.1 ∙ c.if-not-li.false)), c.requires.2))
 
 pub item-returns-then-has_blocks : goal.item-returns-then-has_blocks
 item-returns-then-has_blocks t c =
@@ -642,7 +639,7 @@ items-loop-c-init t c = (
   kept_none c.args.nodes.now,
   omega arith,
   c.requires.0,
-  c.requires.2,
+  c.requires.1,
   turn_first c.args.self.now.sheet.now c.args.nodes.now c.args.from c.args.to (λ anc f. list_children (self_at c.args.self.now.skip c.args.levels) anc f c.args.first) c.args.text.now.room.now c.args.text.now.len c.args.text.now.fits,
 )
 
@@ -661,7 +658,7 @@ items-renumbered-ctx-requires t c =
 pub items-item-requires : goal.items-item-requires
 items-item-requires t c =
     let fits = fits_child c.args.levels (eqb c.node_name-li.result 16) (number_of (attr (ascii "value") (attrs_behind c.args.self.now.sheet.now c.node_place-place.result))) c.loop-c.ctx c.renumbered-ctx.result c.renumbered-ctx.ensures c.loop-c.invariant.4 in
-    (falls_in c.args.levels c.decreases (lit< tt), (node_kept c.loop-c.invariant.1 (placeds_first c.loop-c.invariant.3 c.loop-c-test.true), ap (λ (k : ℕ). eqb k 16) c.node_name-li.ensures, c.requires.1, fits))
+    (falls_in c.args.levels c.decreases (lit< tt), (node_kept c.loop-c.invariant.1 (placeds_first c.loop-c.invariant.3 c.loop-c-test.true), ap (λ (k : ℕ). eqb k 16) c.node_name-li.ensures, fits))
 
 pub items-returns-in_err-item : goal.items-returns-in_err-item
 items-returns-in_err-item t c =
@@ -740,7 +737,7 @@ kids-returns-then-levels-is_one_text t c =
 
 pub kids-write-requires : goal.kids-write-requires
 kids-write-requires t c =
-    (falls_in c.args.levels c.decreases (lit< tt), (placed_kids c.requires.0 c.node_end-to.ensures, c.requires.1, c.requires.2))
+    (falls_in c.args.levels c.decreases (lit< tt), (placed_kids c.requires.0 c.node_end-to.ensures, c.requires.1))
 
 pub kids-returns-in_err-write : goal.kids-returns-in_err-write
 kids-returns-in_err-write t c =
@@ -801,7 +798,7 @@ link-body-requires-then-n-eq0 t c =
     let a = c.args in
     let p = c.requires.0 in
     let w = done c.in_ok-n.was (written _ _ _ p.0.3) in
-    (falls_in a.levels c.decreases (lit< tt), (p, c.requires.1, subst (λ (o : FormatOpts). Fits o a.levels) (sym c.fresh-fresh.ensures) (omega (arith, c.requires.2)), c.requires.3))
+    (falls_in a.levels c.decreases (lit< tt), (p, subst (λ (o : FormatOpts). Fits o a.levels) (sym c.fresh-fresh.ensures) (omega (arith, c.requires.1)), c.requires.2))
 
 pub link-returns-then-n-eq0 : goal.link-returns-then-n-eq0
 link-returns-then-n-eq0 t c =
@@ -900,7 +897,7 @@ node-opened-requires t c =
 pub node-inside-requires : goal.node-inside-requires
 node-inside-requires t c =
     let p = node_placed c.requires.0 (tag_is c.args.self.now.sheet.now c.args.nodes.now c.args.at c.tag_at.ensures c.node_place-place.ensures c.if-tag_at-ne-OPEN.false) in
-    (falls_in c.args.levels c.decreases (lit< tt), (p, c.requires.1, c.requires.2))
+    (falls_in c.args.levels c.decreases (lit< tt), (p, c.requires.1))
 
 pub node-returns : goal.node-returns
 unfolding serializer
@@ -942,7 +939,7 @@ row-loop-c-init t c =
 
 pub row-cell-requires : goal.row-cell-requires
 row-cell-requires t c =
-    (falls_in c.args.levels c.decreases (lit< tt), (row_placed c.loop-c.invariant.1 c.loop-c-test.true, c.requires.1, c.requires.2))
+    (falls_in c.args.levels c.decreases (lit< tt), (row_placed c.loop-c.invariant.1 c.loop-c-test.true, c.requires.1))
 
 pub row-store_span-requires : goal.row-store_span-requires
 row-store_span-requires t c =
@@ -1039,7 +1036,7 @@ pub write-node-requires : goal.write-node-requires
 write-node-requires t c =
     let l = c.loop-at in
     let p : 0 < c.args.levels = omega (arith, c.if-levels-eq0.false) in
-    (falls_out c.args.levels c.decreases p (lit< tt), (node_kept l.invariant.1 (placeds_first l.invariant.3 c.loop-at-test.true), c.requires.1, omega (arith, p, c.requires.2)))
+    (falls_out c.args.levels c.decreases p (lit< tt), (node_kept l.invariant.1 (placeds_first l.invariant.3 c.loop-at-test.true), omega (arith, p, c.requires.1)))
 
 pub write-returns-in_err-node : goal.write-returns-in_err-node
 write-returns-in_err-node t c =
@@ -1103,8 +1100,7 @@ write_emphasis-write_behind-requires t c = (
   falls_in c.args.levels c.decreases (lit< tt),
   (
     placed_kids c.requires.0 c.node_end-to.ensures,
-    c.requires.2,
-    subst (λ (o : FormatOpts). Fits o c.args.levels) (sym (c.of-bits.ensures ∙ c.emphasis_opts.ensures)) (omega (arith, c.requires.3)),
+    subst (λ (o : FormatOpts). Fits o c.args.levels) (sym (c.of-bits.ensures ∙ c.emphasis_opts.ensures)) (omega (arith, c.requires.2)),
   ),
 )
 
@@ -1167,7 +1163,7 @@ write_link-returns-in-None t c =
 
 pub write_list-items-requires : goal.write_list-items-requires
 write_list-items-requires t c =
-    (falls_in c.args.levels c.decreases (lit< tt), (placed_kids c.requires.0 c.node_end-to.ensures, c.requires.2, fits_begun c.args.self.now.sheet.now c.node_place-place.result c.args.name c.args.opts c.new-ctx.ensures c.kind_of-kind.ensures c.args.levels c.requires.3))
+    (falls_in c.args.levels c.decreases (lit< tt), (placed_kids c.requires.0 c.node_end-to.ensures, fits_begun c.args.self.now.sheet.now c.node_place-place.result c.args.name c.args.opts c.new-ctx.ensures c.kind_of-kind.ensures c.args.levels c.requires.2))
 
 pub write_list-returns : goal.write_list-returns
 write_list-returns t c =
@@ -1233,7 +1229,6 @@ write_table-cells-requires t c =
         (R, rows_at c.args.self.now.sheet.now c.args.nodes.now c.next_filled_row-first.result c.node_end-to.result R (filled _ _ _ p.1.0 p.0.3 p.1.1)),
         (λ j l m. ends_in c.args.self.now.sheet.now c.args.nodes.now c.args.at (c.args.at + 1) c.node_end-to.result p.0.2 (element_kids p.0.3 c.node_end-to.ensures) j (omega (arith, l, c.next_filled_row-first.ensures.later)) m),
         c.requires.1,
-        c.requires.2,
       ),
     )
 
