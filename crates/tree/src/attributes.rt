@@ -3,7 +3,7 @@ ghost use Rattle.std.specs.Prelude.{◌≡◌, true, ◌&&◌, ◌||◌, [], eqb
 ghost use Rattle.spec.specs.Bytes.{same};
 ghost use Rattle.spec.specs.Tree.{Tail, attr, field_then};
 ghost use Rattle.input.specs.Fields.{field};
-ghost use Rattle.tree.specs.Represents.{attrs_behind};
+ghost use Rattle.tree.specs.NodeFields.{attrs_of};
 ghost use Rattle.tree.specs.Attributes.{ends_attrs, either_attr, language_attr, Valued};
 
 use crate::field::NodeField;
@@ -39,7 +39,7 @@ fn value_of<'a>(f: Field<'a>) -> &'a [u8]
 impl<'s> NodeField<'s> {
     // The value of the first attribute with one of two names.
     fn either_attribute(self, a: &[u8], b: &[u8]) -> Option<&'s [u8]>
-        ensures { Valued self.entry.sheet.now result (either_attr a.now b.now (attrs_behind self.entry.sheet.now self.entry.place)) }
+        ensures { Valued self.entry.sheet.now result (either_attr a.now b.now (attrs_of self.entry)) }
     {
         let mut fields = Fields::new(&self.sheet[self.span().end..]);
         let found = fields.find(|f| ends_attributes(f.tag) || is_named(f.tag, f.body, a, b))?;
@@ -55,7 +55,7 @@ impl<'s> NodeField<'s> {
     // Whether the element is known to have no attributes.
     #[tactic(auto, using(crate::proofs::Attrs::attrs_none, crate::proofs::Attrs::attrs_end))]
     fn has_none(self) -> bool
-        ensures { result ≡ true → attrs_behind self.entry.sheet.now self.entry.place ≡ [] }
+        ensures { result ≡ true → attrs_of self.entry ≡ [] }
     {
         let p = self.span().end;
         self.sheet.len() - p < 3 || ends_attributes(self.sheet[p])
@@ -63,7 +63,7 @@ impl<'s> NodeField<'s> {
 
     // The value of an attribute of the element: the first, where its name is repeated.
     pub fn attribute(self, name: &[u8]) -> Option<&'s [u8]>
-        ensures { Valued self.entry.sheet.now result (attr name.now (attrs_behind self.entry.sheet.now self.entry.place)) }
+        ensures { Valued self.entry.sheet.now result (attr name.now (attrs_of self.entry)) }
     {
         if self.has_none() {
             return None;
@@ -75,7 +75,7 @@ impl<'s> NodeField<'s> {
 
     // The value of the first of the attributes of the element that say a language.
     pub fn language(self) -> Option<&'s [u8]>
-        ensures { Valued self.entry.sheet.now result (language_attr (attrs_behind self.entry.sheet.now self.entry.place)) }
+        ensures { Valued self.entry.sheet.now result (language_attr (attrs_of self.entry)) }
     {
         self.either_attribute(b"data-lang", b"data-language")
     }

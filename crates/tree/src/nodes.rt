@@ -15,6 +15,7 @@ pub struct Tree<'s, 'n> {
 }
 
 impl<'s, 'n> Tree<'s, 'n> {
+    ghost use Rattle.tree.specs.NodeFields.{IsField};
     ghost use Rattle.tree.specs.Siblings.{Over};
 
     // Where in the sheet the field of node i stands.
@@ -29,7 +30,7 @@ impl<'s, 'n> Tree<'s, 'n> {
     // The field of node i.
     pub fn field(&self, i: usize) -> NodeField<'s>
         requires { (i * 24 + 24 ≤ length self.now.nodes.now) × (place_at self.now.nodes.now i + 3 ≤ length self.now.sheet.now) }
-        ensures { (result.sheet.now ≡ self.now.sheet.now) × (result.place ≡ place_at self.now.nodes.now i) }
+        ensures { IsField self.now.sheet.now self.now.nodes.now i result }
     {
         NodeField {
             sheet: self.sheet,

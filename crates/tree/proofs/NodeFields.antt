@@ -1,0 +1,10 @@
+-- What a field says is said of the node whose field it is.
+use Prim.Native.Nat.{ℕ}
+use mathlib.Core.Path.{◌≡◌, ap, ◌∙◌}
+use Rattle.spec.specs.Bytes.{Bytes}
+use Rattle.tree.specs.Memory.{place_at}
+use Rattle.tree.specs.NodeFields.{IsField}
+use Rattle.tree.specs.declared.field.NodeField.{NodeField}
+
+pub of_node : {A : Type 0} → {sh ns : Bytes} → {i : ℕ} → {f : NodeField} → (g : Bytes → ℕ → A) → IsField sh ns i f → g f.sheet.now f.place ≡ g sh (place_at ns i)
+of_node {A} {sh} {ns} {i} {f} g h = ap (λ (s : Bytes). g s f.place) h.sheet_is ∙ ap (g sh) h.place_is
