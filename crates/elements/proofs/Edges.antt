@@ -44,8 +44,8 @@ front_stays p (a ∷ x) y {b} {t} e = go (p a) (front_stays p x y) e
     go false f e = ap (λ (w : Bytes). w ++ y) e
 
 module _ (sh ns : Bytes) (e i : ℕ) where
-  -- the field of node i stands at p, its text is x, of which `rest` is left behind the tabs and blanks at its front
-  module _ (l : i < e) {p : ℕ} (q : p ≡ place_at ns i) {x rest : Bytes} (h : text_at sh p ≡ x) (w : rest ≡ trim_start_matches is_tab_or_blank x) where
+  -- the text of node i is x, of which `rest` is left behind the tabs and blanks at its front
+  module _ (l : i < e) {x rest : Bytes} (h : x ≡ text_at sh (place_at ns i)) (w : rest ≡ trim_start_matches is_tab_or_blank x) where
     pub begin_here : 1 ≤ length rest → eqb (get_or rest 0 0) 10 ≡ begins (pieces sh ns e i)
     begin_here m = go rest w m
       where
@@ -53,13 +53,13 @@ module _ (sh ns : Bytes) (e i : ℕ) where
         go [] w m = absurd (omega arith)
         go (b ∷ t) w m =
             starts_byte (b ∷ (t ++ pieces sh ns e (i + 1))) 10 (λ z. omega arith)
-            ∙ sym (ap (starts_with (ascii "\n")) (ap (trim_start_matches is_tab_or_blank) (pieces_on sh ns e i l q h) ∙ front_stays is_tab_or_blank x (pieces sh ns e (i + 1)) (sym w)))
+            ∙ sym (ap (starts_with (ascii "\n")) (ap (trim_start_matches is_tab_or_blank) (pieces_on sh ns e i l h) ∙ front_stays is_tab_or_blank x (pieces sh ns e (i + 1)) (sym w)))
 
     pub begin_on : length rest ≤ 0 → begins (pieces sh ns e i) ≡ begins (pieces sh ns e (i + 1))
     begin_on m = go rest w m
       where
         go : (r : Bytes) → r ≡ trim_start_matches is_tab_or_blank x → length r ≤ 0 → begins (pieces sh ns e i) ≡ begins (pieces sh ns e (i + 1))
-        go [] w m = ap (starts_with (ascii "\n")) (ap (trim_start_matches is_tab_or_blank) (pieces_on sh ns e i l q h) ∙ front_goes is_tab_or_blank x (pieces sh ns e (i + 1)) (sym w))
+        go [] w m = ap (starts_with (ascii "\n")) (ap (trim_start_matches is_tab_or_blank) (pieces_on sh ns e i l h) ∙ front_goes is_tab_or_blank x (pieces sh ns e (i + 1)) (sym w))
         go (b ∷ t) w m = absurd (omega arith)
 
   pub begin_none : e ≤ i → begins (pieces sh ns e i) ≡ false

@@ -14,7 +14,10 @@ use Rattle.spec.specs.Md.Elements.List.{name_of, node_is_list_item_block, has_bl
 use Rattle.tree.specs.Memory.{place_at}
 use Rattle.tree.specs.Represents.{Rep, head_of, rest_of}
 use Rattle.tree.specs.Nodes.{name_at, text_at}
+use Rattle.tree.specs.NodeFields.{IsField}
+use Rattle.tree.specs.declared.field.NodeField.{NodeField}
 use Rattle.tree.proofs.Firsts.{first}
+use Rattle.tree.proofs.NodeFields.{of_node}
 use Rattle.tree.proofs.Kin.{first_name, first_text_lem}
 use Rattle.lists_links.specs.Parsed.{parsed_of}
 use Rattle.std.specs.Option.{unwrap_or}
@@ -38,29 +41,29 @@ module _ (sh ns : Bytes) (parent i e : ℕ) (f : Forest) (h : Rep sh ns parent i
   pub blocks_on : node_is_list_item_block (name_at sh (place_at ns i)) ≡ false → has_blocks f ≡ has_blocks (rest_of f)
   blocks_on q = blocks_at ∙ rw q
 
--- ---- blocks and nothing else. The field of node i stands at p
+-- ---- blocks and nothing else. The field of node i is k
 
-module _ (sh ns : Bytes) (parent i e : ℕ) (f : Forest) (h : Rep sh ns parent i e f) (l : i < e) {p : ℕ} (q : p ≡ place_at ns i) where
-  pub only_text : {x : Bytes} → get_or sh p 0 ≡ 4 → text_at sh p ≡ x → only_blocks f ≡ (is_blank x && only_blocks (rest_of f))
+module _ (sh ns : Bytes) (parent i e : ℕ) (f : Forest) (h : Rep sh ns parent i e f) (l : i < e) {k : NodeField} (q : IsField sh ns i k) where
+  pub only_text : {x : Bytes} → get_or k.sheet.now k.place 0 ≡ 4 → x ≡ text_at k.sheet.now k.place → only_blocks f ≡ (is_blank x && only_blocks (rest_of f))
   unfolding only_blocks
   only_text {x} t b =
-      let u : get_or sh (place_at ns i) 0 ≡ 4 = sym (ap (λ (k : ℕ). get_or sh k 0) q) ∙ t in
+      let u : get_or sh (place_at ns i) 0 ≡ 4 = sym (of_node (λ (s : Bytes) (p : ℕ). get_or s p 0) q) ∙ t in
       ap only_blocks ((first sh ns parent i e f h l).text_is u)
-      ∙ ap (λ (y : Bytes). is_blank y && only_blocks (rest_of f)) (sym (first_text_lem sh (place_at ns i) u) ∙ (sym (ap (text_at sh) q) ∙ b))
+      ∙ ap (λ (y : Bytes). is_blank y && only_blocks (rest_of f)) (sym (first_text_lem sh (place_at ns i) u) ∙ sym (b ∙ of_node text_at q))
 
-  pub only_comment : (get_or sh p 0 ≡ 1 → ⊥) → (get_or sh p 0 ≡ 4 → ⊥) → only_blocks f ≡ only_blocks (rest_of f)
+  pub only_comment : (get_or k.sheet.now k.place 0 ≡ 1 → ⊥) → (get_or k.sheet.now k.place 0 ≡ 4 → ⊥) → only_blocks f ≡ only_blocks (rest_of f)
   unfolding only_blocks
   only_comment a b =
-      ap only_blocks ((first sh ns parent i e f h l).comment_is (λ t. a (ap (λ (k : ℕ). get_or sh k 0) q ∙ t)) (λ t. b (ap (λ (k : ℕ). get_or sh k 0) q ∙ t)))
+      ap only_blocks ((first sh ns parent i e f h l).comment_is (λ t. a (of_node (λ (s : Bytes) (p : ℕ). get_or s p 0) q ∙ t)) (λ t. b (of_node (λ (s : Bytes) (p : ℕ). get_or s p 0) q ∙ t)))
 
-  pub only_element : get_or sh p 0 ≡ 1
+  pub only_element : get_or k.sheet.now k.place 0 ≡ 1
       → only_blocks f
       ≡ ((is_list (name_at sh (place_at ns i))
       || (node_is_list_item_block (name_at sh (place_at ns i)) && (not (eqb (name_at sh (place_at ns i)) 14) && not (eqb (name_at sh (place_at ns i)) 15))))
       && only_blocks (rest_of f))
   unfolding only_blocks name_at
   only_element t =
-      let u : get_or sh (place_at ns i) 0 ≡ 1 = sym (ap (λ (k : ℕ). get_or sh k 0) q) ∙ t in
+      let u : get_or sh (place_at ns i) 0 ≡ 1 = sym (of_node (λ (s : Bytes) (p : ℕ). get_or s p 0) q) ∙ t in
       ap only_blocks ((first sh ns parent i e f h l).element_is u) ∙ rw (eq-eqb (get_or sh (place_at ns i) 0) 1 u)
 
 -- ---- texts before a list

@@ -37,12 +37,12 @@ module _ (sh ns : Bytes) where
   line_numbers = total_rep false (λ (x y : Bool). x || y) (λ (x : Bool). refl) or_assoc (has_line sh ns) sh ns is_multiline refl (line_node sh ns)
 
   module _ (e i : ℕ) where
-    -- the field of node i stands at p, and its text is x
-    module _ (l : i < e) {p : ℕ} {x : Bytes} (q : p ≡ place_at ns i) (h : text_at sh p ≡ x) where
+    -- the text of node i is x
+    module _ (l : i < e) {x : Bytes} (h : x ≡ text_at sh (place_at ns i)) where
       line_at : some_line sh ns e i ≡ (isin 10 (trim x) || some_line sh ns e (i + 1))
       line_at =
           total_on false (λ (x y : Bool). x || y) (has_line sh ns) i e l
-          ∙ ap (λ (y : Bytes). isin 10 (trim y) || some_line sh ns e (i + 1)) (sym (ap (text_at sh) q) ∙ h)
+          ∙ ap (λ (y : Bytes). isin 10 (trim y) || some_line sh ns e (i + 1)) (sym h)
 
       pub line_here : isin 10 (trim x) ≡ true → some_line sh ns e i ≡ true
       line_here b = line_at ∙ rw b

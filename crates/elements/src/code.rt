@@ -26,7 +26,7 @@ use text::buffer::{
 use text::class::{Blank, TabOrBlank};
 use text::text::Text;
 use text::white_space::{is_white_space_1, is_white_space_2, is_white_space_3, trim_end};
-use tree::nodes::{Tree, text_at};
+use tree::nodes::Tree;
 
 // How many bytes the White_Space character has that begins s; 0 where none does.
 #[tactic(auto, using(crate::proofs::WhiteStarts::width_one, crate::proofs::WhiteStarts::width_two, crate::proofs::WhiteStarts::width_three, crate::proofs::WhiteStarts::width_none))]
@@ -69,8 +69,7 @@ fn is_multiline(tree: &Tree, from: usize, to: usize) -> bool
     ensures { (parent : ℕ) (f : Forest) → Rep tree.now.sheet.now tree.now.nodes.now parent from to f → result ≡ def.is_multiline f }
 {
     for i in from..to {
-        let place = tree.node_place(i);
-        if is_multiline_text(&tree.sheet[text_at(tree.sheet, place)]) {
+        if is_multiline_text(tree.field(i).text()) {
             return true;
         }
     }
@@ -83,8 +82,7 @@ fn begins_line(tree: &Tree, from: usize, to: usize) -> bool
     ensures { (parent : ℕ) (f : Forest) → Rep tree.now.sheet.now tree.now.nodes.now parent from to f → result ≡ starts_with (ascii "\n") (trim_start_matches def.is_tab_or_blank (text_of f)) }
 {
     for i in from..to {
-        let place = tree.node_place(i);
-        let part = &tree.sheet[text_at(tree.sheet, place)];
+        let part = tree.field(i).text();
         if let [first, ..] = &part[trim_start_matches::<TabOrBlank>(part)..] {
             return *first == b'\n';
         }
@@ -111,8 +109,7 @@ fn ends_line(tree: &Tree, from: usize, to: usize) -> bool
 {
     let mut ended = false;
     for i in from..to {
-        let place = tree.node_place(i);
-        ended = ended_by(&tree.sheet[text_at(tree.sheet, place)], ended);
+        ended = ended_by(tree.field(i).text(), ended);
     }
     ended
 }

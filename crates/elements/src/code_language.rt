@@ -5,7 +5,8 @@ ghost use Rattle.spec.specs.Tree.{Attr, Forest, attr};
 ghost use Rattle.spec.specs.Md.MDSerializer.{Ancestors};
 ghost use Rattle.spec.specs.Md.Elements.Code as def;
 ghost use Rattle.tree.specs.Memory.{parent_at};
-ghost use Rattle.tree.specs.Represents.{Rep, Around, attrs_behind};
+ghost use Rattle.tree.specs.NodeFields.{attrs_of};
+ghost use Rattle.tree.specs.Represents.{Rep, Around};
 ghost use Rattle.elements.specs.Languages.{Language, Within};
 ghost use Rattle.nodes.specs.Stands.{Siblings, ElementAt, Placed};
 
@@ -13,7 +14,7 @@ use nodes::nodes::node_name;
 use spec::element::CODE;
 use text::buffer::starts_with;
 use text::class::{ByteClass, White};
-use tree::attributes::{attribute, language_attribute};
+use tree::field::NodeField;
 use tree::nodes::Tree;
 
 // What begins a word of a class that says a language.
@@ -32,8 +33,7 @@ fn nearest_language<'a>(tree: &Tree<'a, '_>, i: usize) -> Option<&'a [u8]>
         if at == 0 {
             return None;
         }
-        let place = tree.node_place(at);
-        if let Some(language) = language_attribute(tree.sheet, place) {
+        if let Some(language) = tree.field(at).language() {
             return Some(language);
         }
         at = tree.node_parent(at);
@@ -51,11 +51,10 @@ fn class_language(class: &[u8]) -> Option<&[u8]>
         .strip_prefix(PREFIX)
 }
 
-fn class_of(sheet: &[u8], place: usize) -> Option<&[u8]>
-    requires { place + 3 ≤ length sheet.now }
-    ensures { Language sheet.now result (def.class_language (attr (ascii "class") (attrs_behind sheet.now place))) }
+fn class_of<'s>(field: NodeField<'s>) -> Option<&'s [u8]>
+    ensures { Language field.entry.sheet.now result (def.class_language (attr (ascii "class") (attrs_of field.entry))) }
 {
-    class_language(attribute(sheet, place, b"class")?)
+    class_language(field.attribute(b"class")?)
 }
 
 // Of the first `code` among the siblings.
@@ -65,7 +64,7 @@ fn find_code_language_css_class<'a>(tree: &Tree<'a, '_>, from: usize, to: usize)
 {
     for i in tree.siblings(from, to) {
         if node_name(tree, i) == CODE {
-            return class_of(tree.sheet, tree.node_place(i));
+            return class_of(tree.field(i));
         }
     }
     None

@@ -1,5 +1,5 @@
 // elements/list.rs: the steps of a list and of its items that reach no writer, and the contexts of the items.
-ghost use Rattle.std.specs.Prelude.{◌≡◌, cond, ℕ, ◌+◌, ◌≤◌, length};
+ghost use Rattle.std.specs.Prelude.{◌≡◌, cond, ℕ};
 ghost use Rattle.std.proofs.Math.Option.{Option};
 ghost use Rattle.spec.specs.Bytes.{ascii};
 ghost use Rattle.spec.specs.Tree.{attr};
@@ -7,7 +7,7 @@ ghost use Rattle.spec.specs.Out.{push};
 ghost use Rattle.spec.specs.Md.Ctx.{with_kind};
 ghost use Rattle.spec.specs.Md.Elements.List as def;
 ghost use Rattle.spec.specs.declared.ctx.ListKind.TheVariants as kinds;
-ghost use Rattle.tree.specs.Represents.{attrs_behind};
+ghost use Rattle.tree.specs.NodeFields.{attrs_of};
 ghost use Rattle.lists_links.specs.Parsed.{parsed_of};
 ghost use Rattle.text.specs.Texts.{WritesTo};
 ghost use Rattle.elements.specs.ItemStep.{ended_list, child_opts, line_if, flow_prefix, ended_flow};
@@ -19,6 +19,7 @@ use normalized::text_utils::{add_linebreaks, push_linebreak};
 use spec::ctx::{FormatOpts, ListContext, ListKind};
 use text::buffer::Full;
 use text::text::Text;
+use tree::field::NodeField;
 
 // A blank line behind a list.
 #[tactic(auto, using(text::proofs::Texts::as_step, text::proofs::Texts::kept))]
@@ -50,16 +51,15 @@ fn with_number(ctx: ListContext, number: Option<u32>) -> ListContext
 }
 
 // An `li` with a `value` renumbers itself and those after it.
-pub fn renumbered(sheet: &[u8], place: usize, li: bool, ctx: ListContext) -> ListContext
-    requires { place + 3 ≤ length sheet.now }
-    ensures { result ≡ cond li (def.renumbered ctx.kind (def.number_of (attr (ascii "value") (attrs_behind sheet.now place))) ctx) ctx }
+pub fn renumbered(field: NodeField, li: bool, ctx: ListContext) -> ListContext
+    ensures { result ≡ cond li (def.renumbered ctx.kind (def.number_of (attr (ascii "value") (attrs_of field.entry))) ctx) ctx }
 {
     if !li {
         return ctx;
     }
     match ctx.kind {
         ListKind::Ul => ctx,
-        ListKind::Ol(_) => with_number(ctx, number_of(sheet, place, b"value")),
+        ListKind::Ol(_) => with_number(ctx, number_of(field, b"value")),
     }
 }
 

@@ -1,6 +1,6 @@
 // elements/link.rs: what follows once a link's text stands behind the text.
 ghost use Rattle.std.specs.Prelude.{◌+◌, ◌≤◌, length, take, drop};
-ghost use Rattle.tree.specs.Represents.{attrs_behind};
+ghost use Rattle.tree.specs.NodeFields.{attrs_of};
 ghost use Rattle.text.specs.Texts.{WritesTo};
 ghost use Rattle.text.specs.Writes.{Writes};
 ghost use Rattle.spec.specs.Out.{beside};
@@ -13,6 +13,7 @@ use spec::ctx::FormatOpts;
 use text::buffer::{Full, Wrote, all_in, lift};
 use text::class::White;
 use text::text::Text;
+use tree::field::NodeField;
 
 // The opening bracket.
 #[tactic(auto, unfolding(crate::specs::LinkStep::bracket), using(text::proofs::Texts::next, text::proofs::Texts::stop))]
@@ -66,41 +67,39 @@ fn push_link_text(text: &mut Text, base: usize, plain: bool, opts: FormatOpts) -
 // The link whose text stands from base on.
 #[tactic(auto, unfolding(crate::specs::LinkStep::link_shown), using(text::proofs::Texts::next, text::proofs::Texts::stop))]
 fn push_shown(
-    sheet: &[u8],
+    field: NodeField,
     text: &mut Text,
     base: usize,
-    place: usize,
     dest: &[u8],
     plain: bool,
     opts: FormatOpts,
 ) -> Result<(), Full>
-    requires { ((text.old.len ≤ base) × (base ≤ length text.old.room.now)) × ((place + 3 ≤ length sheet.now) × (length dest.now ≤ 1048576)) }
-    ensures { WritesTo text.old text.new result (link_shown (attrs_behind sheet.now place) dest.now (drop base text.old.room.now) (append_by plain opts)) }
+    requires { ((text.old.len ≤ base) × (base ≤ length text.old.room.now)) × (length dest.now ≤ 1048576) }
+    ensures { WritesTo text.old text.new result (link_shown (attrs_of field.entry) dest.now (drop base text.old.room.now) (append_by plain opts)) }
 {
     push_link_text(text, base, plain, opts)?;
-    push_link_end(text, sheet, place, dest)
+    push_link_end(text, field, dest)
 }
 
 // The link, from its text, the n bytes behind the text.
 // `plain`: the words of the link's text are appended, escaped.
 pub fn push_link(
-    sheet: &[u8],
+    field: NodeField,
     text: &mut Text,
     n: usize,
-    place: usize,
     dest: &[u8],
     plain: bool,
     opts: FormatOpts,
 ) -> Result<(), Full>
-    requires { (text.old.len + n ≤ length text.old.room.now) × (place + 3 ≤ length sheet.now) × (length dest.now ≤ 1048576) }
-    ensures { WritesTo text.old text.new result (link_step (attrs_behind sheet.now place) dest.now (take n (drop text.old.len text.old.room.now)) (append_by plain opts)) }
+    requires { (text.old.len + n ≤ length text.old.room.now) × (length dest.now ≤ 1048576) }
+    ensures { WritesTo text.old text.new result (link_step (attrs_of field.entry) dest.now (take n (drop text.old.len text.old.room.now)) (append_by plain opts)) }
 {
     if n == 0 {
         return Ok(());
     }
     let base = text.room.len() - n;
     lift(text.room, text.len, n, base);
-    push_shown(sheet, text, base, place, dest, plain, opts)
+    push_shown(field, text, base, dest, plain, opts)
 }
 
 // A link that shows only white bytes parts the words around it.
@@ -116,20 +115,19 @@ fn push_blank_link(text: &mut Text, n: usize, opts: FormatOpts) -> Result<(), Fu
 // A link that shows its texts, the n bytes behind the text.
 #[tactic(auto, unfolding(spec::specs::Bytes::is_blank), using(text::proofs::Texts::as_step, crate::proofs::Links::text_blank, crate::proofs::Links::text_shown))]
 pub fn push_text_link(
-    sheet: &[u8],
+    field: NodeField,
     text: &mut Text,
     n: usize,
-    place: usize,
     dest: &[u8],
     opts: FormatOpts,
 ) -> Result<(), Full>
-    requires { (text.old.len + n ≤ length text.old.room.now) × (place + 3 ≤ length sheet.now) × (length dest.now ≤ 1048576) }
-    ensures { WritesTo text.old text.new result (text_link_step opts (attrs_behind sheet.now place) dest.now (take n (drop text.old.len text.old.room.now))) }
+    requires { (text.old.len + n ≤ length text.old.room.now) × (length dest.now ≤ 1048576) }
+    ensures { WritesTo text.old text.new result (text_link_step opts (attrs_of field.entry) dest.now (take n (drop text.old.len text.old.room.now))) }
 {
     let own = opts.fresh();
     let end = text.len;
     if all_in::<White>(&text.behind(end)[..n]) {
         return push_blank_link(text, n, own);
     }
-    push_link(sheet, text, n, place, dest, true, own)
+    push_link(field, text, n, dest, true, own)
 }

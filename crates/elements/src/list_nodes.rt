@@ -7,6 +7,7 @@ ghost use Rattle.spec.specs.Tree.{Attr, Forest, attr, kids_of};
 ghost use Rattle.spec.specs.Md.Elements.Blocks as blocks;
 ghost use Rattle.spec.specs.Md.Elements.List as def;
 ghost use Rattle.tree.specs.Memory.{place_at};
+ghost use Rattle.tree.specs.NodeFields.{attrs_of};
 ghost use Rattle.tree.specs.Represents.{Rep, attrs_behind, rest_of};
 ghost use Rattle.lists_links.specs.Parsed.{parsed_of};
 ghost use Rattle.elements.specs.FirstElement.{FirstElement};
@@ -19,24 +20,22 @@ use spec::ctx::ListKind;
 use spec::element::{ARTICLE, DIV, HR, LI, OL, PRE, TABLE, UL};
 use text::buffer::all_in;
 use text::class::White;
-use tree::attributes::attribute;
-use tree::nodes::{Tree, tag_at, text_at};
+use tree::field::NodeField;
+use tree::nodes::Tree;
 
-// The number of the attribute of that name of the element at `place`.
+// The number of the attribute of that name.
 #[tactic(auto, unfolding(spec::specs::Md::Elements::List::number_of))]
-pub fn number_of(sheet: &[u8], place: usize, name: &[u8]) -> Option<u32>
-    requires { place + 3 ≤ length sheet.now }
-    ensures { result ≡ parsed_of (def.number_of (attr name.now (attrs_behind sheet.now place))) }
+pub fn number_of(field: NodeField, name: &[u8]) -> Option<u32>
+    ensures { result ≡ parsed_of (def.number_of (attr name.now (attrs_of field.entry))) }
 {
-    parse_list_number(attribute(sheet, place, name)?)
+    parse_list_number(field.attribute(name)?)
 }
 
 #[tactic(auto, using(crate::proofs::ListTests::parsed_or), unfolding(spec::specs::Md::Elements::List::start_of))]
-fn start_of(sheet: &[u8], place: usize) -> u32
-    requires { place + 3 ≤ length sheet.now }
-    ensures { result ≡ def.start_of (attrs_behind sheet.now place) }
+fn start_of(field: NodeField) -> u32
+    ensures { result ≡ def.start_of (attrs_of field.entry) }
 {
-    number_of(sheet, place, b"start").unwrap_or(1)
+    number_of(field, b"start").unwrap_or(1)
 }
 
 #[tactic(auto, unfolding(spec::specs::Md::Elements::Blocks::is_list, spec::specs::Bytes::isin))]
@@ -47,12 +46,11 @@ pub fn is_list(name: usize) -> bool
 }
 
 #[tactic(auto, unfolding(spec::specs::Md::Elements::List::kind_of))]
-pub fn kind_of(sheet: &[u8], place: usize, name: usize) -> ListKind
-    requires { place + 3 ≤ length sheet.now }
-    ensures { result ≡ def.kind_of name (attrs_behind sheet.now place) }
+pub fn kind_of(field: NodeField, name: usize) -> ListKind
+    ensures { result ≡ def.kind_of name (attrs_of field.entry) }
 {
     if name == OL {
-        ListKind::Ol(start_of(sheet, place))
+        ListKind::Ol(start_of(field))
     } else {
         ListKind::Ul
     }
@@ -98,9 +96,9 @@ fn is_only_block(tree: &Tree, i: usize) -> bool
     requires { NodeAt tree.now.sheet.now tree.now.nodes.now i }
     ensures { (parent e : ℕ) (f : Forest) → Rep tree.now.sheet.now tree.now.nodes.now parent i e f → i < e → def.only_blocks f ≡ (result && def.only_blocks (rest_of f)) }
 {
-    let place = tree.node_place(i);
-    match tag_at(tree.sheet, place) {
-        TEXT => all_in::<White>(&tree.sheet[text_at(tree.sheet, place)]),
+    let field = tree.field(i);
+    match field.tag() {
+        TEXT => all_in::<White>(field.text()),
         OPEN => is_only_block_name(node_name(tree, i)),
         _ => true,
     }
@@ -153,7 +151,7 @@ fn first_element(tree: &Tree, from: usize, to: usize) -> Option<usize>
     ensures { FirstElement tree.now.sheet.now tree.now.nodes.now from to result }
 {
     for i in tree.siblings(from, to) {
-        if tag_at(tree.sheet, tree.node_place(i)) == OPEN {
+        if tree.field(i).tag() == OPEN {
             return Some(i);
         }
     }
@@ -166,10 +164,8 @@ fn begins_with_one(tree: &Tree, i: usize, li: usize) -> bool
     requires { NodeAt tree.now.sheet.now tree.now.nodes.now i × NodeAt tree.now.sheet.now tree.now.nodes.now li }
     ensures { result ≡ eqb (def.number_or (def.number_of (attr (ascii "value") (attrs_behind tree.now.sheet.now (place_at tree.now.nodes.now li)))) (def.start_of (attrs_behind tree.now.sheet.now (place_at tree.now.nodes.now i)))) 1 }
 {
-    let item = tree.node_place(li);
-    let list = tree.node_place(i);
-    let start = start_of(tree.sheet, list);
-    number_of(tree.sheet, item, b"value").unwrap_or(start) == 1
+    let start = start_of(tree.field(i));
+    number_of(tree.field(li), b"value").unwrap_or(start) == 1
 }
 
 // Whether the list at node i can interrupt a paragraph.

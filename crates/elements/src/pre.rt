@@ -20,7 +20,7 @@ use spec::ctx::FormatOpts;
 use text::buffer::Full;
 use text::class::{ByteClass, White};
 use text::text::Text;
-use tree::nodes::{Tree, text_at};
+use tree::nodes::Tree;
 
 // Whether a word stands in the text behind some pieces, and whether a white byte came last.
 #[derive(Clone, Copy)]
@@ -63,8 +63,7 @@ fn push_words(tree: &Tree, text: &mut Text, from: usize, to: usize) -> Result<()
         gap: false,
     };
     for i in from..to {
-        let place = tree.node_place(i);
-        state = join_words(text, state, &tree.sheet[text_at(tree.sheet, place)])?;
+        state = join_words(text, state, tree.field(i).text())?;
     }
     Ok(())
 }

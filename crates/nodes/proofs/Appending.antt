@@ -39,12 +39,12 @@ module _ {S : Type 0} {out : S → Bytes → Bytes} {sh ns : Bytes} {from e : �
     forest_is : (parent : ℕ) (f : Forest) → Rep sh ns parent from e f → push (out a (text_of f)) (bytes before) ≡ push (out a (pieces sh ns e from)) (bytes before)
     forest_is parent f h = ap (λ (s : Bytes). push (out a s) (bytes before)) (text_pieces sh ns parent from e f h)
 
-    -- the field of node i stands at p, and its text is s
-    module _ {p : ℕ} {s : Bytes} (l : i < e) (q : p ≡ place_at ns i) (h : text_at sh p ≡ s) where
+    -- the text of node i is s
+    module _ {s : Bytes} (l : i < e) (h : s ≡ text_at sh (place_at ns i)) where
       turn : {y : S} → y ≡ go x s → push (out x (pieces sh ns e i)) (bytes now) ≡ and_then (push (out x s) (bytes now)) (push (out y (pieces sh ns e (i + 1))))
       turn {y} r =
           ap (λ (z : Bytes). push z (bytes now))
-          (ap (out x) (pieces_on sh ns e i l q h) ∙ (w.joins x s (pieces sh ns e (i + 1)) ∙ ap (λ (z : S). out x s ++ out z (pieces sh ns e (i + 1))) (sym r)))
+          (ap (out x) (pieces_on sh ns e i l h) ∙ (w.joins x s (pieces sh ns e (i + 1)) ∙ ap (λ (z : S). out x s ++ out z (pieces sh ns e (i + 1))) (sym r)))
           ∙ push_both (out x s) (out y (pieces sh ns e (i + 1))) (bytes now)
 
       module _ {after : Text} {r : Answer} (v : WritesTo now after r (push (out x s))) where

@@ -93,12 +93,12 @@ module _ (name : ℕ) (sh ns : Bytes) (e i : ℕ) where
 abbrev pub pieces : Bytes → Bytes → ℕ → ℕ → Bytes
 pieces sh ns e i = total [] (λ (x y : Bytes). x ++ y) (λ (j : ℕ). text_at sh (place_at ns j)) (e - i) i
 
--- the field of node i stands at p, and its text is x
+-- the text of node i is x
 module _ (sh ns : Bytes) (e i : ℕ) where
-  pub pieces_on : {p : ℕ} {x : Bytes} → i < e → p ≡ place_at ns i → text_at sh p ≡ x → pieces sh ns e i ≡ x ++ pieces sh ns e (i + 1)
-  pieces_on {p} {x} l q h =
+  pub pieces_on : {x : Bytes} → i < e → x ≡ text_at sh (place_at ns i) → pieces sh ns e i ≡ x ++ pieces sh ns e (i + 1)
+  pieces_on {x} l h =
       total_on [] (λ (x y : Bytes). x ++ y) (λ (j : ℕ). text_at sh (place_at ns j)) i e l
-      ∙ ap (λ (y : Bytes). y ++ pieces sh ns e (i + 1)) (sym (ap (text_at sh) q) ∙ h)
+      ∙ ap (λ (y : Bytes). y ++ pieces sh ns e (i + 1)) (sym h)
 
   pub pieces_none : e ≤ i → pieces sh ns e i ≡ []
   pieces_none l = total_done [] (λ (x y : Bytes). x ++ y) (λ (j : ℕ). text_at sh (place_at ns j)) i e l
@@ -118,11 +118,11 @@ module _ {S : Type 0} {go : S → Bytes → S} {sh ns : Bytes} {from e i : ℕ} 
   carried_node s l = node_in sh ns i from e s c.later l
 
   module _ (w : Folds go) where
-    pub carried_on : {p : ℕ} {s : Bytes} {y : S} → i < e → p ≡ place_at ns i → text_at sh p ≡ s → y ≡ go x s → Carried go sh ns from e a (i + 1) y
-    carried_on {p} {s} {y} l q h r =
+    pub carried_on : {s : Bytes} {y : S} → i < e → s ≡ text_at sh (place_at ns i) → y ≡ go x s → Carried go sh ns from e a (i + 1) y
+    carried_on {s} {y} l h r =
         record {
           later = omega (arith, c.later);
-          leads = c.leads ∙ (ap (go x) (pieces_on sh ns e i l q h) ∙ (w.joins x s (pieces sh ns e (i + 1)) ∙ sym (ap (λ (z : S). go z (pieces sh ns e (i + 1))) r)));
+          leads = c.leads ∙ (ap (go x) (pieces_on sh ns e i l h) ∙ (w.joins x s (pieces sh ns e (i + 1)) ∙ sym (ap (λ (z : S). go z (pieces sh ns e (i + 1))) r)));
         }
 
     pub carried_end : e ≤ i → (parent : ℕ) (f : Forest) → Rep sh ns parent from e f → go a (text_of f) ≡ x
@@ -154,14 +154,14 @@ write_numbers opts sh ns =
     (write_text opts) refl (write_node opts sh ns)
 
 -- a node alone: its field stands at p
-module _ (opts : FormatOpts) (sh : Bytes) {p q : ℕ} (e : p ≡ q) (t : Bytes) where
-  pub text_step_none : (get_or sh p 0 ≡ 4 → ⊥) → text_step opts sh q t ≡ keep t
+module _ (opts : FormatOpts) (sh : Bytes) (p : ℕ) (t : Bytes) where
+  pub text_step_none : (get_or sh p 0 ≡ 4 → ⊥) → text_step opts sh p t ≡ keep t
   unfolding text_step
-  text_step_none n = rw (← e, ne_eqb (get_or sh p 0) 4 n)
+  text_step_none n = rw (ne_eqb (get_or sh p 0) 4 n)
 
-  pub text_step_some : {x : Bytes} → get_or sh p 0 ≡ 4 → text_at sh p ≡ x → text_step opts sh q t ≡ push_normalized_text x opts t
+  pub text_step_some : {x : Bytes} → get_or sh p 0 ≡ 4 → text_at sh p ≡ x → text_step opts sh p t ≡ push_normalized_text x opts t
   unfolding text_step
-  text_step_some n h = rw (← e, eq-eqb (get_or sh p 0) 4 n, sym (first_text_lem sh p n) ∙ h)
+  text_step_some n h = rw (eq-eqb (get_or sh p 0) 4 n, sym (first_text_lem sh p n) ∙ h)
 
 module _ (opts : FormatOpts) (sh ns : Bytes) (e i : ℕ) (t : Bytes) where
   pub steps_on : i < e → steps opts sh ns e i t ≡ and_then (text_step opts sh (place_at ns i) t) (steps opts sh ns e (i + 1))

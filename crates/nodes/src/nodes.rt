@@ -20,8 +20,7 @@ use normalized::normalize::push_text_part;
 use spec::ctx::FormatOpts;
 use text::buffer::Full;
 use text::text::Text;
-use tree::names::is_skipped;
-use tree::nodes::{Tree, tag_at, text_at};
+use tree::nodes::Tree;
 
 // The number of the name of node i; 0 where it is no element. It stands in node memory as the sheet says it.
 pub fn node_name(tree: &Tree, i: usize) -> usize
@@ -38,7 +37,7 @@ pub fn node_is_skipped(tree: &Tree, skip: Option<&[u8]>, i: usize) -> bool
 {
     match skip {
         None if tree.node_number(i) != 0 => false,
-        _ => is_skipped(tree.sheet, tree.node_place(i), skip),
+        _ => tree.field(i).is_skipped(skip),
     }
 }
 
@@ -61,8 +60,7 @@ pub fn push_text_of(tree: &Tree, text: &mut Text, from: usize, to: usize) -> Res
     ensures { (parent : ℕ) (f : Forest) → Rep tree.now.sheet.now tree.now.nodes.now parent from to f → WritesTo text.old text.new result (push (text_of f)) }
 {
     for i in from..to {
-        let place = tree.node_place(i);
-        text.push_all(&tree.sheet[text_at(tree.sheet, place)])?;
+        text.push_all(tree.field(i).text())?;
     }
     Ok(())
 }
@@ -72,14 +70,15 @@ pub fn write_text_node(tree: &Tree, text: &mut Text, i: usize, opts: FormatOpts)
     requires { NodeAt tree.now.sheet.now tree.now.nodes.now i }
     ensures { WritesTo text.old text.new result (text_step opts tree.now.sheet.now (place_at tree.now.nodes.now i)) }
 {
-    let place = tree.node_place(i);
-    if tag_at(tree.sheet, place) != TEXT {
+    let field = tree.field(i);
+    if field.tag() != TEXT {
         return Ok(());
     }
-    let part = text_at(tree.sheet, place);
+    // a range and no slice: a few bytes behind it are read, too
+    let part = field.text_range();
     push_text_part(
         text,
-        &tree.sheet[part.start..],
+        &field.sheet[part.start..],
         part.len(),
         opts.inline,
         opts.skip_escape,
@@ -111,8 +110,7 @@ pub fn is_white_space(tree: &Tree, from: usize, to: usize) -> bool
 {
     let mut state = Begun::Nothing;
     for i in from..to {
-        let place = tree.node_place(i);
-        state = white_state(&tree.sheet[text_at(tree.sheet, place)], state);
+        state = white_state(tree.field(i).text(), state);
     }
     has_ended(state)
 }

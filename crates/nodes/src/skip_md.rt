@@ -17,8 +17,7 @@ use input::tag::OPEN;
 use spec::ctx::FormatOpts;
 use text::buffer::{Full, ends_with, ends_with_byte};
 use text::text::Text;
-use tree::names::is_skipped;
-use tree::nodes::{Tree, tag_at};
+use tree::nodes::Tree;
 
 // The number of the name `br`.
 const BR: usize = 20;
@@ -72,14 +71,14 @@ fn below_spot(tree: &Tree, skip: Option<&[u8]>, open: usize, at: usize) -> Spot
     requires { NodeAt tree.now.sheet.now tree.now.nodes.now at }
     ensures { result ≡ below_spot (tags_to_skip (skip_of skip.entry)) tree.now.sheet.now tree.now.nodes.now «open» at }
 {
-    let place = tree.node_place(at);
-    if is_skipped(tree.sheet, place, skip) {
+    let field = tree.field(at);
+    if field.is_skipped(skip) {
         return Spot {
             open,
             at: tree.node_end(at),
         };
     }
-    if tag_at(tree.sheet, place) == OPEN {
+    if field.tag() == OPEN {
         return Spot {
             open: at,
             at: at + 1,
@@ -138,8 +137,7 @@ pub fn write_skip_md(
     requires { SomeElement tree.now.sheet.now tree.now.nodes.now i }
     ensures { (name : Bytes) (attrs : List Attr) (kids : Forest) → ElementAt tree.now.sheet.now tree.now.nodes.now i name attrs kids → WritesTo text.old text.new result (def.write_skip_md (tags_to_skip (skip_of skip.entry)) opts (element name attrs kids nothing)) }
 {
-    let place = tree.node_place(i);
-    if is_skipped(tree.sheet, place, skip) {
+    if tree.field(i).is_skipped(skip) {
         return Ok(());
     }
     write_open_skip_md(tree, skip, text, i, opts)

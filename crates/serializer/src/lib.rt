@@ -56,8 +56,7 @@ use tables::table::{next_cell, push_table, store_span};
 use text::buffer::{Full, Wrote};
 use text::text::Text;
 use texts::{is_blank_text, is_one_text, trim_behind_text, write_text_behind};
-use tree::attributes::attribute;
-use tree::nodes::{Tree, tag_at};
+use tree::nodes::Tree;
 
 pub mod options;
 pub mod progress;
@@ -143,8 +142,8 @@ impl<'s, 'k> MDSerializer<'s, 'k> {
         ensures writes_forest { ForestTo self.now.sheet.now nodes.old at (end_at nodes.old at) (λ anc f. write_nodes (self_at self.now.skip levels) anc (def.unpacked bits) f) text.old text.new result }
     {
         let sheet = self.sheet;
-        let place = Tree { sheet, nodes }.node_place(at);
-        if tag_at(sheet, place) != OPEN {
+        let field = Tree { sheet, nodes }.field(at);
+        if field.tag() != OPEN {
             return write_text_node(&Tree { sheet, nodes }, text, at, bits.opts());
         }
         if node_is_skipped(&Tree { sheet, nodes }, self.skip, at) {
@@ -205,7 +204,7 @@ impl<'s, 'k> MDSerializer<'s, 'k> {
         }
         match name {
             A => self.write_link(nodes, text, at, opts, levels),
-            IMG => write_img(text, sheet, Tree { sheet, nodes }.node_place(at)),
+            IMG => write_img(text, Tree { sheet, nodes }.field(at)),
             PRE => write_pre(&Tree { sheet, nodes }, text, at, opts),
             TABLE => self.write_table(nodes, text, at, opts, levels),
             CODE => write_code(&Tree { sheet, nodes }, self.skip, text, at, opts),
@@ -316,8 +315,8 @@ impl<'s, 'k> MDSerializer<'s, 'k> {
         ensures writes_element { ElementTo self.now.sheet.now nodes.old at (λ anc name attrs kids. write_link (self_at self.now.skip levels) anc opts name attrs kids) text.old text.new result }
     {
         let sheet = self.sheet;
-        let place = Tree { sheet, nodes }.node_place(at);
-        match attribute(sheet, place, b"href") {
+        let field = Tree { sheet, nodes }.field(at);
+        match field.attribute(b"href") {
             Some(dest) => self.link(nodes, text, at, dest, opts, levels),
             None => self.kids(nodes, text, at, PackedOpts::of(opts.fresh()), levels),
         }
@@ -351,8 +350,8 @@ impl<'s, 'k> MDSerializer<'s, 'k> {
         if n == 0 {
             return self.body(nodes, text, at, dest, fresh, levels);
         }
-        let place = Tree { sheet, nodes }.node_place(at);
-        push_text_link(sheet, text, n, place, dest, opts)
+        let field = Tree { sheet, nodes }.field(at);
+        push_text_link(field, text, n, dest, opts)
     }
 
     // A link that shows what `write` gives for its content.
@@ -372,10 +371,10 @@ impl<'s, 'k> MDSerializer<'s, 'k> {
         ensures writes_element { ElementTo self.now.sheet.now nodes.old at (λ anc name attrs kids. link_of attrs dest.now (write_kids (self_at self.now.skip levels) anc opts (element name attrs kids nothing) []) push) text.old text.new result }
     {
         let sheet = self.sheet;
-        let place = Tree { sheet, nodes }.node_place(at);
+        let field = Tree { sheet, nodes }.field(at);
         let bits = PackedOpts::of(opts);
         let n = self.kids_behind(nodes, &mut text.room[text.len..], at, bits, levels)?;
-        push_link(sheet, text, n, place, dest, false, opts)
+        push_link(field, text, n, dest, false, opts)
     }
 
     // elements/list.rs.
@@ -395,8 +394,7 @@ impl<'s, 'k> MDSerializer<'s, 'k> {
         ensures writes_element { ElementTo self.now.sheet.now nodes.old at (λ anc name attrs kids. write_list (self_at self.now.skip levels) anc opts (tag_of name) attrs kids) text.old text.new result }
     {
         let sheet = self.sheet;
-        let place = Tree { sheet, nodes }.node_place(at);
-        let kind = kind_of(sheet, place, name);
+        let kind = kind_of(Tree { sheet, nodes }.field(at), name);
         let to = Tree { sheet, nodes }.node_end(at);
         let ctx = ListContext::new(opts, kind);
         self.items(nodes, text, at + 1, to, ctx, levels)?;
@@ -423,9 +421,9 @@ impl<'s, 'k> MDSerializer<'s, 'k> {
         let mut ctx = first;
         let mut c = from;
         while c < to {
-            let place = Tree { sheet, nodes }.node_place(c);
+            let field = Tree { sheet, nodes }.field(c);
             let li = node_name(&Tree { sheet, nodes }, c) == LI;
-            ctx = renumbered(sheet, place, li, ctx);
+            ctx = renumbered(field, li, ctx);
             self.item(nodes, text, c, li, &mut ctx, levels)?;
             c = Tree { sheet, nodes }.node_end(c);
         }
@@ -558,8 +556,8 @@ impl<'s, 'k> MDSerializer<'s, 'k> {
         ensures goes_forest { ForestGoes self.now.sheet.now nodes.old c (end_at nodes.old c) (λ anc f. item_children (self_at self.now.skip levels) anc f (item_of item) (progress_on before text.old)) text.old text.new result }
     {
         let sheet = self.sheet;
-        let place = Tree { sheet, nodes }.node_place(c);
-        let tag = tag_at(sheet, place);
+        let field = Tree { sheet, nodes }.field(c);
+        let tag = field.tag();
         if (tag != TEXT) & (tag != OPEN) {
             return Ok(before);
         }
@@ -570,7 +568,7 @@ impl<'s, 'k> MDSerializer<'s, 'k> {
             let end = Tree { sheet, nodes }.node_end(c);
             return self.children(nodes, text, c + 1, end, item, before, levels);
         }
-        let blank = is_blank_text(sheet, place);
+        let blank = is_blank_text(field);
         self.alone(nodes, text, c, blank, item, before, levels)
     }
 

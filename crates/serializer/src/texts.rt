@@ -20,7 +20,8 @@ use spec::ctx::FormatOpts;
 use text::buffer::{Full, Wrote, all_in};
 use text::class::White;
 use text::text::Text;
-use tree::nodes::{Tree, tag_at, text_at};
+use tree::field::NodeField;
+use tree::nodes::Tree;
 
 // Whether the nodes from number `from` up to `to` are one text.
 pub fn is_one_text(tree: &Tree, from: usize, to: usize) -> bool
@@ -30,8 +31,7 @@ pub fn is_one_text(tree: &Tree, from: usize, to: usize) -> bool
     if to - from != 1 {
         return false;
     }
-    let place = tree.node_place(from);
-    tag_at(tree.sheet, place) == TEXT
+    tree.field(from).tag() == TEXT
 }
 
 // Appends the text of node i, if it is one, and trims the whole text.
@@ -65,14 +65,9 @@ pub fn write_text_behind(
     Ok(text.len)
 }
 
-// Whether the node whose field stands at `place` is a text of white bytes.
-pub fn is_blank_text(sheet: &[u8], place: usize) -> bool
-    requires { place + 3 ≤ length sheet.now }
-    ensures { result ≡ (eqb (get_or sheet.now place 0) 4 && is_blank (body_at sheet.now place)) }
+// Whether a node is a text of white bytes.
+pub fn is_blank_text(field: NodeField) -> bool
+    ensures { result ≡ (eqb (get_or field.entry.sheet.now field.entry.place 0) 4 && is_blank (body_at field.entry.sheet.now field.entry.place)) }
 {
-    if tag_at(sheet, place) != TEXT {
-        return false;
-    }
-    let part = text_at(sheet, place);
-    all_in::<White>(&sheet[part])
+    field.tag() == TEXT && all_in::<White>(field.text())
 }

@@ -16,3 +16,4 @@ pub mod Walking
 pub mod Ranges
 pub mod Frames
 pub mod Ancestry
+pub mod NodeFields

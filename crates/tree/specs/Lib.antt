@@ -6,3 +6,4 @@ pub mod Accepted
 pub mod Attributes
 pub mod Nodes
 pub mod Siblings
+pub mod NodeFields

@@ -3,6 +3,7 @@
 #![tactic(auto)]
 
 pub mod attributes;
+pub mod field;
 pub mod memory;
 pub mod names;
 pub mod nodes;

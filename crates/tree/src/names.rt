@@ -1,5 +1,5 @@
 // Element names: the number by which the writers know one, and the skip list.
-ghost use Rattle.std.specs.Prelude.{◌≡◌, ◌+◌, ◌≤◌, length};
+ghost use Rattle.std.specs.Prelude.{◌≡◌};
 ghost use Rattle.spec.specs.Fields.{fields};
 ghost use Rattle.spec.specs.Bytes.{among};
 ghost use Rattle.spec.specs.Names.{tag_of};
@@ -9,7 +9,8 @@ ghost use Rattle.input.specs.Scans.{skip_of};
 ghost use Rattle.tree.specs.Nodes.{name_at, skipped_at};
 ghost use Rattle.spec.specs.ElementNumbers.{number_of};
 
-use input::fields::{Fields, span_at};
+use crate::field::NodeField;
+use input::fields::Fields;
 use input::tag::OPEN;
 use spec::element::Name;
 
@@ -79,25 +80,25 @@ fn is_skip_tag(skip: Option<&[u8]>, name: &[u8]) -> bool
     }
 }
 
-// The number of the name of the node whose field stands at `place`; 0 where it is no element.
-#[tactic(auto, using(crate::proofs::Access::no_name, crate::proofs::Access::its_name))]
-pub fn name_at(sheet: &[u8], place: usize) -> usize
-    requires { place + 3 ≤ length sheet.now }
-    ensures { result ≡ name_at sheet.now place }
-{
-    let f = span_at(sheet, place);
-    if f.tag != OPEN {
-        return 0;
+impl NodeField<'_> {
+    // The number of the name of the node; 0 where it is no element.
+    #[tactic(auto, using(crate::proofs::Access::no_name, crate::proofs::Access::its_name))]
+    pub fn name(self) -> usize
+        ensures { result ≡ name_at self.entry.sheet.now self.entry.place }
+    {
+        let f = self.span();
+        if f.tag != OPEN {
+            return 0;
+        }
+        usize::from(name_of(&self.sheet[f.start..f.end]))
     }
-    usize::from(name_of(&sheet[f.start..f.end]))
-}
 
-// Whether that node is an element that the skip list leaves out.
-#[tactic(auto, using(crate::proofs::Access::no_element, crate::proofs::Access::its_skip))]
-pub fn is_skipped(sheet: &[u8], place: usize, skip: Option<&[u8]>) -> bool
-    requires { place + 3 ≤ length sheet.now }
-    ensures { result ≡ skipped_at (tags_to_skip (skip_of skip.entry)) sheet.now place }
-{
-    let f = span_at(sheet, place);
-    f.tag == OPEN && is_skip_tag(skip, &sheet[f.start..f.end])
+    // Whether the node is an element that the skip list leaves out.
+    #[tactic(auto, using(crate::proofs::Access::no_element, crate::proofs::Access::its_skip))]
+    pub fn is_skipped(self, skip: Option<&[u8]>) -> bool
+        ensures { result ≡ skipped_at (tags_to_skip (skip_of skip.entry)) self.entry.sheet.now self.entry.place }
+    {
+        let f = self.span();
+        f.tag == OPEN && is_skip_tag(skip, &self.sheet[f.start..f.end])
+    }
 }

@@ -1,13 +1,11 @@
 // The nodes in node memory, by their numbers: node 0 is the fragment, and a node and its descendants are a range.
-ghost use Rattle.std.specs.Prelude.{◌≡◌, ◌+◌, ◌-◌, ◌*◌, ◌≤◌, ◌<◌, length, get_or};
+ghost use Rattle.std.specs.Prelude.{◌≡◌, ◌+◌, ◌-◌, ◌*◌, ◌≤◌, ◌<◌, length};
 ghost use Rattle.tree.specs.Memory.{place_at, number_at, end_at, parent_at};
-ghost use Rattle.tree.specs.Nodes.{text_at, PartIs, first_child, next_sibling};
+ghost use Rattle.tree.specs.Nodes.{first_child, next_sibling};
 ghost use Rattle.tree.specs.Represents.{Nodes};
 
+use crate::field::NodeField;
 use crate::memory::read;
-use input::fields::span_at;
-use input::tag::TEXT;
-use std::ops::Range;
 
 // A sheet, and the nodes of its tree in node memory.
 #[derive(Clone, Copy)]
@@ -17,6 +15,7 @@ pub struct Tree<'s, 'n> {
 }
 
 impl<'s, 'n> Tree<'s, 'n> {
+    ghost use Rattle.tree.specs.NodeFields.{IsField};
     ghost use Rattle.tree.specs.Siblings.{Over};
 
     // Where in the sheet the field of node i stands.
@@ -28,7 +27,18 @@ impl<'s, 'n> Tree<'s, 'n> {
         read::<4>(self.nodes, i * 24) / 256
     }
 
-    // The number of its name; 0 where it is no element.
+    // The field of node i.
+    pub fn field(&self, i: usize) -> NodeField<'s>
+        requires { (i * 24 + 24 ≤ length self.now.nodes.now) × (place_at self.now.nodes.now i + 3 ≤ length self.now.sheet.now) }
+        ensures { IsField self.now.sheet.now self.now.nodes.now i result }
+    {
+        NodeField {
+            sheet: self.sheet,
+            place: self.node_place(i),
+        }
+    }
+
+    // The number of the name of node i; 0 where it is no element.
     #[tactic(auto, using(crate::proofs::Numbers::quad_is))]
     pub fn node_number(&self, i: usize) -> usize
         requires { i * 24 + 24 ≤ length self.now.nodes.now }
@@ -115,25 +125,4 @@ impl<'s, 'n> Iterator for Siblings<'s, 'n> {
         self.next = self.tree.node_end(i);
         Some(i)
     }
-}
-
-// What kind of node has its field at `place`: the tag of that field.
-pub fn tag_at(sheet: &[u8], place: usize) -> u8
-    requires { place + 3 ≤ length sheet.now }
-    ensures { result ≡ get_or sheet.now place 0 }
-{
-    sheet[place]
-}
-
-// Where in the sheet the bytes of that node stand, where it is a text; else no bytes. Over the nodes of a range, one after the
-// other, these are the pieces of `text_of`. Callers read a few bytes behind it, so it is a range and no slice.
-#[tactic(auto, using(crate::proofs::Access::no_text, crate::proofs::Access::its_text))]
-pub fn text_at(sheet: &[u8], place: usize) -> Range<usize>
-    requires { place + 3 ≤ length sheet.now }
-    ensures { PartIs sheet.now result (text_at sheet.now place) }
-{
-    let f = span_at(sheet, place);
-    let start = f.start;
-    let end = if f.tag == TEXT { f.end } else { start };
-    start..end
 }

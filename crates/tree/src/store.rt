@@ -5,8 +5,8 @@ ghost use Rattle.tree.specs.Memory.{word_at, Stored, parent_at};
 ghost use Rattle.tree.specs.Represents.{entry_of, Holds};
 ghost use Rattle.tree.specs.Kinds.{kind_of, Placed, FitsAs, TurnedAs, Storable};
 
+use crate::field::NodeField;
 use crate::memory::{read, store};
-use crate::names::name_at;
 use input::fields::length_at;
 use input::tag::{CLOSE, COMMENT, OPEN, TEXT};
 
@@ -68,7 +68,7 @@ fn entry_of(sheet: &[u8], p: usize) -> usize
     requires { (p + 3 ≤ length sheet.now) × (length sheet.now ≤ 1048576) }
     ensures { (result ≡ entry_of sheet.now p) × (result < 4294967296) }
 {
-    p * 256 + name_at(sheet, p)
+    p * 256 + NodeField { sheet, place: p }.name()
 }
 
 // Stores the nodes behind the fragment, and where the fragment ends.

@@ -8,23 +8,19 @@ use Rattle.tree.proofs.Firsts.{ended}
 use Rattle.nodes.specs.FirstElement.{first_element}
 use Rattle.nodes.proofs.Siblings.{left_on, left_node, turn_before, turn_left, turn_on, turn_none}
 use Rattle.nodes.proofs.Interrupts.{element_first, element_on}
-use native.Mathlib.Omega.{arith}
+use Rattle.spec.specs.Bytes.{Bytes}
+use Rattle.tree.proofs.NodeFields.{of_node}
 use Rattle.elements.proofs.list_nodes.first_element.Goals as goal
 
-pub node_place-requires : goal.node_place-requires
-node_place-requires c =
-    let w = c.loop-i.invariant in let s = c.in-Some.ensures.steps in (left_node (turn_left w s) (turn_before w s)).inside
+pub field-requires : goal.field-requires
+field-requires c =
+    let w = c.loop-i.invariant in let s = c.in-Some.ensures.steps in let n = left_node (turn_left w s) (turn_before w s) in (n.inside, n.placed)
 
-pub tag_at-requires : goal.tag_at-requires
-tag_at-requires c =
-    let w = c.loop-i.invariant in let s = c.in-Some.ensures.steps in
-    omega (arith, (left_node (turn_left w s) (turn_before w s)).placed, c.node_place.ensures)
-
-pub returns-then-tag_at-eq-OPEN : goal.returns-then-tag_at-eq-OPEN
-returns-then-tag_at-eq-OPEN c =
+pub returns-then-tag-eq-OPEN : goal.returns-then-tag-eq-OPEN
+returns-then-tag-eq-OPEN c =
     let w = c.loop-i.invariant in let s = c.in-Some.ensures.steps in
     let sh = c.args.tree.now.sheet.now in let ns = c.args.tree.now.nodes.now in
-    let t : get_or sh (place_at ns c.in-Some.i) 0 ≡ 1 = sym (c.tag_at.ensures ∙ ap (λ (p : ℕ). get_or sh p 0) c.node_place.ensures) ∙ c.if-tag_at-eq-OPEN.true in (
+    let t : get_or sh (place_at ns c.in-Some.i) 0 ≡ 1 = sym (c.tag.ensures ∙ of_node (λ (b : Bytes) (p : ℕ). get_or b p 0) c.field.ensures) ∙ c.if-tag-eq-OPEN.true in (
       turn_before w s,
       t,
       λ parent f h. let q = (turn_left w s).goes parent f h in
@@ -36,7 +32,7 @@ loop-i-preserved c =
     let w = c.loop-i.invariant in let s = c.in-Some.ensures.steps in
     let sh = c.args.tree.now.sheet.now in let ns = c.args.tree.now.nodes.now in
     turn_on w s (left_on (turn_left w s) (turn_before w s) (λ parent g h. element_on sh ns parent c.in-Some.i c.args.to g h
-    (λ q. c.if-tag_at-eq-OPEN.false (c.tag_at.ensures ∙ (ap (λ (p : ℕ). get_or sh p 0) c.node_place.ensures ∙ q)))))
+    (λ q. c.if-tag-eq-OPEN.false (c.tag.ensures ∙ (of_node (λ (b : Bytes) (p : ℕ). get_or b p 0) c.field.ensures ∙ q)))))
 
 pub returns : goal.returns
 unfolding first_element

@@ -7,7 +7,7 @@ use Rattle.spec.specs.Tree.{attr}
 use Rattle.spec.specs.Md.TextUtils.{push_md_url, push_title}
 use Rattle.spec.specs.Md.Elements.Image.{if_some, image_of}
 use Rattle.spec.specs.Md.Elements.Link.{link_end}
-use Rattle.tree.specs.Represents.{attrs_behind}
+use Rattle.tree.specs.NodeFields.{attrs_of}
 use Rattle.text.specs.Texts.{bytes}
 use Rattle.text.proofs.Texts.{as_step, next, stop}
 use Rattle.text.proofs.Writing.{then_assoc}
@@ -25,6 +25,6 @@ returns-in_err-push_alt c =
 pub returns : goal.returns
 unfolding image_of link_end
 returns c =
-    let titled = if_some (attr (ascii "title") (attrs_behind c.args.sheet.now c.args.place)) push_title in
+    let titled = if_some (attr (ascii "title") (attrs_of c.args.field)) push_title in
     next c.in_ok-push_all.was c.push_all.ensures (next c.in_ok-push_alt.was c.push_alt.ensures
     (as_step (sym (then_assoc (push (ascii "](") (bytes c.push_alt.new.text)) (push_md_url c.args.source.now) (λ (t : List ℕ). and_then (titled t) (push (ascii ")"))))) c.push_link_end.ensures))

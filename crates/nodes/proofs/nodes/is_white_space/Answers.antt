@@ -1,22 +1,18 @@
 use mathlib.Core.Path.{sym, ap, ◌∙◌}
 use Rattle.spec.specs.Tree.{text_of}
 use Rattle.nodes.specs.Begun.{is_nothing}
+use Rattle.tree.specs.Nodes.{text_at}
+use Rattle.tree.proofs.NodeFields.{of_node}
 use Rattle.nodes.proofs.Numbers.{carried_node, carried_on, carried_end}
 use Rattle.nodes.proofs.Whites.{white_folds, white_space_is}
-use native.Mathlib.Omega.{arith}
 use Rattle.nodes.proofs.nodes.is_white_space.Goals as goal
 
-pub node_place-place-requires : goal.node_place-place-requires
-node_place-place-requires c =
-    (carried_node c.loop-i.invariant c.requires c.loop-i-test.true).inside
-
-pub text_at-requires : goal.text_at-requires
-text_at-requires c =
-    omega (arith, (carried_node c.loop-i.invariant c.requires c.loop-i-test.true).placed, c.node_place-place.ensures)
+pub field-requires : goal.field-requires
+field-requires c = let n = carried_node c.loop-i.invariant c.requires c.loop-i-test.true in (n.inside, n.placed)
 
 pub loop-i-preserved : goal.loop-i-preserved
 loop-i-preserved c =
-    carried_on c.loop-i.invariant white_folds c.loop-i-test.true c.node_place-place.ensures c.text_at.ensures.bytes_are c.white_state-state.ensures
+    carried_on c.loop-i.invariant white_folds c.loop-i-test.true (c.text.ensures ∙ of_node text_at c.field.ensures) c.white_state-state.ensures
 
 pub returns : goal.returns
 returns c =

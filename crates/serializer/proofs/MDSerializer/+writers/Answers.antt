@@ -9,6 +9,8 @@ use Rattle.input.specs.Scans.{skip_of}
 use Rattle.lists_links.specs.Items.{item_of, ended_item}
 use Rattle.nodes.proofs.Interrupts.{element_kids, element_name}
 use Rattle.nodes.specs.Stands.{Placeds}
+use Rattle.tree.specs.NodeFields.{attrs_of}
+use Rattle.tree.proofs.NodeFields.{of_node, tag_of_node}
 use Rattle.serializer.proofs.Rooms.{room_same, leaf_room, room_on, room_behind, wrote_err, gone_err, going_ok, going_err}
 use Rattle.serializer.proofs.Answers.{stops_element, stops_forest, stops_row, stops_rows, both-full, nest-done, nest-full, nest-fits, below-wrote, both-done, both-on, emphasis_below}
 use Rattle.serializer.proofs.Dispatch.{by_list, by_link, by_img, by_pre, by_table, by_code, by_emphasis, element_as}
@@ -21,7 +23,7 @@ use Rattle.serializer.proofs.Levels.{write_some, write_none, nodes_first, nodes_
 use Rattle.serializer.proofs.LinkTo.{shown_text, to_image, to_body, to_text, text_grown, shown_null, null_none, null_more, link_some, link_none, shown_below, no_image_below}
 use Rattle.serializer.proofs.Lists.{fits_blocks, falls_children, blocks_parts, fits_item, item_parts, head_other, item_placed, head_item, fits_child, fits_behind, list_none, list_first, fits_begun, list_parts}
 use Rattle.serializer.proofs.NodeSteps.{inside_writer, inside_plain, some_one, kids_is, one_is, alone_element, node_text, element_skipped, writer_wanted, node_goes, opened_as}
-use Rattle.serializer.proofs.Placing.{placeds_at, node_placed, placed_node, placed_kids, placeds_first, placeds_on, placeds_later, placeds_within, node_kept, placed_alone, writes_before, node_element, alone_writes, node_stands, tag_is, kept_on, kids_as}
+use Rattle.serializer.proofs.Placing.{placeds_at, node_placed, placed_kids, placeds_first, placeds_on, placeds_later, placeds_within, node_kept, placed_alone, writes_before, node_element, alone_writes, node_stands, kept_on, kids_as}
 use Rattle.serializer.proofs.RowWriting.{row_start, row_reach, row_long, row_end, row_placed, row_inside, row_kept, row_behind, row_later, row_writes, row_stop, row_on}
 use Rattle.serializer.proofs.RowsWriting.{rows_start, rows_end, rows_row, rows_keep, rows_behind, rows_stop, rows_on}
 use Rattle.serializer.proofs.TableChoice.{table_written, table_flat, first_before, rows_below, filled_below, writable_below, cells_below}
@@ -31,13 +33,13 @@ use Rattle.serializer.specs.ListStep.{list_head}
 use Rattle.serializer.specs.Options.{unpacked}
 use Rattle.serializer.specs.Writers.{self_at, progress_at, at_text, gone, Fits}
 use Rattle.text.specs.Texts.{bytes, wrote}
-use Rattle.spec.specs.Bytes.{Bytes, ascii}
+use Rattle.spec.specs.Bytes.{Bytes, ascii, is_blank}
 use Rattle.spec.specs.Call.{tags_to_skip}
 use Rattle.spec.specs.Md.Ctx.{fresh, table_cell, break_of, list_item, include_node, advance_ol_number, skip_escape, link_body, scope_of, inline, emphasis_scope}
 use Rattle.spec.specs.Md.Elements.Emphasis.{md_emphasis}
 use Rattle.spec.specs.Md.Elements.Image.{write_img}
 use Rattle.spec.specs.Md.Elements.Link.{link_of}
-use Rattle.spec.specs.Md.Elements.List.{begin_item, item_from, item_children, write_list_item_blocks, write_list_item, number_of, list_children, write_list}
+use Rattle.spec.specs.Md.Elements.List.{begin_item, item_from, item_children, write_list_item_blocks, write_list_item, number_of, list_children, write_list, kind_of, renumbered}
 use Rattle.spec.specs.Md.Elements.Table.{cell_text, without_breaks, trim_trailing_cell_break, escape_table_cell_inplace, rows_of, from_cells, concat}
 use Rattle.spec.specs.Md.MDSerializer.{write_kids}
 use Rattle.spec.specs.Md.Serializer.{serializer, in_element, closed, write_at, write_nodes, opened}
@@ -63,7 +65,7 @@ use Rattle.tree.specs.Represents.{attrs_behind, Rep}
 use borrow.Author.Tests.{eqb-true}
 use lib.Dec.{lit<, eqb}
 use lib.ListN.{take, length, drop, get_or}
-use mathlib.Core.Bool.{true, false, Bool, cond}
+use mathlib.Core.Bool.{true, false, Bool, cond, ◌&&◌}
 use mathlib.Core.List.{List, ◌∷◌, []}
 use mathlib.Core.Path.{refl, ap, sym, subst, ◌∙◌, subst₂}
 use native.Mathlib.Omega.{arith}
@@ -201,7 +203,6 @@ pub body-push_link-requires : goal.body-push_link-requires
 body-push_link-requires t c =
     let p = c.requires.0 in (
       nest-fits c.args.text.now.room.now c.args.text.now.len c.args.text.now.fits (c.kids_behind.ensures.writes_element.for p.0.0 p.0.1 p.0.2 p.1.0 p.0.3 p.1.1) c.in_ok-n.was,
-      omega (arith, c.node_place-place.ensures, (placed_node p).placed),
       c.requires.2,
     )
 
@@ -215,7 +216,7 @@ body-returns t c =
         for = λ name attrs kids anc x h. let link = write_kids (self_at a.self.now.skip a.levels) anc a.opts (element name attrs kids nothing) [] in
             alike (ap (λ (f : Step). f (bytes a.text.now)) (link_is attrs href link push))
             (nest-done a.text.now.room.now a.text.now.len c.args.text.now.fits (kids_as (self_at c.args.self.now.skip c.args.levels) c.of-bits.ensures c.kids_behind.ensures.writes_element name attrs kids anc x h) (λ z. link_step attrs href z push) c.in_ok-n.was
-            (subst (λ (l : List Attr). Writes (length (back a.text.now.room.now a.text.now.len c.kids_behind.new.room)) c.push_link.new.text.room.now (wrote c.push_link.new.text c.push_link.result) (link_step l href (take c.in_ok-n.n (drop a.text.now.len (back a.text.now.room.now a.text.now.len c.kids_behind.new.room))) push (take a.text.now.len (back a.text.now.room.now a.text.now.len c.kids_behind.new.room)))) (ap (attrs_behind a.self.now.sheet.now) c.node_place-place.ensures ∙ sym x.attrs_are) c.push_link.ensures.writes));
+            (subst (λ (l : List Attr). Writes (length (back a.text.now.room.now a.text.now.len c.kids_behind.new.room)) c.push_link.new.text.room.now (wrote c.push_link.new.text c.push_link.result) (link_step l href (take c.in_ok-n.n (drop a.text.now.len (back a.text.now.room.now a.text.now.len c.kids_behind.new.room))) push (take a.text.now.len (back a.text.now.room.now a.text.now.len c.kids_behind.new.room)))) (of_node attrs_behind c.field-field.ensures ∙ sym x.attrs_are) c.push_link.ensures.writes));
       };
     }
 
@@ -309,13 +310,9 @@ cells-returns t c =
       rows_writes = rows_end c.loop-r.invariant.1 c.loop-r-test.false;
     }
 
-pub child-node_place-place-requires : goal.child-node_place-place-requires
-child-node_place-place-requires t c =
-    (node_stands c.requires.0).inside
-
-pub child-tag_at-tag-requires : goal.child-tag_at-tag-requires
-child-tag_at-tag-requires t c =
-    omega (arith, c.node_place-place.ensures, (node_stands c.requires.0).placed)
+pub child-field-field-requires : goal.child-field-field-requires
+child-field-field-requires t c =
+    let n = node_stands c.requires.0 in (n.inside, n.placed)
 
 pub child-node_is_skipped-requires : goal.child-node_is_skipped-requires
 child-node_is_skipped-requires t c =
@@ -331,16 +328,12 @@ child-children-requires t c = (
   (wrapper_kids c.requires.0 c.node_end-end.ensures c.node_is_block_wrapper.ensures c.if-node_is_block_wrapper.true, c.requires.2),
 )
 
-pub child-is_blank_text-blank-requires : goal.child-is_blank_text-blank-requires
-child-is_blank_text-blank-requires t c =
-    omega (arith, c.node_place-place.ensures, (node_stands c.requires.0).placed)
-
 pub child-returns-then-tag : goal.child-returns-then-tag
 child-returns-then-tag t c =
     record {
       room = room_same c.args.text.now;
       kept = kept_none c.args.nodes.now;
-      goes_forest = child_comment c.args.self.now.sheet.now c.args.nodes.now c.args.c c.node_place-place.ensures (tags_to_skip (skip_of c.args.self.now.skip)) c.args.levels (item_of c.args.item) c.args.before.first c.args.before.due c.args.text.now.room.now c.args.text.now.len c.args.text.now.fits c.tag_at-tag.ensures c.if-tag.true;
+      goes_forest = child_comment c.args.self.now.sheet.now c.args.nodes.now c.args.c refl (tags_to_skip (skip_of c.args.self.now.skip)) c.args.levels (item_of c.args.item) c.args.before.first c.args.before.due c.args.text.now.room.now c.args.text.now.len c.args.text.now.fits (tag_of_node c.field-field.ensures c.tag-tag.ensures) c.if-tag.true;
     }
 
 pub child-returns-then-node_is_skipped : goal.child-returns-then-node_is_skipped
@@ -348,7 +341,7 @@ child-returns-then-node_is_skipped t c =
     record {
       room = room_same c.args.text.now;
       kept = kept_none c.args.nodes.now;
-      goes_forest = child_skipped c.args.self.now.sheet.now c.args.nodes.now c.args.c c.node_place-place.ensures (tags_to_skip (skip_of c.args.self.now.skip)) c.args.levels (item_of c.args.item) c.args.before.first c.args.before.due c.args.text.now.room.now c.args.text.now.len c.args.text.now.fits c.node_is_skipped.ensures c.if-node_is_skipped.true;
+      goes_forest = child_skipped c.args.self.now.sheet.now c.args.nodes.now c.args.c refl (tags_to_skip (skip_of c.args.self.now.skip)) c.args.levels (item_of c.args.item) c.args.before.first c.args.before.due c.args.text.now.room.now c.args.text.now.len c.args.text.now.fits c.node_is_skipped.ensures c.if-node_is_skipped.true;
     }
 
 pub child-returns-then-node_is_block_wrapper : goal.child-returns-then-node_is_block_wrapper
@@ -356,7 +349,7 @@ child-returns-then-node_is_block_wrapper t c =
     record {
       room = c.children.ensures.room;
       kept = kept_in (omega arith) (omega (arith, c.node_end-end.ensures)) c.children.ensures.kept;
-      goes_forest = child_wrapper c.args.self.now.sheet.now c.args.nodes.now c.args.c c.node_place-place.ensures (tags_to_skip (skip_of c.args.self.now.skip)) c.args.levels (item_of c.args.item) c.args.before.first c.args.before.due c.args.text.now.room.now c.args.text.now.len c.node_is_skipped.ensures c.if-node_is_skipped.false c.requires.0.later c.node_is_block_wrapper.ensures c.node_end-end.ensures c.if-node_is_block_wrapper.true c.requires.0.alone.positive c.children.ensures.goes_forest;
+      goes_forest = child_wrapper c.args.self.now.sheet.now c.args.nodes.now c.args.c refl (tags_to_skip (skip_of c.args.self.now.skip)) c.args.levels (item_of c.args.item) c.args.before.first c.args.before.due c.args.text.now.room.now c.args.text.now.len c.node_is_skipped.ensures c.if-node_is_skipped.false c.requires.0.later c.node_is_block_wrapper.ensures c.node_end-end.ensures c.if-node_is_block_wrapper.true c.requires.0.alone.positive c.children.ensures.goes_forest;
     }
 
 pub child-returns : goal.child-returns
@@ -364,7 +357,7 @@ child-returns t c =
     record {
       room = c.alone.ensures.room;
       kept = c.alone.ensures.kept;
-      goes_forest = child_alone c.args.self.now.sheet.now c.args.nodes.now c.args.c c.node_place-place.ensures (tags_to_skip (skip_of c.args.self.now.skip)) c.args.levels (item_of c.args.item) c.args.before.first c.args.before.due c.args.text.now.room.now c.args.text.now.len c.node_is_skipped.ensures c.if-node_is_skipped.false c.requires.0.later c.node_is_block_wrapper.ensures c.tag_at-tag.ensures c.if-tag.false c.if-node_is_block_wrapper.false c.is_blank_text-blank.ensures c.alone.ensures.goes_forest;
+      goes_forest = child_alone c.args.self.now.sheet.now c.args.nodes.now c.args.c refl (tags_to_skip (skip_of c.args.self.now.skip)) c.args.levels (item_of c.args.item) c.args.before.first c.args.before.due c.args.text.now.room.now c.args.text.now.len c.node_is_skipped.ensures c.if-node_is_skipped.false c.requires.0.later c.node_is_block_wrapper.ensures (tag_of_node c.field-field.ensures c.tag-tag.ensures) c.if-tag.false c.if-node_is_block_wrapper.false (c.is_blank_text-blank.ensures ∙ of_node (λ (b : Bytes) (p : ℕ). eqb (get_or b p 0) 4 && is_blank (body_at b p)) c.field-field.ensures) c.alone.ensures.goes_forest;
     }
 
 pub children-loop-c-init : goal.children-loop-c-init
@@ -643,21 +636,17 @@ items-loop-c-init t c = (
   turn_first c.args.self.now.sheet.now c.args.nodes.now c.args.from c.args.to (λ anc f. list_children (self_at c.args.self.now.skip c.args.levels) anc f c.args.first) c.args.text.now.room.now c.args.text.now.len c.args.text.now.fits,
 )
 
-pub items-node_place-place-requires : goal.items-node_place-place-requires
-items-node_place-place-requires t c =
-    (node_stands (node_kept c.loop-c.invariant.1 (placeds_first c.loop-c.invariant.3 c.loop-c-test.true))).inside
+pub items-field-field-requires : goal.items-field-field-requires
+items-field-field-requires t c =
+    let n = node_stands (node_kept c.loop-c.invariant.1 (placeds_first c.loop-c.invariant.3 c.loop-c-test.true)) in (n.inside, n.placed)
 
 pub items-node_name-li-requires : goal.items-node_name-li-requires
 items-node_name-li-requires t c =
     node_stands (node_kept c.loop-c.invariant.1 (placeds_first c.loop-c.invariant.3 c.loop-c-test.true))
 
-pub items-renumbered-ctx-requires : goal.items-renumbered-ctx-requires
-items-renumbered-ctx-requires t c =
-    omega (arith, c.node_place-place.ensures, (node_stands (node_kept c.loop-c.invariant.1 (placeds_first c.loop-c.invariant.3 c.loop-c-test.true))).placed)
-
 pub items-item-requires : goal.items-item-requires
 items-item-requires t c =
-    let fits = fits_child c.args.levels (eqb c.node_name-li.result 16) (number_of (attr (ascii "value") (attrs_behind c.args.self.now.sheet.now c.node_place-place.result))) c.loop-c.ctx c.renumbered-ctx.result c.renumbered-ctx.ensures c.loop-c.invariant.4 in
+    let fits = fits_child c.args.levels (eqb c.node_name-li.result 16) (number_of (attr (ascii "value") (attrs_of c.field-field.result))) c.loop-c.ctx c.renumbered-ctx.result c.renumbered-ctx.ensures c.loop-c.invariant.4 in
     (falls_in c.args.levels c.decreases (lit< tt), (node_kept c.loop-c.invariant.1 (placeds_first c.loop-c.invariant.3 c.loop-c-test.true), ap (λ (k : ℕ). eqb k 16) c.node_name-li.ensures, fits))
 
 pub items-returns-in_err-item : goal.items-returns-in_err-item
@@ -668,7 +657,7 @@ items-returns-in_err-item t c =
       kept = kept_on c.loop-c.invariant.1 c.loop-c.invariant.2 c.loop-c.invariant.3 c.loop-c-test.true c.item.ensures.kept;
       writes_forest = stops_forest (wrote_err _ _ c.from_residual.ensures.0) (record {
         for = λ parent f anc h a.
-            turn_stop c.loop-c.invariant.5 (λ anc f. list_head self anc f c.renumbered-ctx.result) (λ anc f. list_children self anc f next) (λ parent anc g h u. list_first (self_at c.args.self.now.skip c.args.levels) anc c.loop-c.ctx u c.args.self.now.sheet.now c.args.nodes.now parent c.loop-c.c c.args.to g h c.loop-c-test.true c.node_place-place.result (eqb c.node_name-li.result 16) c.renumbered-ctx.result next (c.node_place-place.ensures ∙ place_kept c.loop-c.invariant.1 c.loop-c.c) (ap (λ (j : ℕ). eqb j 16) (c.node_name-li.ensures ∙ ap (name_at c.args.self.now.sheet.now) (place_kept c.loop-c.invariant.1 c.loop-c.c))) c.renumbered-ctx.ensures refl) c.loop-c-test.true (writes_before c.loop-c.invariant.1 c.item.ensures.writes_forest) (ap (wrote c.item.new.text) c.in_err-item.was) parent f anc h a;
+            turn_stop c.loop-c.invariant.5 (λ anc f. list_head self anc f c.renumbered-ctx.result) (λ anc f. list_children self anc f next) (λ parent anc g h u. list_first (self_at c.args.self.now.skip c.args.levels) anc c.loop-c.ctx u c.args.self.now.sheet.now c.args.nodes.now parent c.loop-c.c c.args.to g h c.loop-c-test.true (place_at c.loop-c.nodes c.loop-c.c) (eqb c.node_name-li.result 16) c.renumbered-ctx.result next (place_kept c.loop-c.invariant.1 c.loop-c.c) (ap (λ (j : ℕ). eqb j 16) (c.node_name-li.ensures ∙ ap (name_at c.args.self.now.sheet.now) (place_kept c.loop-c.invariant.1 c.loop-c.c))) (c.renumbered-ctx.ensures ∙ of_node (λ (b : Bytes) (p : ℕ). cond (eqb c.node_name-li.result 16) (renumbered c.loop-c.ctx.kind (number_of (attr (ascii "value") (attrs_behind b p))) c.loop-c.ctx) c.loop-c.ctx) c.field-field.ensures) refl) c.loop-c-test.true (writes_before c.loop-c.invariant.1 c.item.ensures.writes_forest) (ap (wrote c.item.new.text) c.in_err-item.was) parent f anc h a;
       });
     }
 
@@ -682,7 +671,7 @@ items-loop-c-smaller t c =
 
 pub items-loop-c-preserved : goal.items-loop-c-preserved
 items-loop-c-preserved t c =
-    let fits = fits_child c.args.levels (eqb c.node_name-li.result 16) (number_of (attr (ascii "value") (attrs_behind c.args.self.now.sheet.now c.node_place-place.result))) c.loop-c.ctx c.renumbered-ctx.result c.renumbered-ctx.ensures c.loop-c.invariant.4 in
+    let fits = fits_child c.args.levels (eqb c.node_name-li.result 16) (number_of (attr (ascii "value") (attrs_of c.field-field.result))) c.loop-c.ctx c.renumbered-ctx.result c.renumbered-ctx.ensures c.loop-c.invariant.4 in
     let l = c.loop-c in
     let lt = c.loop-c-test.true in
     let K = kept_on c.loop-c.invariant.1 c.loop-c.invariant.2 c.loop-c.invariant.3 c.loop-c-test.true c.item.ensures.kept in
@@ -693,7 +682,7 @@ items-loop-c-preserved t c =
       omega (arith, placeds_later l.invariant.3 lt, l.invariant.2, q),
       subst (λ (k : ℕ). Placeds c.args.self.now.sheet.now c.args.nodes.now k c.args.to) (sym q) (placeds_on l.invariant.3 lt),
       fits_behind c.args.levels (eqb c.node_name-li.result 16) c.renumbered-ctx.result c.item.new.ctx c.item.ensures.ctx_value fits,
-      turn_on l.invariant.5 (λ anc f. list_head self anc f c.renumbered-ctx.result) (λ anc f. list_children self anc f c.item.new.ctx) (λ parent anc g h u. list_first (self_at c.args.self.now.skip c.args.levels) anc c.loop-c.ctx u c.args.self.now.sheet.now c.args.nodes.now parent c.loop-c.c c.args.to g h c.loop-c-test.true c.node_place-place.result (eqb c.node_name-li.result 16) c.renumbered-ctx.result c.item.new.ctx (c.node_place-place.ensures ∙ place_kept c.loop-c.invariant.1 c.loop-c.c) (ap (λ (j : ℕ). eqb j 16) (c.node_name-li.ensures ∙ ap (name_at c.args.self.now.sheet.now) (place_kept c.loop-c.invariant.1 c.loop-c.c))) c.renumbered-ctx.ensures c.item.ensures.ctx_value) lt (writes_before c.loop-c.invariant.1 c.item.ensures.writes_forest) q (ap (wrote c.item.new.text) c.in_ok-item.was),
+      turn_on l.invariant.5 (λ anc f. list_head self anc f c.renumbered-ctx.result) (λ anc f. list_children self anc f c.item.new.ctx) (λ parent anc g h u. list_first (self_at c.args.self.now.skip c.args.levels) anc c.loop-c.ctx u c.args.self.now.sheet.now c.args.nodes.now parent c.loop-c.c c.args.to g h c.loop-c-test.true (place_at c.loop-c.nodes c.loop-c.c) (eqb c.node_name-li.result 16) c.renumbered-ctx.result c.item.new.ctx (place_kept c.loop-c.invariant.1 c.loop-c.c) (ap (λ (j : ℕ). eqb j 16) (c.node_name-li.ensures ∙ ap (name_at c.args.self.now.sheet.now) (place_kept c.loop-c.invariant.1 c.loop-c.c))) (c.renumbered-ctx.ensures ∙ of_node (λ (b : Bytes) (p : ℕ). cond (eqb c.node_name-li.result 16) (renumbered c.loop-c.ctx.kind (number_of (attr (ascii "value") (attrs_behind b p))) c.loop-c.ctx) c.loop-c.ctx) c.field-field.ensures) c.item.ensures.ctx_value) lt (writes_before c.loop-c.invariant.1 c.item.ensures.writes_forest) q (ap (wrote c.item.new.text) c.in_ok-item.was),
     )
 
 pub items-returns : goal.items-returns
@@ -830,7 +819,7 @@ link-returns t c =
             let w = done c.in_ok-n.was (written _ _ _ x) in
             alike (to_text (self_at a.self.now.skip a.levels) anc a.opts href name attrs kids (bytes a.text.now) (no_image _ _ _ x) (null_more (shown_text a.opts kids).text (λ z. c.if-n-eq0.false (w.count ∙ z))))
             (nest-done a.text.now.room.now a.text.now.len c.args.text.now.fits (written _ _ _ x) (λ z. text_link_step a.opts attrs href z) c.in_ok-n.was
-            (subst (λ (l : List Attr). Writes (length (back a.text.now.room.now a.text.now.len c.write_text_behind.new.room)) c.push_text_link.new.text.room.now (wrote c.push_text_link.new.text c.push_text_link.result) (text_link_step a.opts l href (take c.in_ok-n.n (drop a.text.now.len (back a.text.now.room.now a.text.now.len c.write_text_behind.new.room))) (take a.text.now.len (back a.text.now.room.now a.text.now.len c.write_text_behind.new.room)))) (ap (attrs_behind a.self.now.sheet.now) c.node_place-place.ensures ∙ sym x.attrs_are) c.push_text_link.ensures.writes));
+            (subst (λ (l : List Attr). Writes (length (back a.text.now.room.now a.text.now.len c.write_text_behind.new.room)) c.push_text_link.new.text.room.now (wrote c.push_text_link.new.text c.push_text_link.result) (text_link_step a.opts l href (take c.in_ok-n.n (drop a.text.now.len (back a.text.now.room.now a.text.now.len c.write_text_behind.new.room))) (take a.text.now.len (back a.text.now.room.now a.text.now.len c.write_text_behind.new.room)))) (of_node attrs_behind c.field-field.ensures ∙ sym x.attrs_are) c.push_text_link.ensures.writes));
       };
     }
 
@@ -849,13 +838,9 @@ link-returns-in_err-n t c =
       });
     }
 
-pub node-node_place-place-requires : goal.node-node_place-place-requires
-node-node_place-place-requires t c =
-    (node_stands c.requires.0).inside
-
-pub node-tag_at-requires : goal.node-tag_at-requires
-node-tag_at-requires t c =
-    omega (arith, (node_stands c.requires.0).placed, c.node_place-place.ensures)
+pub node-field-field-requires : goal.node-field-field-requires
+node-field-field-requires t c =
+    let n = node_stands c.requires.0 in (n.inside, n.placed)
 
 pub node-node_is_skipped-requires : goal.node-node_is_skipped-requires
 node-node_is_skipped-requires t c =
@@ -865,20 +850,20 @@ pub node-write_text_node-requires : goal.node-write_text_node-requires
 node-write_text_node-requires t c =
     node_stands c.requires.0
 
-pub node-returns-then-tag_at-ne-OPEN : goal.node-returns-then-tag_at-ne-OPEN
-node-returns-then-tag_at-ne-OPEN t c =
+pub node-returns-then-tag-ne-OPEN : goal.node-returns-then-tag-ne-OPEN
+node-returns-then-tag-ne-OPEN t c =
     let a = c.args in
     let u = c.opts in
     record {
       room = leaf_room c.write_text_node.ensures;
       kept = kept_none a.nodes.now;
-      writes_forest = record { for = λ parent f anc h q. alike (ap (λ (o : FormatOpts). write_nodes (self_at a.self.now.skip a.levels) anc o f (bytes a.text.now)) (sym u.ensures) ∙ node_text a.self.now.sheet.now a.nodes.now parent a.at c.requires.0.later (self_at a.self.now.skip a.levels) anc u.result (bytes a.text.now) f h (λ e. c.if-tag_at-ne-OPEN.true (c.tag_at.ensures ∙ ap (λ (k : ℕ). get_or a.self.now.sheet.now k 0) c.node_place-place.ensures ∙ e))) c.write_text_node.ensures.writes };
+      writes_forest = record { for = λ parent f anc h q. alike (ap (λ (o : FormatOpts). write_nodes (self_at a.self.now.skip a.levels) anc o f (bytes a.text.now)) (sym u.ensures) ∙ node_text a.self.now.sheet.now a.nodes.now parent a.at c.requires.0.later (self_at a.self.now.skip a.levels) anc u.result (bytes a.text.now) f h (λ e. c.if-tag-ne-OPEN.true (tag_of_node c.field-field.ensures c.tag.ensures ∙ e))) c.write_text_node.ensures.writes };
     }
 
 pub node-returns-then-node_is_skipped : goal.node-returns-then-node_is_skipped
 unfolding serializer
 node-returns-then-node_is_skipped t c =
-    let tagged = tag_is c.args.self.now.sheet.now c.args.nodes.now c.args.at c.tag_at.ensures c.node_place-place.ensures c.if-tag_at-ne-OPEN.false in
+    let tagged = sym (tag_of_node c.field-field.ensures c.tag.ensures) ∙ c.if-tag-ne-OPEN.false in
     let a = c.args in record {
       room = room_same c.args.text.now;
       kept = kept_none a.nodes.now;
@@ -892,17 +877,17 @@ node-returns-then-node_is_skipped t c =
 
 pub node-opened-requires : goal.node-opened-requires
 node-opened-requires t c =
-    (node_placed c.requires.0 (tag_is c.args.self.now.sheet.now c.args.nodes.now c.args.at c.tag_at.ensures c.node_place-place.ensures c.if-tag_at-ne-OPEN.false)).0
+    (node_placed c.requires.0 (sym (tag_of_node c.field-field.ensures c.tag.ensures) ∙ c.if-tag-ne-OPEN.false)).0
 
 pub node-inside-requires : goal.node-inside-requires
 node-inside-requires t c =
-    let p = node_placed c.requires.0 (tag_is c.args.self.now.sheet.now c.args.nodes.now c.args.at c.tag_at.ensures c.node_place-place.ensures c.if-tag_at-ne-OPEN.false) in
+    let p = node_placed c.requires.0 (sym (tag_of_node c.field-field.ensures c.tag.ensures) ∙ c.if-tag-ne-OPEN.false) in
     (falls_in c.args.levels c.decreases (lit< tt), (p, c.requires.1))
 
 pub node-returns : goal.node-returns
 unfolding serializer
 node-returns t c =
-    let tagged = tag_is c.args.self.now.sheet.now c.args.nodes.now c.args.at c.tag_at.ensures c.node_place-place.ensures c.if-tag_at-ne-OPEN.false in
+    let tagged = sym (tag_of_node c.field-field.ensures c.tag.ensures) ∙ c.if-tag-ne-OPEN.false in
     let a = c.args in
     let name = body_at a.self.now.sheet.now (place_at a.nodes.now a.at) in
     let attrs = attrs_behind a.self.now.sheet.now (place_at a.nodes.now a.at) in record {
@@ -919,7 +904,7 @@ node-returns t c =
 pub node-returns-in_err-opened : goal.node-returns-in_err-opened
 unfolding serializer
 node-returns-in_err-opened t c =
-    let tagged = tag_is c.args.self.now.sheet.now c.args.nodes.now c.args.at c.tag_at.ensures c.node_place-place.ensures c.if-tag_at-ne-OPEN.false in
+    let tagged = sym (tag_of_node c.field-field.ensures c.tag.ensures) ∙ c.if-tag-ne-OPEN.false in
     let a = c.args in
     let name = body_at a.self.now.sheet.now (place_at a.nodes.now a.at) in
     let attrs = attrs_behind a.self.now.sheet.now (place_at a.nodes.now a.at) in record {
@@ -1144,7 +1129,7 @@ write_link-returns-in-Some t c =
       writes_element = record {
         for = λ name attrs kids anc x h.
             alike (link_some (self_at a.self.now.skip a.levels) anc a.opts c.in-Some.dest.now name attrs kids (bytes a.text.now)
-            (ap (attr (ascii "href")) (x.attrs_are ∙ ap (attrs_behind a.self.now.sheet.now) (sym c.node_place-place.ensures)) ∙ k.value_is)) (c.link.ensures.writes_element.for name attrs kids anc x h);
+            (ap (attr (ascii "href")) (x.attrs_are ∙ sym (of_node attrs_behind c.field-field.ensures)) ∙ k.value_is)) (c.link.ensures.writes_element.for name attrs kids anc x h);
       };
     }
 
@@ -1156,14 +1141,14 @@ write_link-returns-in-None t c =
       writes_element = record {
         for = λ name attrs kids anc x h.
             alike (link_none (self_at a.self.now.skip a.levels) anc a.opts name attrs kids (bytes a.text.now)
-            (ap (attr (ascii "href")) (x.attrs_are ∙ ap (attrs_behind a.self.now.sheet.now) (sym c.node_place-place.ensures)) ∙ (c.in-None.ensures).value_is))
+            (ap (attr (ascii "href")) (x.attrs_are ∙ sym (of_node attrs_behind c.field-field.ensures)) ∙ (c.in-None.ensures).value_is))
             (kids_as (self_at c.args.self.now.skip c.args.levels) (c.of.ensures ∙ c.fresh.ensures) c.kids.ensures.writes_element name attrs kids anc x h);
       };
     }
 
 pub write_list-items-requires : goal.write_list-items-requires
 write_list-items-requires t c =
-    (falls_in c.args.levels c.decreases (lit< tt), (placed_kids c.requires.0 c.node_end-to.ensures, fits_begun c.args.self.now.sheet.now c.node_place-place.result c.args.name c.args.opts c.new-ctx.ensures c.kind_of-kind.ensures c.args.levels c.requires.2))
+    (falls_in c.args.levels c.decreases (lit< tt), (placed_kids c.requires.0 c.node_end-to.ensures, c.requires.2, fits_begun c.field.result.sheet.now c.field.result.place c.args.name c.args.opts c.new-ctx.ensures c.kind_of-kind.ensures c.args.levels c.requires.3))
 
 pub write_list-returns : goal.write_list-returns
 write_list-returns t c =
@@ -1174,7 +1159,7 @@ write_list-returns t c =
       writes_element = record {
         for = λ name attrs kids anc x h.
             both-done a.text.now.room.now a.text.now.len c.args.text.now.fits (write_list self anc a.opts (tag_of name) attrs kids) (list_children self (attrs ∷ anc) kids c.new-ctx.result) (ended_list a.opts)
-            (list_parts a.self.now.sheet.now c.node_place-place.result a.name a.opts c.new-ctx.ensures c.kind_of-kind.ensures self anc (bytes a.text.now) c.node_place-place.ensures c.requires.1 x)
+            (list_parts a.self.now.sheet.now (place_at a.nodes.now a.at) a.name a.opts c.new-ctx.ensures (c.kind_of-kind.ensures ∙ ap (kind_of a.name) (of_node attrs_behind c.field.ensures)) self anc (bytes a.text.now) refl c.requires.1 x)
             (c.items.ensures.writes_forest.for a.at kids (attrs ∷ anc) (element_kids x c.node_end-to.ensures) (around_it anc x h)) (ap (wrote c.items.new.text) c.in_ok-items.was) c.end_list.ensures.writes;
       };
     }
@@ -1188,7 +1173,7 @@ write_list-returns-in_err-items t c =
       writes_element = stops_element (wrote_err _ _ c.from_residual.ensures.0) (record {
         for = λ name attrs kids anc x h.
             both-full a.text.now.room.now a.text.now.len c.args.text.now.fits (write_list self anc a.opts (tag_of name) attrs kids) (list_children self (attrs ∷ anc) kids c.new-ctx.result) (ended_list a.opts)
-            (list_parts a.self.now.sheet.now c.node_place-place.result a.name a.opts c.new-ctx.ensures c.kind_of-kind.ensures self anc (bytes a.text.now) c.node_place-place.ensures c.requires.1 x)
+            (list_parts a.self.now.sheet.now (place_at a.nodes.now a.at) a.name a.opts c.new-ctx.ensures (c.kind_of-kind.ensures ∙ ap (kind_of a.name) (of_node attrs_behind c.field.ensures)) self anc (bytes a.text.now) refl c.requires.1 x)
             (c.items.ensures.writes_forest.for a.at kids (attrs ∷ anc) (element_kids x c.node_end-to.ensures) (around_it anc x h)) (ap (wrote c.items.new.text) c.in_err-items.was);
       });
     }
@@ -1326,7 +1311,7 @@ write_element-returns-in-22 t c =
         for = λ name attrs kids anc x h.
             element_as (self_at a.self.now.skip a.levels) anc name attrs kids (bytes a.text.now) u.ensures
             (by_img (self_at a.self.now.skip a.levels) anc u.result name attrs kids (bytes a.text.now) (c.requires.1 ∙ element_name x) (sym c.is_list.ensures ∙ c.if-is_list.false) c.in-22.is
-            ∙ ap (λ (l : List Attr). write_img l (bytes a.text.now)) (x.attrs_are ∙ ap (attrs_behind a.self.now.sheet.now) (sym c.node_place.ensures))) c.write_img.ensures.writes;
+            ∙ ap (λ (l : List Attr). write_img l (bytes a.text.now)) (x.attrs_are ∙ sym (of_node attrs_behind c.field.ensures))) c.write_img.ensures.writes;
       };
     }
 

@@ -7,10 +7,11 @@ use Rattle.tree.specs.Nodes.{body_at}
 use Rattle.tree.proofs.Kin.{first_text_lem}
 use Rattle.serializer.proofs.texts.is_blank_text.Goals as goal
 
-pub returns : goal.returns
+pub returns-then-tag-eq-TEXT : goal.returns-then-tag-eq-TEXT
 unfolding is_blank
-returns c =
-    let e = sym c.tag_at.ensures ∙ c.if-tag_at-ne-TEXT.false in
+returns-then-tag-eq-TEXT c =
+    let s = c.args.field.sheet.now in let p = c.args.field.place in
+    let e = sym c.tag.ensures ∙ c.if-tag-eq-TEXT.true in
     c.all_in.ensures
-    ∙ ap is_blank (sym c.text_at-part.ensures.bytes_are ∙ first_text_lem c.args.sheet.now c.args.place e)
-    ∙ ap (λ (b : Bool). b && is_blank (body_at c.args.sheet.now c.args.place)) (sym (eq-eqb (get_or c.args.sheet.now c.args.place 0) 4 e))
+    ∙ ap is_blank (c.text.ensures ∙ first_text_lem s p e)
+    ∙ ap (λ (b : Bool). b && is_blank (body_at s p)) (sym (eq-eqb (get_or s p 0) 4 e))
