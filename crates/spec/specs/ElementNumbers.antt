@@ -5,39 +5,39 @@ use Rattle.spec.specs.declared.element.Name.TheVariants.{Other, Article, Section
 use Rattle.spec.specs.declared.element.UnknownNumber.{UnknownNumber}
 
 -- the number of a name, as `tag_of` counts them
-abbrev pub number_of : Name → ℕ
-number_of Other = 0
-number_of Article = 1
-number_of Section = 2
-number_of Div = 3
-number_of P = 4
-number_of H1 = 5
-number_of H2 = 6
-number_of H3 = 7
-number_of H4 = 8
-number_of H5 = 9
-number_of H6 = 10
-number_of Ul = 11
-number_of Ol = 12
-number_of Dl = 13
-number_of Table = 14
-number_of Hr = 15
-number_of Li = 16
-number_of Tr = 17
-number_of Th = 18
-number_of Td = 19
-number_of Br = 20
-number_of A = 21
-number_of Img = 22
-number_of Pre = 23
-number_of Code = 24
-number_of Strong = 25
-number_of B = 26
-number_of Em = 27
-number_of I = 28
-number_of Thead = 29
-number_of Tbody = 30
+abbrev pub element_number : Name → ℕ
+element_number Other = 0
+element_number Article = 1
+element_number Section = 2
+element_number Div = 3
+element_number P = 4
+element_number H1 = 5
+element_number H2 = 6
+element_number H3 = 7
+element_number H4 = 8
+element_number H5 = 9
+element_number H6 = 10
+element_number Ul = 11
+element_number Ol = 12
+element_number Dl = 13
+element_number Table = 14
+element_number Hr = 15
+element_number Li = 16
+element_number Tr = 17
+element_number Th = 18
+element_number Td = 19
+element_number Br = 20
+element_number A = 21
+element_number Img = 22
+element_number Pre = 23
+element_number Code = 24
+element_number Strong = 25
+element_number B = 26
+element_number Em = 27
+element_number I = 28
+element_number Thead = 29
+element_number Tbody = 30
 
 -- r is the name with the number n, or says that no name has it
 abbrev pub Numbers : ℕ → Result Name UnknownNumber → Type 0
-Numbers n r = MatchResult r (λ name. number_of name ≡ n) (λ e. (e.0 ≡ n) × (30 < n))
+Numbers n r = MatchResult r (λ name. element_number name ≡ n) (λ e. (e.0 ≡ n) × (30 < n))

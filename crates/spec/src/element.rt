@@ -2,7 +2,7 @@
 // numbers.
 
 ghost use Rattle.std.specs.Prelude.{◌≡◌};
-ghost use Rattle.spec.specs.ElementNumbers.{number_of, Numbers};
+ghost use Rattle.spec.specs.ElementNumbers.{element_number, Numbers};
 
 // The element names that the writers know, by the numbers under which nodes store them; `Other` is every other name.
 #[derive(Clone, Copy, PartialEq, Eq, Debug)]
@@ -41,7 +41,7 @@ pub enum Name {
 }
 
 impl From<Name> for usize {
-    ghost from_gives = { λ name n. n ≡ number_of name };
+    ghost from_gives = { λ name n. n ≡ element_number name };
 
     fn from(name: Name) -> usize {
         name as usize

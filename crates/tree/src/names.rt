@@ -7,7 +7,7 @@ ghost use Rattle.spec.specs.Call.{bodies, tags_to_skip};
 ghost use Rattle.spec.specs.Md.Constants.{DEFAULT_SKIP_TAGS};
 ghost use Rattle.input.specs.Scans.{skip_of};
 ghost use Rattle.tree.specs.Nodes.{name_at, skipped_at};
-ghost use Rattle.spec.specs.ElementNumbers.{number_of};
+ghost use Rattle.spec.specs.ElementNumbers.{element_number};
 
 use crate::field::NodeField;
 use input::fields::Fields;
@@ -24,7 +24,7 @@ fn has_name(run: &[u8], name: &[u8]) -> bool
 // The element that a name means.
 #[tactic(auto, using(crate::proofs::Naming::by_bytes), unfolding(crate::proofs::Naming::place_of, spec::specs::Names::names))]
 fn name_of(name: &[u8]) -> Name
-    ensures { number_of result ≡ tag_of name.now }
+    ensures { element_number result ≡ tag_of name.now }
 {
     match name {
         b"article" => Name::Article,

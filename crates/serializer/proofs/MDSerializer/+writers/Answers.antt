@@ -1148,7 +1148,7 @@ write_link-returns-in-None t c =
 
 pub write_list-items-requires : goal.write_list-items-requires
 write_list-items-requires t c =
-    (falls_in c.args.levels c.decreases (lit< tt), (placed_kids c.requires.0 c.node_end-to.ensures, c.requires.2, fits_begun c.field.result.sheet.now c.field.result.place c.args.name c.args.opts c.new-ctx.ensures c.kind_of-kind.ensures c.args.levels c.requires.3))
+    (falls_in c.args.levels c.decreases (lit< tt), (placed_kids c.requires.0 c.node_end-to.ensures, fits_begun c.field.result.sheet.now c.field.result.place c.args.name c.args.opts c.new-ctx.ensures c.kind_of-kind.ensures c.args.levels c.requires.2))
 
 pub write_list-returns : goal.write_list-returns
 write_list-returns t c =
