@@ -7,9 +7,8 @@ use crate::list::Call;
 use input::fields::span_at;
 use input::tag::NAME;
 use std::io;
-use tree::attributes::{attribute, language_attribute};
-use tree::names::is_skipped;
-use tree::nodes::{Tree, tag_at, text_at};
+use tree::field::NodeField;
+use tree::nodes::Tree;
 
 // Bytes of the sheet: how far behind the node's field they begin, and how many they are.
 #[derive(Clone, Copy, PartialEq)]
@@ -46,13 +45,12 @@ fn behind_node(n: Option<usize>, i: usize) -> usize {
     n.map_or(0, |j| j.saturating_sub(i))
 }
 
-// How far behind `place` the first attribute stands that has one of two names and this value: as far as its value. 0 where there
+// How far behind the field the first attribute stands that has one of two names and this value: as far as its value. 0 where there
 // is none.
-fn start_of_value(sheet: &[u8], place: usize, names: [&[u8]; 2], value: &[u8]) -> usize
-    requires { place + 3 ≤ length sheet.now }
-{
+fn start_of_value(field: NodeField, names: [&[u8]; 2], value: &[u8]) -> usize {
+    let NodeField { sheet, place } = field;
     let mut named = false;
-    let mut p = span_at(sheet, place).end;
+    let mut p = field.span().end;
     // a loop over places, which `Fields` does not give
     while 3 <= sheet.len() - p {
         let f = span_at(sheet, p);
@@ -67,12 +65,10 @@ fn start_of_value(sheet: &[u8], place: usize, names: [&[u8]; 2], value: &[u8]) -
 }
 
 // Where the value of an attribute stands that has one of two names.
-fn part_of_value(sheet: &[u8], place: usize, names: [&[u8]; 2], value: Option<&[u8]>) -> Part
-    requires { place + 3 ≤ length sheet.now }
-{
+fn part_of_value(field: NodeField, names: [&[u8]; 2], value: Option<&[u8]>) -> Part {
     match value {
         Some(value) => Part {
-            from: start_of_value(sheet, place, names, value),
+            from: start_of_value(field, names, value),
             len: value.len(),
         },
         None => Part { from: 0, len: 0 },
@@ -83,26 +79,25 @@ fn part_of_value(sheet: &[u8], place: usize, names: [&[u8]; 2], value: Option<&[
 fn read_line(call: &Call, tree: &Tree, i: usize, before: usize) -> Line
     requires { Readable tree.now.sheet.now tree.now.nodes.now i }
 {
-    let sheet = tree.sheet;
-    let place = tree.node_place(i);
-    let text = text_at(sheet, place);
-    let value = attribute(sheet, place, call.name);
-    let language = language_attribute(sheet, place);
+    let field = tree.field(i);
+    let text = field.text_range();
+    let value = field.attribute(call.name);
+    let language = field.language();
     Line {
         end: tree.node_end(i).saturating_sub(i),
         parent: tree.node_parent(i),
         first_child: behind_node(tree.first_child(i), i),
         next_sibling: behind_node(tree.next_sibling(i), i),
-        tag: tag_at(sheet, place),
+        tag: field.tag(),
         number: tree.node_number(i),
         text: Part {
-            from: text.start.saturating_sub(place),
+            from: text.start.saturating_sub(field.place),
             len: text.len(),
         },
-        value: part_of_value(sheet, place, [call.name, call.name], value),
-        language: part_of_value(sheet, place, [b"data-lang", b"data-language"], language),
-        skipped: is_skipped(sheet, place, call.skip),
-        place: place.saturating_sub(before),
+        value: part_of_value(field, [call.name, call.name], value),
+        language: part_of_value(field, [b"data-lang", b"data-language"], language),
+        skipped: field.is_skipped(call.skip),
+        place: field.place.saturating_sub(before),
     }
 }
 

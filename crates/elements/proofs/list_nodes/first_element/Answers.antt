@@ -1,4 +1,3 @@
-use Prim.Native.Nat.{ℕ}
 use mathlib.Core.Path.{◌≡◌, sym, ap, subst, ◌∙◌}
 use lib.ListN.{get_or}
 use Rattle.spec.specs.Tree.{Forest}
@@ -8,8 +7,7 @@ use Rattle.tree.proofs.Firsts.{ended}
 use Rattle.nodes.specs.FirstElement.{first_element}
 use Rattle.nodes.proofs.Siblings.{left_on, left_node, turn_before, turn_left, turn_on, turn_none}
 use Rattle.nodes.proofs.Interrupts.{element_first, element_on}
-use Rattle.spec.specs.Bytes.{Bytes}
-use Rattle.tree.proofs.NodeFields.{of_node}
+use Rattle.tree.proofs.NodeFields.{tag_of_node}
 use Rattle.elements.proofs.list_nodes.first_element.Goals as goal
 
 pub field-requires : goal.field-requires
@@ -20,7 +18,7 @@ pub returns-then-tag-eq-OPEN : goal.returns-then-tag-eq-OPEN
 returns-then-tag-eq-OPEN c =
     let w = c.loop-i.invariant in let s = c.in-Some.ensures.steps in
     let sh = c.args.tree.now.sheet.now in let ns = c.args.tree.now.nodes.now in
-    let t : get_or sh (place_at ns c.in-Some.i) 0 ≡ 1 = sym (c.tag.ensures ∙ of_node (λ (b : Bytes) (p : ℕ). get_or b p 0) c.field.ensures) ∙ c.if-tag-eq-OPEN.true in (
+    let t : get_or sh (place_at ns c.in-Some.i) 0 ≡ 1 = sym (tag_of_node c.field.ensures c.tag.ensures) ∙ c.if-tag-eq-OPEN.true in (
       turn_before w s,
       t,
       λ parent f h. let q = (turn_left w s).goes parent f h in
@@ -32,7 +30,7 @@ loop-i-preserved c =
     let w = c.loop-i.invariant in let s = c.in-Some.ensures.steps in
     let sh = c.args.tree.now.sheet.now in let ns = c.args.tree.now.nodes.now in
     turn_on w s (left_on (turn_left w s) (turn_before w s) (λ parent g h. element_on sh ns parent c.in-Some.i c.args.to g h
-    (λ q. c.if-tag-eq-OPEN.false (c.tag.ensures ∙ (of_node (λ (b : Bytes) (p : ℕ). get_or b p 0) c.field.ensures ∙ q)))))
+    (λ q. c.if-tag-eq-OPEN.false (tag_of_node c.field.ensures c.tag.ensures ∙ q))))
 
 pub returns : goal.returns
 unfolding first_element
