@@ -51,5 +51,9 @@ length_most (suc k) n h =
 pub length_nine : (n : ℕ) → n ≤ 999999999 → length (decimal n) ≤ 9
 length_nine n h = length_most 8 n (omega arith)
 
+-- a u32 has at most ten
+pub length_ten : (n : ℕ) → n < 4294967296 → length (decimal n) ≤ 10
+length_ten n h = length_most 9 n (omega arith)
+
 pub length_least : (n : ℕ) → 1 ≤ length (decimal n)
 length_least n = few n (λ s. omega (arith, length_one n s)) (λ s. omega (arith, length_more n s))
