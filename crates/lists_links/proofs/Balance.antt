@@ -5,7 +5,7 @@ use mathlib.Core.Bool.{Bool, true, false, cond, ◌&&◌, false≢true}
 use mathlib.Core.Logic.{◌⊎◌, inl, inr, ⊎_elim}
 use native.Mathlib.Omega.{arith}
 use lib.Dec.{eqb}
-use lib.IntN.{ℤ, pos, negsuc, ◌-ℤ◌}
+use lib.IntN.{ℤ, pos, negsuc, ◌+ℤ◌, ◌-ℤ◌}
 use lib.Signed.{lt_z}
 use mir.Facts.{to_z-of_z}
 use mir.Syntax.{w32}
@@ -44,6 +44,13 @@ cases false true false n h e = inr (e, refl)
 cases false false z n h e = inr (e, refl)
 
 module _ (n b : ℕ) (h : n ≤ 1048576) where
+  pub next_fits : SFits w32 (pos n +ℤ pos 1) × SFits w32 (pos n -ℤ pos 1)
+  next_fits = (pos_fits (n + 1) (omega arith), rw minus_one (go (eqb n 0)))
+    where
+      go : (t : Bool) → SFits w32 (cond t (negsuc 0) (pos (n - 1)))
+      go true = record { sfits = omega arith }
+      go false = pos_fits (n - 1) (omega arith)
+
   module _ {r : ℤ} (e : r ≡ next_balance (pos n) b) where
     next_is : r ≡ cond (eqb b 40) (pos (n + 1)) (cond (eqb b 41) (cond (eqb n 0) (negsuc 0) (pos (n - 1))) (pos n))
     next_is = e ∙ rw (minus_one n)

@@ -125,6 +125,15 @@ module _ (a b : Bytes) (f : Field) (fs : List Field) where
       let p : (eqb f.tag 2 ≡ true) × ((same a f.body || same b f.body) ≡ true) = (and-eq-true_iff _ _).0 (ap (λ (t : Bool). t || (eqb f.tag 2 && (same a f.body || same b f.body))) (sym n) ∙ e) in
       ap (either_attr a b) (name_then_lem f (tail fs) (eqb-true f.tag 2 p.0)).0 ∙ rw p.1
 
+-- by the places of a sheet: the field at p is one of two names, and the value is what the field behind it says
+pub either_found : (s : Bytes) (p : ℕ) (r : Span) → p + 3 ≤ length s → r ≡ span_at s p → (a b : Bytes) (v : Option Bytes) → v ≡ either_attr a b (tail (fields (drop p s))).attrs
+    → (eqb r.tag 2 && (same a (field_of s r).body || same b (field_of s r).body)) ≡ true → v ≡ some (tail (fields (drop r.end s))).value
+unfolding tail either_attr
+either_found s p r h r-is a b v so_far e =
+    let q : (eqb r.tag 2 ≡ true) × ((same a (field_of s r).body || same b (field_of s r).body) ≡ true) = (and-eq-true_iff _ _).0 e in
+    let at : tail (fields (drop p s)) ≡ field_then (field_of s r) (tail (fields (drop r.end s))) = rw (r-is, span_fields s p h) in
+    so_far ∙ ap (λ (t : Tail). either_attr a b t.attrs) at ∙ ap (either_attr a b) (name_then_lem (field_of s r) _ (eqb-true r.tag 2 q.0)).0 ∙ rw q.1
+
 module _ (s a b : Bytes) {F : Type 0} {g : Mut F (Bor code.Field × Unit {0}) Bool} {f : F}
     (closure : (x : code.Field) (t : Bool) (k : F) → CalledAt g f x t k → (k ≡ f) × (t ≡ stops a b (field x))) where
   passes : (xs : List code.Field) (i t : Fields) (j : F) → Yields (YieldsFirstBy field fields_left) i xs t → FoldsTo (λ p x q. CalledAt g p x false q) f xs j
