@@ -1,4 +1,4 @@
--- A text that was gathered behind the text, and what is made of it. Assumes nothing.
+-- A text that was gathered behind the text, and what is made of it.
 use Prim.Native.Nat.{ℕ, ◌+◌, ◌-◌, ◌≤◌, ◌<◌, max}
 use native.Mathlib.Omega.{arith}
 use mathlib.Core.Path.{◌≡◌, ap, ap₂, ◌∙◌, sym, subst, subst₂}

@@ -1,4 +1,4 @@
--- How the texts of a range of nodes begin and end, and the code without its edges. Assumes nothing.
+-- How the texts of a range of nodes begin and end, and the code without its edges.
 use Prim.Native.Nat.{ℕ, ◌+◌, ◌-◌, ◌≤◌, ◌<◌}
 use native.Mathlib.Omega.{arith}
 use mathlib.Core.Path.{◌≡◌, refl, ap, ◌∙◌, sym}

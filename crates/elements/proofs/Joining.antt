@@ -1,4 +1,4 @@
--- The words of a text that comes in pieces, joined by blanks. Assumes nothing.
+-- The words of a text that comes in pieces, joined by blanks.
 use Prim.Native.Nat.{ℕ, ◌+◌, ◌≤◌, ◌<◌}
 use native.Mathlib.Numerals.{add-one}
 use mathlib.Core.Path.{◌≡◌, refl, ap, ◌∙◌, sym}

@@ -1,4 +1,4 @@
--- The language of a code block, in an element and the elements around it, and in the words of a class. Assumes nothing.
+-- The language of a code block, in an element and the elements around it, and in the words of a class.
 use Prim.Native.Nat.{ℕ, suc, ◌+◌, ◌-◌, ◌≤◌, ◌<◌}
 use native.Mathlib.Omega.{arith}
 use mathlib.Core.Path.{◌≡◌, refl, ap, ◌∙◌, sym, subst}

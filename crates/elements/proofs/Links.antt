@@ -1,4 +1,4 @@
--- A link from its text, which was lifted to the end of the room, and the steps of links and emphasis in their definitions. Assumes nothing.
+-- A link from its text, which was lifted to the end of the room, and the steps of links and emphasis in their definitions.
 use Prim.Native.Nat.{ℕ, ◌+◌, ◌≤◌}
 use mathlib.Core.Path.{◌≡◌, refl, sym, ap, subst, subst₂, ◌∙◌}
 use mathlib.Core.Bool.{Bool, true, false, cond}

@@ -1,4 +1,4 @@
--- The tests of `elements/list.rs`, from sibling to sibling. Assumes nothing.
+-- The tests of `elements/list.rs`, from sibling to sibling.
 use Prim.Native.Nat.{ℕ, ◌<◌}
 use mathlib.Core.Path.{◌≡◌, refl, ap, ◌∙◌, sym}
 use mathlib.Core.Bool.{true, false, not, ◌&&◌, ◌||◌, false≢true}

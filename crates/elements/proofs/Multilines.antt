@@ -1,4 +1,4 @@
--- Texts of several lines, by the numbers of the nodes, and what `write_code` chooses by them. Assumes nothing.
+-- Texts of several lines, by the numbers of the nodes, and what `write_code` chooses by them.
 use Prim.Native.Nat.{ℕ, ◌+◌, ◌-◌, ◌≤◌, ◌<◌}
 use native.Mathlib.Omega.{arith}
 use mathlib.Core.Path.{◌≡◌, refl, ap, ◌∙◌, sym}

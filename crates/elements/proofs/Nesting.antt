@@ -1,4 +1,4 @@
--- A text begun behind the text, and a step that follows it. Assumes nothing.
+-- A text begun behind the text, and a step that follows it.
 use Prim.Native.Nat.{ℕ, ◌-◌, ◌≤◌}
 use native.Mathlib.Omega.{arith}
 use mathlib.Core.Path.{◌≡◌, ap, ◌∙◌, subst₂}

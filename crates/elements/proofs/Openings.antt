@@ -1,4 +1,4 @@
--- What stands before and behind an element's content, case by case. Assumes nothing.
+-- What stands before and behind an element's content, case by case.
 use Prim.Native.Nat.{ℕ}
 use mathlib.Core.Path.{◌≡◌, sym, ap, ◌∙◌}
 use mathlib.Core.Bool.{Bool, true, false, cond, not, ◌&&◌, false≢true}

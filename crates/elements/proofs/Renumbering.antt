@@ -1,4 +1,4 @@
--- An item's number. Assumes nothing.
+-- An item's number.
 use Prim.Native.Nat.{ℕ}
 use native.Mathlib.Omega.{arith}
 use mathlib.Core.Path.{◌≡◌, refl, ap}

@@ -1,4 +1,4 @@
--- White_Space at the front of a text. Assumes nothing.
+-- White_Space at the front of a text.
 use Prim.Native.Nat.{ℕ, zero, suc, ◌≤◌}
 use native.Mathlib.Omega.{arith}
 use mathlib.Core.Path.{◌≡◌, refl, sym}

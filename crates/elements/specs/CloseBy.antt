@@ -1,4 +1,4 @@
--- The two steps of `close_md`. Assumes nothing.
+-- The two steps of `close_md`.
 use Rattle.std.specs.Prelude.{ℕ, cond, [], ◌∷◌}
 use Rattle.spec.specs.Bytes.{isin}
 use Rattle.spec.specs.Names as tag

@@ -1,4 +1,4 @@
--- How texts that come in pieces end. Assumes nothing.
+-- How texts that come in pieces end.
 use Rattle.std.specs.Prelude.{Bool, cond}
 use Rattle.spec.specs.Bytes.{Bytes, ascii, null, one, ends_with, trim_end_matches}
 use Rattle.spec.specs.Md.Elements.Code.{is_tab_or_blank}

@@ -1,4 +1,4 @@
--- What `write_emphasis` does behind the emphasis text. Assumes nothing.
+-- What `write_emphasis` does behind the emphasis text.
 use Rattle.std.specs.Prelude.{ℕ, cond, []}
 use Rattle.spec.specs.Bytes.{Bytes, null}
 use Rattle.spec.specs.Out.{Step, keep}

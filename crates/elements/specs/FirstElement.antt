@@ -1,4 +1,4 @@
--- The answer of the search for the first element among siblings. Assumes nothing.
+-- The answer of the search for the first element among siblings.
 use Rattle.std.specs.Prelude.{ℕ, ◌<◌, ◌≡◌, Option, Some, None, get_or}
 use Rattle.spec.specs.Bytes.{Bytes}
 use Rattle.spec.specs.Tree.{Forest, nothing}

@@ -1,4 +1,4 @@
--- The steps of a list and of its items that reach no writer. Assumes nothing.
+-- The steps of a list and of its items that reach no writer.
 use Rattle.std.specs.Prelude.{ℕ, Bool, cond, []}
 use Rattle.spec.specs.Bytes.{Bytes, ascii}
 use Rattle.spec.specs.Out.{Step, keep, push}

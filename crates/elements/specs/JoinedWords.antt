@@ -1,4 +1,4 @@
--- The words of a text that comes in pieces, with a blank between two. Assumes nothing.
+-- The words of a text that comes in pieces, with a blank between two.
 use Rattle.std.specs.Prelude.{ℕ, ◌≡◌, Bool, cond, not, ◌&&◌, ◌||◌, [], ◌∷◌, ◌++◌, Result, Ok, Err}
 use Rattle.spec.specs.Bytes.{Bytes, ascii, white}
 use Rattle.spec.specs.Out.{push}

@@ -1,4 +1,4 @@
--- The language of a code block as a part of the sheet. Assumes nothing.
+-- The language of a code block as a part of the sheet.
 use Rattle.std.specs.Prelude.{ℕ, ◌≡◌}
 use Rattle.std.proofs.Math.Option.{Option, map}
 use Rattle.spec.specs.Bytes.{Bytes}

@@ -1,4 +1,4 @@
--- What a link's writers do behind the link's text. Assumes nothing.
+-- What a link's writers do behind the link's text.
 use Rattle.std.specs.Prelude.{Bool, cond, List, length}
 use Rattle.spec.specs.Bytes.{Bytes, ascii, null, is_blank}
 use Rattle.spec.specs.Tree.{Attr}

@@ -1,4 +1,4 @@
--- What `write_pre` does outside a link's text. Assumes nothing.
+-- What `write_pre` does outside a link's text.
 use Rattle.std.specs.Prelude.{cond, [], ◌++◌}
 use Rattle.spec.specs.Bytes.{Bytes, ascii, ends_with}
 use Rattle.spec.specs.Out.{Step, push}

@@ -1,4 +1,4 @@
--- What is asked of a field, by its tag. Assumes nothing.
+-- What is asked of a field, by its tag.
 use Prim.Native.Nat.{ℕ, ◌≤◌}
 use native.Mathlib.Omega.{arith}
 use mathlib.Core.Path.{◌≡◌, refl, sym}

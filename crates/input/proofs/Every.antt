@@ -1,4 +1,4 @@
--- A test on every field, counts of fields and of nodes, and the depth, from field to field. Assumes nothing.
+-- A test on every field, counts of fields and of nodes, and the depth, from field to field.
 use Prim.Native.Nat.{ℕ, suc, ◌+◌, ◌-◌, ◌<◌, ◌≤◌}
 use native.Mathlib.Omega.{arith}
 use mathlib.Core.Path.{◌≡◌, refl, ◌∙◌, sym}

@@ -1,4 +1,4 @@
--- The rules on fields, from field to field. Assumes nothing.
+-- The rules on fields, from field to field.
 use Prim.Native.Nat.{ℕ, ◌+◌, ◌-◌, ◌<◌, ◌≤◌}
 use native.Mathlib.Omega.{arith}
 use mathlib.Core.Path.{◌≡◌, refl, ap, ◌∙◌, sym}

@@ -1,4 +1,4 @@
--- A lead byte and the bytes that are due, against Table 3-7. Assumes nothing.
+-- A lead byte and the bytes that are due, against Table 3-7.
 use Prim.Native.Nat.{ℕ, zero, suc, ◌+◌, ◌-◌, ◌<◌, ◌≤◌}
 use native.Mathlib.Omega.{arith}
 use mathlib.Core.Path.{◌≡◌, refl, ap, ap₂, ◌∙◌, sym}

@@ -1,4 +1,4 @@
--- Questions 1 to 6 together, from field to field. Assumes nothing.
+-- Questions 1 to 6 together, from field to field.
 use Prim.Native.Nat.{ℕ, ◌+◌, ◌-◌, ◌≤◌, ◌<◌}
 use native.Mathlib.Omega.{arith}
 use mathlib.Core.Path.{◌≡◌, refl, ◌∙◌, sym}

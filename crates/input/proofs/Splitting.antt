@@ -1,4 +1,4 @@
--- The first field of a run, split off, and what is asked of all fields that an iterator gives. Assumes nothing.
+-- The first field of a run, split off, and what is asked of all fields that an iterator gives.
 use Prim.Native.Nat.{ℕ, zero, suc, ◌+◌, ◌-◌, ◌*◌, ◌≤◌, ◌<◌, min}
 use native.Mathlib.Omega.{arith}
 use mathlib.Core.Path.{◌≡◌, refl, ap, ◌∙◌, sym}

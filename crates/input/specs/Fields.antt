@@ -1,4 +1,4 @@
--- What the iterator over the fields of a run gives. Assumes nothing.
+-- What the iterator over the fields of a run gives.
 use Rattle.std.specs.Prelude.{List}
 use Rattle.spec.specs.Fields as spec
 use Rattle.input.specs.declared.fields.Field.{Field}

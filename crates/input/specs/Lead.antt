@@ -1,4 +1,4 @@
--- What the first byte of a UTF-8 sequence says of the rest, as numbers. Assumes nothing.
+-- What the first byte of a UTF-8 sequence says of the rest, as numbers.
 use Rattle.std.specs.Prelude.{ℕ, zero, suc, ◌-◌, ◌≡◌, Bool, false, cond, eqb, ltb, replicate, List, [], ◌∷◌, ◌++◌, Option, None, Some}
 use Rattle.spec.specs.Bytes.{Bytes}
 use Rattle.spec.specs.Utf8.{Range, to, well_formed}

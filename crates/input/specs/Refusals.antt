@@ -1,4 +1,4 @@
--- The numbers of the ten questions (document 01). Assumes nothing.
+-- The numbers of the ten questions (document 01).
 use Rattle.std.specs.Prelude.{ℕ, Result, Ok, Err}
 use Rattle.input.specs.declared.refusal.Refusal.{Refusal}
 use Rattle.input.specs.declared.refusal.Refusal.TheVariants.{

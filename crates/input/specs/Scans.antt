@@ -1,4 +1,4 @@
--- What the scan of a sheet's fields answers. Assumes nothing.
+-- What the scan of a sheet's fields answers.
 use Rattle.std.specs.Prelude.{ℕ, suc, Bool, true, false, cond, not, ◌&&◌, List, [], ◌∷◌, length, eqb, leb, Option, None, Some}
 use Rattle.std.specs.Borrow.{Bor}
 use Rattle.spec.specs.Utf8.{is_utf8}

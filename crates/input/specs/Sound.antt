@@ -1,4 +1,4 @@
--- What one pass over the fields says of a sheet that questions 1 to 6 let pass. Assumes nothing.
+-- What one pass over the fields says of a sheet that questions 1 to 6 let pass.
 use Rattle.std.specs.Prelude.{ℕ, ◌*◌, ◌≤◌, ◌≡◌, Bool, true, not, ◌&&◌, [], ◌∷◌, length, leb, ltb}
 use Rattle.spec.specs.Bytes.{Bytes}
 use Rattle.spec.specs.Utf8.{is_utf8}

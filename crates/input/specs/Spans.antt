@@ -1,4 +1,4 @@
--- Where a field stands in a byte string. Assumes nothing.
+-- Where a field stands in a byte string.
 use Rattle.std.specs.Prelude.{ℕ, ◌+◌, ◌-◌, ◌≤◌, ◌≡◌, cond, length, get_or, take, drop, ltb}
 use Rattle.spec.specs.Bytes.{Bytes}
 use Rattle.spec.specs.Fields.{Field, word}

@@ -1,4 +1,4 @@
--- The balance of parentheses as an i32: the definition's number until it falls below zero. Assumes nothing.
+-- The balance of parentheses as an i32: the definition's number until it falls below zero.
 use Prim.Native.Nat.{ℕ, zero, suc, ◌+◌, ◌-◌, ◌≤◌}
 use mathlib.Core.Path.{◌≡◌, refl, sym, ap, ◌∙◌}
 use mathlib.Core.Bool.{Bool, true, false, cond, ◌&&◌, false≢true}

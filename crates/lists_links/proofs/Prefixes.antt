@@ -1,4 +1,4 @@
--- Numbers in decimal, and the markers of items. Assumes nothing.
+-- Numbers in decimal, and the markers of items.
 use Prim.Native.Nat.{ℕ, ◌+◌, ◌/◌, ◌%◌, ◌≤◌, ◌<◌}
 use mathlib.Core.Path.{◌≡◌, ap, ◌∙◌}
 use mathlib.Core.List.{List, [], ◌∷◌}

@@ -1,4 +1,4 @@
--- A string whose bytes are replaced one by one. Assumes nothing.
+-- A string whose bytes are replaced one by one.
 use Prim.Native.Nat.{ℕ, ◌+◌, ◌≤◌, ◌<◌}
 use mathlib.Core.Path.{◌≡◌, sym, ap, ◌∙◌}
 use mathlib.Core.List.{List, [], ◌∷◌}

@@ -1,4 +1,4 @@
--- Values of attributes as parts of the sheet. Assumes nothing.
+-- Values of attributes as parts of the sheet.
 use Prim.Native.Nat.{ℕ, ◌+◌, ◌-◌, ◌≤◌}
 use mathlib.Core.Path.{◌≡◌, refl, sym, ap, subst, ◌∙◌}
 use mathlib.Core.Bool.{Bool, cond}

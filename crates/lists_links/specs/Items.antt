@@ -1,4 +1,4 @@
--- The items of a list as code knows them, and what their blocks append. Assumes nothing.
+-- The items of a list as code knows them, and what their blocks append.
 use Rattle.std.specs.Prelude.{ℕ, Bool, cond, not, ◌&&◌, [], ◌∷◌, ◌++◌, eqb, ltb, length, replicate}
 use Rattle.spec.specs.Bytes.{Bytes, ascii, ends_with, one, split, trim_ascii_end, trim_ascii_start, trim_end_matches, trim_start_matches}
 use Rattle.spec.specs.Out.{Step, keep, cut, push, and_then, beside}

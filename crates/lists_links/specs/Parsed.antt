@@ -1,4 +1,4 @@
--- The parts of a list number. Assumes nothing.
+-- The parts of a list number.
 use Rattle.std.specs.Prelude.{ℕ, cond, ◌||◌, eqb, drop}
 use Rattle.std.proofs.Math.Option.{Option, none, some}
 use Rattle.spec.specs.Bytes.{Bytes, ascii, null, starts_with, digit, take_while, trim_start_matches}

@@ -1,4 +1,4 @@
--- What stands for one byte of a link destination, and the balance of its parentheses. Assumes nothing.
+-- What stands for one byte of a link destination, and the balance of its parentheses.
 use Rattle.std.specs.Prelude.{ℕ, Bool, cond, not, ◌||◌, eqb, ℤ, pos, ◌+ℤ◌, ◌-ℤ◌}
 use Rattle.spec.specs.Bytes.{Bytes, ascii}
 use Rattle.spec.specs.Md.TextUtils.{wants_wrap, wrapped_byte, backslash_twice}

@@ -1,4 +1,4 @@
--- Headings. Assumes nothing.
+-- Headings.
 use Prim.Native.Nat.{ℕ, ◌≤◌}
 use mathlib.Core.Path.{◌≡◌, sym, ◌∙◌}
 use mathlib.Core.Bool.{Bool, cond, ◌&&◌}

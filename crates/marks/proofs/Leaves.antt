@@ -1,4 +1,4 @@
--- Ends of texts: backslashes, markers of emphasis, line breaks in cells, runs of backticks. Assumes nothing.
+-- Ends of texts: backslashes, markers of emphasis, line breaks in cells, runs of backticks.
 use Prim.Native.Nat.{ℕ, zero, suc, ◌+◌, ◌-◌, ◌%◌, ◌≤◌, ◌<◌, max}
 use mathlib.Core.Path.{◌≡◌, refl, sym, ap, ◌∙◌}
 use mathlib.Core.Bool.{Bool, true, false, cond, not, ◌&&◌, ◌||◌, false≢true, true≢false}

@@ -1,4 +1,4 @@
--- An emphasis text with its closing marker, and what stands before it. Assumes nothing.
+-- An emphasis text with its closing marker, and what stands before it.
 use Prim.Native.Nat.{ℕ, ◌+◌, ◌-◌, ◌≤◌, ◌<◌, max}
 use mathlib.Core.Path.{◌≡◌, refl, sym, ap, subst, subst₂, ◌∙◌}
 use mathlib.Core.Bool.{Bool, true, false, cond, not, ◌&&◌, false≢true}

@@ -1,4 +1,4 @@
--- Pipes escaped in place: the bytes move up from the last on. Assumes nothing.
+-- Pipes escaped in place: the bytes move up from the last on.
 use Prim.Native.Nat.{ℕ, zero, suc, ◌+◌, ◌-◌, ◌≤◌, ◌<◌}
 use mathlib.Core.Path.{◌≡◌, refl, sym, ap, subst, ◌∙◌}
 use mathlib.Core.Bool.{Bool, true, false, cond, not, ◌&&◌}

@@ -1,4 +1,4 @@
--- The bytes that a language's name keeps. Assumes nothing.
+-- The bytes that a language's name keeps.
 use Rattle.std.specs.Prelude.{ℕ, Bool, ◌||◌}
 use Rattle.spec.specs.Bytes.{ascii, isin}
 use Rattle.spec.specs.Md.Elements.Code.{is_alphanumeric}

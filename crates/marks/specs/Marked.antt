@@ -1,4 +1,4 @@
--- push_emphasis in two parts: what is done to the text before the emphasis text, and that text. Assumes nothing.
+-- push_emphasis in two parts: what is done to the text before the emphasis text, and that text.
 use Rattle.std.specs.Prelude.{Bool, cond, not, ◌&&◌, [], length}
 use Rattle.spec.specs.Bytes.{Bytes, ascii, starts_with, ends_with}
 use Rattle.spec.specs.Out.{Step, keep, push, and_then, beside}

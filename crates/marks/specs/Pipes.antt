@@ -1,4 +1,4 @@
--- Pipes that gain a backslash, and bytes put before others. Assumes nothing.
+-- Pipes that gain a backslash, and bytes put before others.
 use Rattle.std.specs.Prelude.{ℕ, ◌+◌, ◌≡◌, Bool, cond, not, ◌&&◌, List, [], ◌∷◌, ◌++◌, length, take, drop}
 use Rattle.spec.specs.Bytes.{Bytes, ascii, ends_with}
 use Rattle.spec.specs.Md.Elements.Emphasis.{drop_end}

@@ -1,4 +1,4 @@
--- The longest run of backticks, found part by part. Assumes nothing.
+-- The longest run of backticks, found part by part.
 use Rattle.std.specs.Prelude.{ℕ, ◌+◌, ◌≤◌, max, ◌≡◌, ◌++◌, length}
 use Rattle.spec.specs.Bytes.{Bytes}
 use Rattle.spec.specs.Md.Elements.Code.{longest_run}

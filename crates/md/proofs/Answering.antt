@@ -1,4 +1,4 @@
--- The answer of the call, and that it keeps the promise. Assumes nothing.
+-- The answer of the call, and that it keeps the promise.
 use Prim.Native.Nat.{ℕ, zero, suc, ◌-◌, ◌≤◌}
 use native.Mathlib.Omega.{arith}
 use mathlib.Core.Path.{◌≡◌, refl, sym, ap, ap₂, subst, subst₂, ◌∙◌}

@@ -1,4 +1,4 @@
--- The start node of a stored sheet: the nodes that the writers are given, and what the definition makes of them. Assumes nothing.
+-- The start node of a stored sheet: the nodes that the writers are given, and what the definition makes of them.
 use Prim.Native.Nat.{ℕ, zero, suc, ◌+◌, ◌-◌, ◌≤◌, ◌<◌}
 use native.Mathlib.Omega.{arith}
 use mathlib.Core.Path.{◌≡◌, refl, sym, subst, subst₂, ◌∙◌}

@@ -1,5 +1,5 @@
 -- What the answers of the call say: the number of document 01 and the length, for each case; and both coded in one signed number,
--- for hosts. Assumes nothing.
+-- for hosts.
 use Rattle.std.specs.Prelude.{ℕ, suc, Bool, true, false, not, eqb, ℤ, pos, negsuc, neg_ℤ, Result, Ok, Err}
 use Rattle.input.specs.declared.refusal.Refusal.{Refusal}
 use Rattle.input.specs.Refusals.{number_of as question}

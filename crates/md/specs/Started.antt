@@ -1,4 +1,4 @@
--- What is known once questions 1 to 9 have let a call pass and its sheet is stored, and what the call then answers. Assumes nothing.
+-- What is known once questions 1 to 9 have let a call pass and its sheet is stored, and what the call then answers.
 use Rattle.std.specs.Prelude.{ℕ, ◌<◌, ◌≡◌, eqb}
 use Rattle.spec.specs.Bytes.{Bytes}
 use Rattle.spec.specs.Questions.{node_count}

@@ -1,4 +1,4 @@
--- Loops that append something for the text of each node of a range. Assumes nothing.
+-- Loops that append something for the text of each node of a range.
 use Prim.Native.Nat.{ℕ, ◌+◌, ◌≤◌, ◌<◌}
 use native.Mathlib.Omega.{arith}
 use mathlib.Core.Path.{◌≡◌, refl, ap, ◌∙◌, sym}

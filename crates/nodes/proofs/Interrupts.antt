@@ -1,4 +1,4 @@
--- The first element of a list, and whether the list can interrupt a paragraph. Assumes nothing.
+-- The first element of a list, and whether the list can interrupt a paragraph.
 use Prim.Native.Nat.{ℕ, ◌+◌, ◌<◌}
 use native.Mathlib.Omega.{arith}
 use mathlib.Core.Path.{◌≡◌, refl, ap, ◌∙◌, sym, subst}

@@ -1,4 +1,4 @@
--- Loops through the numbers of a range of nodes. Assumes nothing.
+-- Loops through the numbers of a range of nodes.
 use Prim.Native.Nat.{ℕ, ◌+◌, ◌-◌, ◌≤◌, ◌<◌}
 use native.Mathlib.Omega.{arith}
 use mathlib.Core.Path.{◌≡◌, refl, ap, ◌∙◌, sym, subst, fun_ext}

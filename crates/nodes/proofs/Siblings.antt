@@ -1,4 +1,4 @@
--- Loops from sibling to sibling. Assumes nothing.
+-- Loops from sibling to sibling.
 use Prim.Native.Nat.{ℕ, ◌+◌, ◌≤◌, ◌<◌}
 use native.Mathlib.Omega.{arith}
 use mathlib.Core.Path.{◌≡◌, refl, ap, ap₂, ◌∙◌, sym, subst}

@@ -1,4 +1,4 @@
--- `write` under `skip_md` from place to place. Assumes nothing.
+-- `write` under `skip_md` from place to place.
 use Prim.Native.Nat.{ℕ, zero, suc, ◌+◌, ◌-◌, ◌*◌, ◌≤◌, ◌<◌}
 use native.Mathlib.Omega.{arith}
 use native.Mathlib.Nat.{add-mul, mul-le-mul_right}

@@ -1,4 +1,4 @@
--- Tests on names. Assumes nothing.
+-- Tests on names.
 use Prim.Native.Nat.{ℕ, zero, suc, ◌≤◌, ◌<◌}
 use native.Mathlib.Omega.{arith}
 use mathlib.Core.Path.{◌≡◌, refl, ◌∙◌, sym}

@@ -1,4 +1,4 @@
--- White_Space read from the front, byte by byte, and trimmed from the end. Assumes nothing.
+-- White_Space read from the front, byte by byte, and trimmed from the end.
 use Prim.Native.Nat.{ℕ, zero, suc, ◌+◌, ◌≤◌, ◌<◌}
 use native.Mathlib.Omega.{arith}
 use native.Mathlib.Numerals.{add-one}

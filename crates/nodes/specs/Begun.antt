@@ -1,4 +1,4 @@
--- What is known of a text after some of its bytes, to tell whether it is White_Space. Assumes nothing.
+-- What is known of a text after some of its bytes, to tell whether it is White_Space.
 use Rattle.std.specs.Prelude.{ℕ, Bool, true, false, cond, [], ◌∷◌, ◌++◌}
 use Rattle.spec.specs.Bytes.{Bytes, is_white_space}
 use Rattle.nodes.specs.declared.white_space.Begun.{Begun}

@@ -1,4 +1,4 @@
--- The first element among siblings. Assumes nothing.
+-- The first element among siblings.
 use Rattle.spec.specs.Tree.{Forest, nothing, text, comment, element}
 
 -- the siblings without the texts and comments that begin them

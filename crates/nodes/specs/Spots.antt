@@ -1,4 +1,4 @@
--- The places that `write` under `skip_md` goes through, and what it does at each. Assumes nothing.
+-- The places that `write` under `skip_md` goes through, and what it does at each.
 use Rattle.std.specs.Prelude.{ℕ, ◌+◌, cond, List, get_or, eqb, ltb}
 use Rattle.spec.specs.Bytes.{Bytes}
 use Rattle.spec.specs.Out.{Step}

@@ -1,4 +1,4 @@
--- The nodes that a function is given, in node memory. Assumes nothing.
+-- The nodes that a function is given, in node memory.
 use Rattle.std.specs.Prelude.{ℕ, ◌+◌, ◌*◌, ◌≤◌, ◌<◌, ◌≡◌, List, length}
 use Rattle.spec.specs.Bytes.{Bytes}
 use Rattle.spec.specs.Tree.{Attr, Forest}

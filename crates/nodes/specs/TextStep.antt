@@ -1,4 +1,4 @@
--- What `write_text` does at one node. Assumes nothing.
+-- What `write_text` does at one node.
 use Rattle.std.specs.Prelude.{ℕ, cond, get_or, eqb}
 use Rattle.spec.specs.Bytes.{Bytes}
 use Rattle.spec.specs.Out.{Step, keep}

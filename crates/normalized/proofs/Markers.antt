@@ -1,4 +1,4 @@
--- Markers of list items at the end of a text. Assumes nothing.
+-- Markers of list items at the end of a text.
 use Prim.Native.Nat.{ℕ, ◌-◌, ◌≤◌, ◌<◌}
 use mathlib.Core.Path.{◌≡◌, sym, ap, ◌∙◌}
 use mathlib.Core.Bool.{Bool, true, false, cond, not, ◌||◌, and-false}

@@ -1,4 +1,4 @@
--- The first word of a text, where it may start a line. Assumes nothing.
+-- The first word of a text, where it may start a line.
 use Prim.Native.Nat.{ℕ, suc, ◌+◌, ◌-◌, ◌≤◌, ◌<◌}
 use mathlib.Core.Path.{◌≡◌, refl, sym, ap, ◌∙◌}
 use mathlib.Core.Bool.{Bool, true, false, cond, not, ◌&&◌, ◌||◌, false≢true, and-false, or-true, not-not, and-eq-true_iff}

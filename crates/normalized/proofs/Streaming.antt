@@ -1,4 +1,4 @@
--- How a flow is appended: its bytes one by one, and plain bytes at once. Assumes nothing.
+-- How a flow is appended: its bytes one by one, and plain bytes at once.
 use Prim.Native.Nat.{ℕ, ◌+◌, ◌-◌, ◌≤◌, ◌<◌}
 use mathlib.Core.Path.{◌≡◌, refl, sym, ap, ap₂, ◌∙◌}
 use mathlib.Core.Bool.{Bool, true, false, cond, not, ◌&&◌}

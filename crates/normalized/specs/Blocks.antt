@@ -1,4 +1,4 @@
--- A block of bytes that is appended without a branch: each byte alone, or behind a backslash. Assumes nothing.
+-- A block of bytes that is appended without a branch: each byte alone, or behind a backslash.
 use Rattle.std.specs.Prelude.{ℕ, zero, suc, ◌+◌, ◌≤◌, ◌<◌, ◌≡◌, Bool, true, false, cond, ◌&&◌, List, [], ◌∷◌, ◌++◌, length, take, drop, get_or, eqb}
 use Rattle.spec.specs.Bytes.{Bytes, ascii, starts_with}
 use Rattle.spec.specs.Md.TextUtils.{is_escaped}

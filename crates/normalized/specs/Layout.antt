@@ -1,4 +1,4 @@
--- How a text is appended: what stands before its bytes and behind them, and what they add. Assumes nothing.
+-- How a text is appended: what stands before its bytes and behind them, and what they add.
 use Rattle.std.specs.Prelude.{ℕ, ◌≤◌, ◌<◌, ◌≡◌, Bool, true, false, cond, not, [], ◌++◌, length, take, eqb}
 use Rattle.std.proofs.Math.Seq.{slice}
 use Rattle.spec.specs.Bytes.{Bytes, ascii, every, white, starts_with}

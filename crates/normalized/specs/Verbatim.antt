@@ -1,4 +1,4 @@
--- A text of which each byte adds itself. Assumes nothing.
+-- A text of which each byte adds itself.
 use Rattle.std.specs.Prelude.{ℕ, ◌+◌, ◌≡◌, Bool, true, ◌||◌, length, get_or, eqb}
 use Rattle.spec.specs.Bytes.{Bytes}
 use Rattle.text.specs.Flow.{kept, Flows}

@@ -1,4 +1,4 @@
--- Where words begin and end in a part of a text. Assumes nothing.
+-- Where words begin and end in a part of a text.
 use Rattle.std.specs.Prelude.{ℕ, ◌≤◌, ◌<◌, ◌≡◌, false, not, List, ◌∷◌, get_or, eqb}
 use Rattle.std.proofs.Math.Seq.{slice}
 use Rattle.spec.specs.Bytes.{white, words, is_blank}

@@ -1,4 +1,4 @@
--- The reading of a plain sheet's lines, block by block. Assumes nothing.
+-- The reading of a plain sheet's lines, block by block.
 use Rattle.std.specs.Prelude.{ℕ, suc, ◌<◌, ◌≡◌, Bool, cond, ◌&&◌, List, [], ◌∷◌, ◌++◌, map, eqb}
 use Rattle.std.proofs.Common.{arith, sym, ap, ◌∙◌, subst₂, true≢false, append-nil, append_assoc, eqb-true}
 use Rattle.std.proofs.Math.Path.{refl, subst}

@@ -1,4 +1,4 @@
--- The cells of a row: they part where they were joined, and each gives its words. Assumes nothing.
+-- The cells of a row: they part where they were joined, and each gives its words.
 use Rattle.std.specs.Prelude.{ℕ, zero, suc, ◌-◌, max, ◌≡◌, refl, Bool, true, not, List, [], ◌∷◌, ◌++◌, map, eqb, length, replicate}
 use Rattle.std.proofs.Common.{arith, ap, ◌∙◌, append-nil, append_assoc, eqb-true}
 use Rattle.std.proofs.Math.Bool.{false}

@@ -1,4 +1,4 @@
--- The lines of a plain sheet hold no line end and no NUL, and the last of them is not empty. Assumes nothing.
+-- The lines of a plain sheet hold no line end and no NUL, and the last of them is not empty.
 use Rattle.std.specs.Prelude.{ℕ, zero, suc, ◌+◌, max, ◌≡◌, Bool, cond, not, ◌&&◌, List, [], ◌∷◌, ◌++◌, map, eqb, length, replicate}
 use Rattle.std.proofs.Math.Path.{refl, subst}
 use Rattle.std.proofs.Common.{sym, ap, true≢false, append-nil, eqb-true}

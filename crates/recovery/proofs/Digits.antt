@@ -1,4 +1,4 @@
--- Decimal digits: what `decimal` writes of a number, and how many digits that is. Assumes nothing.
+-- Decimal digits: what `decimal` writes of a number, and how many digits that is.
 use Rattle.std.specs.Prelude.{ℕ, zero, suc, ◌+◌, ◌-◌, ◌*◌, ◌/◌, ◌%◌, ◌≤◌, ◌<◌, ◌≡◌, refl, Bool, true, false, ◌⊎◌, [], ◌∷◌, ◌++◌, ltb, length}
 use Rattle.std.proofs.Common.{arith, div-add-mod', mod-lt, inl, inr, ⊎_elim, le-leb, ltb-true, ltb-false}
 use Rattle.spec.specs.Bytes.{Bytes, every, digit, value_from, decimal}

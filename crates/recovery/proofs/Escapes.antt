@@ -1,4 +1,4 @@
--- Escapes: what is written of words is, for the reading, those words and nothing else. Assumes nothing.
+-- Escapes: what is written of words is, for the reading, those words and nothing else.
 use Rattle.std.specs.Prelude.{ℕ, ◌≡◌, refl, Bool, true, false, cond, not, ◌&&◌, List, [], ◌∷◌, ◌++◌, map, eqb}
 use Rattle.std.proofs.Common.{ap, ◌∙◌}
 use Rattle.std.proofs.lemmas.Bool.{false≢true}

@@ -1,4 +1,4 @@
--- Fixed text: a fence shields its content byte for byte, and the content reads back with its final LF. Assumes nothing.
+-- Fixed text: a fence shields its content byte for byte, and the content reads back with its final LF.
 use Rattle.std.specs.Prelude.{ℕ, zero, suc, ◌+◌, ◌≤◌, ◌<◌, max, ◌≡◌, Bool, true, false, cond, List, [], ◌∷◌, ◌++◌, eqb, leb, length, replicate}
 use native.Mathlib.Omega.{arith}
 use Rattle.std.proofs.Math.Path.{refl}

@@ -1,4 +1,4 @@
--- Headings: the line of a heading reads as a heading of its level, and no word of it is taken for a closing sequence. Assumes nothing.
+-- Headings: the line of a heading reads as a heading of its level, and no word of it is taken for a closing sequence.
 use Rattle.std.specs.Prelude.{ℕ, zero, suc, ◌<◌, ◌≡◌, refl, Bool, true, false, cond, not, ◌&&◌, List, [], ◌∷◌, ◌++◌, eqb, replicate}
 use Rattle.std.proofs.Common.{ap, ◌∙◌, true≢false, le-leb}
 use Rattle.std.proofs.lemmas.Bool.{false≢true, not-true}

@@ -1,4 +1,4 @@
--- The line of an item: it opens the item at its content column, with its number and its words. Assumes nothing.
+-- The line of an item: it opens the item at its content column, with its number and its words.
 use Rattle.std.specs.Prelude.{ℕ, zero, suc, ◌+◌, ◌≤◌, ◌<◌, min, ◌≡◌, refl, Bool, true, false, ◌&&◌, List, [], ◌∷◌, ◌++◌, map, leb, length, replicate}
 use Rattle.std.proofs.Common.{arith, zero-add, ap, ◌∙◌, leb-true, leb-false, le-leb}
 use Rattle.std.proofs.Math.Bool.{and-false}

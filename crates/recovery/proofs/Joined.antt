@@ -1,4 +1,4 @@
--- Lines joined by LF: the reading's `lines` gives them back, and empty lines before the first block change nothing. Assumes nothing.
+-- Lines joined by LF: the reading's `lines` gives them back, and empty lines before the first block change nothing.
 use Rattle.std.specs.Prelude.{ℕ, ◌≡◌, refl, Bool, true, false, cond, not, ◌&&◌, List, [], ◌∷◌, ◌++◌, eqb}
 use Rattle.std.proofs.Common.{append-nil}
 use Rattle.std.proofs.lemmas.Bool.{not-true}

@@ -1,4 +1,4 @@
--- Lists: the lines of nested lists read as their items, each with its depth, its number and its words. Assumes nothing.
+-- Lists: the lines of nested lists read as their items, each with its depth, its number and its words.
 use Rattle.std.specs.Prelude.{ℕ, suc, ◌+◌, ◌≤◌, ◌<◌, min, ◌≡◌, Bool, true, false, cond, not, ◌&&◌, ◌||◌, ◌⊎◌, eqb, length}
 use Rattle.std.proofs.Common.{arith, sym, ◌∙◌, subst₂, true≢false, inl, inr, ⊎_elim, length-append, eqb-true, le-leb}
 use Rattle.std.proofs.Math.Path.{refl, ap}

@@ -1,4 +1,4 @@
--- The beginnings of lines: the first byte of words, the blanks before it, and the markers of items. Assumes nothing.
+-- The beginnings of lines: the first byte of words, the blanks before it, and the markers of items.
 use Rattle.std.specs.Prelude.{ℕ, zero, suc, ◌+◌, ◌≤◌, ◌≡◌, refl, Bool, true, false, cond, not, ◌||◌, List, [], ◌∷◌, ◌++◌, eqb, leb, length, replicate}
 use Rattle.std.proofs.Common.{arith, ap, ◌∙◌, append_assoc, le-leb, leb-true}
 use Rattle.std.proofs.lemmas.Bool.{false≢true, not-true}

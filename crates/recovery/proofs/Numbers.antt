@@ -1,4 +1,4 @@
--- List numbers: the writer's `parse_list_number` is the number of document 01, for every value. Assumes nothing.
+-- List numbers: the writer's `parse_list_number` is the number of document 01, for every value.
 use Rattle.std.specs.Prelude.{ℕ, zero, suc, ◌+◌, ◌-◌, ◌*◌, ◌≤◌, ◌<◌, min, ◌≡◌, refl, Bool, true, false, cond, ◌&&◌, ◌||◌, List, [], ◌∷◌, eqb, leb, ltb, length, drop}
 use Rattle.std.proofs.Common.{arith, ap, eqb-true, ltb-true, leb-true}
 use Rattle.std.proofs.Math.Option.{Option, none, some}

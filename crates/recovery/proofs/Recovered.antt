@@ -1,4 +1,4 @@
--- Demand 3 about the definitions: the reading of the text that is written of a plain sheet is the sheet's list. Assumes nothing.
+-- Demand 3 about the definitions: the reading of the text that is written of a plain sheet is the sheet's list.
 use Rattle.std.specs.Prelude.{ℕ, suc, ◌<◌, ◌≡◌, refl, Bool, true, false, cond, List, [], ◌∷◌, eqb, length, take}
 use Rattle.std.proofs.Common.{arith, ap, ◌∙◌, eqb-true}
 use Rattle.std.proofs.Math.Seq.{take-append_seam}

@@ -1,4 +1,4 @@
--- What stands inside a leaf gives nothing to the sheet's list. Assumes nothing.
+-- What stands inside a leaf gives nothing to the sheet's list.
 use Rattle.std.specs.Prelude.{ℕ, ◌≡◌, refl, Bool, true, false, cond, ◌&&◌, List, [], ◌∷◌, ◌++◌, eqb}
 use Rattle.std.proofs.lemmas.Bool.{false≢true}
 use Rattle.std.proofs.Math.Option.{Option, none}

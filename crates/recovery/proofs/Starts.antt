@@ -1,4 +1,4 @@
--- An escaped line begins no block: at the beginning of a line or of an item, words are text. Assumes nothing.
+-- An escaped line begins no block: at the beginning of a line or of an item, words are text.
 use Rattle.std.specs.Prelude.{ℕ, suc, ◌≡◌, Bool, true, false, cond, not, ◌&&◌, ◌||◌, List, [], ◌∷◌, ◌++◌, eqb, leb, length, take, drop}
 use Rattle.std.proofs.Common.{sym, ap, ◌∙◌, true≢false, eqb-true}
 use Rattle.std.proofs.Math.Path.{refl}

@@ -1,4 +1,4 @@
--- The reading of blocks that are one line: a rule, a heading, a paragraph, behind an empty line. Assumes nothing.
+-- The reading of blocks that are one line: a rule, a heading, a paragraph, behind an empty line.
 use Rattle.std.specs.Prelude.{ℕ, suc, ◌<◌, ◌≡◌, refl, true, false, List, [], ◌∷◌, ◌++◌, map, length}
 use Rattle.std.proofs.Common.{ap, append-nil}
 use Rattle.std.proofs.Math.Bool.{and-false}

@@ -1,4 +1,4 @@
--- A plain table's lines read as the table of the sheet's list. Assumes nothing.
+-- A plain table's lines read as the table of the sheet's list.
 use Rattle.std.specs.Prelude.{ℕ, zero, suc, ◌≤◌, ◌≡◌, Bool, true, false, cond, ◌&&◌, ◌||◌, List, [], ◌∷◌, ◌++◌, map, eqb, leb, length, replicate}
 use Rattle.std.proofs.Common.{arith, sym, ap, ap₂, ◌∙◌, true≢false, eqb-true, leb-true}
 use Rattle.std.proofs.Math.Path.{refl}

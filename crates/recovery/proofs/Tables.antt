@@ -1,4 +1,4 @@
--- Tables: the lines of a table read as its headings and rows. Assumes nothing.
+-- Tables: the lines of a table read as its headings and rows.
 use Rattle.std.specs.Prelude.{ℕ, ◌≡◌, refl, Bool, true, false, eqb, length}
 use Rattle.std.proofs.Common.{sym, ap, ◌∙◌}
 use Rattle.std.proofs.Math.Bool.{and-false}

@@ -1,4 +1,4 @@
--- Words: those of a plain text, and words put in one line with a blank between them, which part there again. Assumes nothing.
+-- Words: those of a plain text, and words put in one line with a blank between them, which part there again.
 use Rattle.std.specs.Prelude.{ℕ, ◌≡◌, refl, Bool, true, false, cond, not, ◌&&◌, List, [], ◌∷◌, ◌++◌, eqb}
 use Rattle.std.proofs.Common.{sym, ap, append-nil, ne_eqb}
 use Rattle.std.proofs.lemmas.Bool.{eqb-false, not-true}

@@ -1,4 +1,4 @@
--- The writer's half of demand 3: the definition of the writer gives the closed form of a plain sheet's text. Assumes nothing.
+-- The writer's half of demand 3: the definition of the writer gives the closed form of a plain sheet's text.
 pub mod Ends
 pub mod Breaks
 pub mod Lines

@@ -1,4 +1,4 @@
--- The closed form: the lines of a plain sheet's text, from the tree alone, without texts that grow and trims. Assumes nothing.
+-- The closed form: the lines of a plain sheet's text, from the tree alone, without texts that grow and trims.
 --
 -- The writer's definition gives this text, and the reading of this text is the sheet's list: the two halves of demand 3 meet here.
 use Rattle.std.specs.Prelude.{ℕ, suc, ◌+◌, ◌-◌, max, min, Bool, true, false, cond, ◌&&◌, List, [], ◌∷◌, ◌++◌, map, length, replicate, eqb}

@@ -1,4 +1,4 @@
--- What a writer's answer gives its caller. Assumes nothing.
+-- What a writer's answer gives its caller.
 use Prim.Native.Nat.{ℕ, ◌+◌, ◌≤◌}
 use mathlib.Core.Path.{◌≡◌, refl, ap, sym, subst, ◌∙◌}
 use mathlib.Core.Bool.{false≢true}

@@ -1,4 +1,4 @@
--- The writer that an element's name chooses. Assumes nothing.
+-- The writer that an element's name chooses.
 use Prim.Native.Nat.{ℕ}
 use mathlib.Core.Path.{◌≡◌, ap, sym, ◌∙◌}
 use mathlib.Core.Bool.{true, false}

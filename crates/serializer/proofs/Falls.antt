@@ -1,4 +1,4 @@
--- The falling number of the writers: a level is 2 ^ 67 ranks. Assumes nothing.
+-- The falling number of the writers: a level is 2 ^ 67 ranks.
 use Prim.Native.Nat.{ℕ, ◌+◌, ◌-◌, ◌*◌, ◌<◌}
 use native.Mathlib.Omega.{arith}
 use mathlib.Core.Path.{◌≡◌}

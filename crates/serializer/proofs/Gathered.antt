@@ -1,4 +1,4 @@
--- Texts begun behind the text, which stay there. Assumes nothing.
+-- Texts begun behind the text, which stay there.
 use Prim.Native.Nat.{ℕ, ◌+◌, ◌-◌, ◌≤◌, max}
 use native.Mathlib.Omega.{arith}
 use mathlib.Core.Path.{◌≡◌, refl, ap, sym, subst, ◌∙◌}

@@ -1,4 +1,4 @@
--- How the answers for the children of an item go together. Assumes nothing.
+-- How the answers for the children of an item go together.
 use Prim.Native.Nat.{ℕ, ◌≤◌, ◌<◌}
 use mathlib.Core.Path.{◌≡◌, refl, ap, sym, subst, ◌∙◌}
 use mathlib.Core.Bool.{Bool, true, false, ◌||◌, false≢true}

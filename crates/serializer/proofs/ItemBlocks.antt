@@ -1,4 +1,4 @@
--- The steps of an item's children, from what the functions behind them answer. Assumes nothing.
+-- The steps of an item's children, from what the functions behind them answer.
 use Prim.Native.Nat.{ℕ, ◌+◌, ◌≤◌, ◌<◌}
 use native.Mathlib.Omega.{arith}
 use mathlib.Core.Path.{◌≡◌, refl, ap, sym, subst, ◌∙◌}

@@ -1,4 +1,4 @@
--- A child of an item, from what the functions behind it answer. Assumes nothing.
+-- A child of an item, from what the functions behind it answer.
 use Prim.Native.Nat.{ℕ, ◌+◌, ◌-◌, ◌*◌, ◌≤◌, ◌<◌}
 use native.Mathlib.Omega.{arith}
 use mathlib.Core.Path.{◌≡◌, refl, ap, sym, subst, ◌∙◌}

@@ -1,4 +1,4 @@
--- `write` at a level, and the nodes of a forest one after the other. Assumes nothing.
+-- `write` at a level, and the nodes of a forest one after the other.
 use Prim.Native.Nat.{ℕ, zero, suc, ◌-◌, ◌<◌}
 use native.Mathlib.Omega.{arith}
 use mathlib.Core.Path.{◌≡◌, refl, sym, ap}

@@ -1,4 +1,4 @@
--- What a link shows. Assumes nothing.
+-- What a link shows.
 use Prim.Native.Nat.{ℕ, ◌+◌, ◌≤◌}
 use native.Mathlib.Omega.{arith}
 use mathlib.Core.Path.{◌≡◌, refl, ap, sym, subst, ◌∙◌}

@@ -1,4 +1,4 @@
--- What `write` does at one node, and in an element. Assumes nothing.
+-- What `write` does at one node, and in an element.
 use Prim.Native.Nat.{ℕ, ◌+◌, ◌<◌}
 use native.Mathlib.Omega.{arith}
 use mathlib.Core.Path.{◌≡◌, refl, ap, sym, subst, ◌∙◌}

@@ -1,4 +1,4 @@
--- What the children of an item do goes on from where the text stands. Assumes nothing.
+-- What the children of an item do goes on from where the text stands.
 use native.Mathlib.Omega.{arith}
 use mathlib.Core.Path.{◌≡◌, refl, sym, ap, ◌∙◌}
 use mathlib.Core.Bool.{Bool, true, false, cond, not, ◌&&◌, ◌||◌}

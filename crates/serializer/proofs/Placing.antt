@@ -1,4 +1,4 @@
--- The nodes that the writers are given: an element's children, the nodes of a range, and both after scratch has changed. Assumes nothing.
+-- The nodes that the writers are given: an element's children, the nodes of a range, and both after scratch has changed.
 use Prim.Native.Nat.{ℕ, ◌+◌, ◌≤◌, ◌<◌}
 use native.Mathlib.Omega.{arith}
 use mathlib.Core.Path.{◌≡◌, refl, ap, sym, subst, ◌∙◌}

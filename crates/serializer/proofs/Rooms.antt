@@ -1,4 +1,4 @@
--- A text keeps its room, and the answers on a text in the words of memory and length. Assumes nothing.
+-- A text keeps its room, and the answers on a text in the words of memory and length.
 use mathlib.Core.Path.{◌≡◌, refl, ap, sym, ◌∙◌}
 use mathlib.Core.Bool.{Bool, false≢true}
 use mathlib.Core.List.{List}

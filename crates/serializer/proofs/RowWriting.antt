@@ -1,4 +1,4 @@
--- The loop that writes the cells of a row. Assumes nothing.
+-- The loop that writes the cells of a row.
 use Prim.Native.Nat.{ℕ, ◌+◌, ◌*◌, ◌≤◌, ◌<◌}
 use native.Mathlib.Omega.{arith}
 use mathlib.Core.Path.{◌≡◌, refl, ap, sym, subst, ◌∙◌}

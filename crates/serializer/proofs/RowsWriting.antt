@@ -1,4 +1,4 @@
--- The loop that writes the cells of the rows of a table. Assumes nothing.
+-- The loop that writes the cells of the rows of a table.
 use Prim.Native.Nat.{ℕ, ◌+◌, ◌≤◌, ◌<◌}
 use native.Mathlib.Omega.{arith}
 use mathlib.Core.Path.{◌≡◌, refl, ap, sym, ◌∙◌}

@@ -1,4 +1,4 @@
--- Whether a table is written as one. Assumes nothing.
+-- Whether a table is written as one.
 use Prim.Native.Nat.{ℕ, ◌+◌, ◌≤◌, ◌<◌}
 use native.Mathlib.Omega.{arith}
 use mathlib.Core.Path.{◌≡◌, sym, ◌∙◌}

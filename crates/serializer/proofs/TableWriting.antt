@@ -1,4 +1,4 @@
--- `write_table` from the cells' texts and the table that is made of them. Assumes nothing.
+-- `write_table` from the cells' texts and the table that is made of them.
 use Prim.Native.Nat.{ℕ, ◌+◌, ◌-◌, ◌≤◌, ◌<◌}
 use native.Mathlib.Omega.{arith}
 use mathlib.Core.Path.{◌≡◌, refl, ap, sym, subst, ◌∙◌}

@@ -1,4 +1,4 @@
--- Loops that write sibling after sibling. Assumes nothing.
+-- Loops that write sibling after sibling.
 use Prim.Native.Nat.{ℕ, ◌≤◌, ◌<◌}
 use mathlib.Core.Path.{◌≡◌, refl, ap, sym, subst, ◌∙◌}
 use lib.ListN.{length, take}

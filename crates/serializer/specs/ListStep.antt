@@ -1,4 +1,4 @@
--- The steps of a list and of its items that reach a writer. Assumes nothing.
+-- The steps of a list and of its items that reach a writer.
 use Rattle.std.specs.Prelude.{Bool, cond, eqb}
 use Rattle.spec.specs.Names as tag
 use Rattle.spec.specs.Names.{tag_of}

@@ -1,4 +1,4 @@
--- The options in one number. Assumes nothing.
+-- The options in one number.
 use Rattle.std.specs.Prelude.{ℕ, ◌/◌, ◌%◌, Bool, not, eqb}
 use Rattle.spec.specs.declared.ctx.FormatOpts.{FormatOpts}
 use Rattle.serializer.specs.declared.options.PackedOpts.{PackedOpts}

@@ -1,4 +1,4 @@
--- What the writers are given, and what they answer. Assumes nothing.
+-- What the writers are given, and what they answer.
 use Rattle.std.specs.Prelude.{ℕ, ◌+◌, ◌*◌, ◌≤◌, ◌<◌, ◌^◌, ◌≡◌, Bool, List, length, take}
 use Rattle.spec.specs.Bytes.{Bytes}
 use Rattle.spec.specs.Tree.{Attr, Forest}

@@ -1,4 +1,4 @@
--- What the program `sheet` answers to a sheet of at most as many bytes as it reads. Assumes nothing.
+-- What the program `sheet` answers to a sheet of at most as many bytes as it reads.
 use Rattle.std.specs.Prelude.{◌≡◌, Bool, false, cond, eqb}
 use Rattle.spec.specs.Bytes.{Bytes}
 use Rattle.spec.specs.Questions.{standard}

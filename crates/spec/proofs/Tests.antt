@@ -1,4 +1,4 @@
--- Tests and classes of bytes: what one class says of a byte tells another. Assumes nothing.
+-- Tests and classes of bytes: what one class says of a byte tells another.
 use Prim.Native.Nat.{ℕ, zero, suc}
 use mathlib.Core.Path.{◌≡◌, refl, sym, ap, ◌∙◌}
 use mathlib.Core.Bool.{Bool, true, false, not, ◌&&◌, ◌||◌, true≢false, false≢true}

@@ -1,4 +1,4 @@
--- Bytes, and the functions of Rust's `str` that the serializer calls on them. Assumes nothing.
+-- Bytes, and the functions of Rust's `str` that the serializer calls on them.
 use Rattle.std.specs.Prelude.{ℕ, zero, suc, ◌+◌, ◌-◌, ◌*◌, ◌/◌, ◌%◌, Bool, true, false, cond, ◌&&◌, ◌||◌, List, [], ◌∷◌, ◌++◌, length, take, drop, eqb, leb, ltb}
 use Prim.Native.Char.{code}
 use Prim.Native.String as str

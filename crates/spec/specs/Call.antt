@@ -1,5 +1,5 @@
 -- The call: from a sheet, a skip list, a start node, with it or without it, and the lent memories (document 01, "node memory" and
--- "text memory") to the answer and every byte of both. Assumes nothing.
+-- "text memory") to the answer and every byte of both.
 use Rattle.std.specs.Prelude.{ℕ, ◌-◌, Bool, cond, List, [], ◌∷◌, ◌++◌, length, replicate, eqb, leb}
 use Rattle.spec.specs.Bytes.{Bytes}
 use Rattle.spec.specs.Fields.{Field, fields}

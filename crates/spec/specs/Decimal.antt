@@ -1,4 +1,4 @@
--- The digits of a number, one at a time. Assumes nothing.
+-- The digits of a number, one at a time.
 use Rattle.std.specs.Prelude.{ℕ, zero, suc, ◌+◌, ◌*◌, ◌/◌, ◌%◌, ◌≤◌, ◌<◌, ◌≡◌, refl, [], ◌∷◌, ◌++◌, Bool, true, false, ltb, length}
 use Rattle.std.proofs.Common.{ap, ◌∙◌, arith, lt-ltb, le-ltb, ltb-true, ltb-false, length-append}
 use Rattle.spec.specs.Bytes.{Bytes, digits_of, decimal}

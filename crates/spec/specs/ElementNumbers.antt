@@ -1,4 +1,4 @@
--- The element names as values, and their numbers. Assumes nothing.
+-- The element names as values, and their numbers.
 use Rattle.std.specs.Prelude.{ℕ, ◌<◌, ◌≡◌, Result, MatchResult}
 use Rattle.spec.specs.declared.element.Name.{Name}
 use Rattle.spec.specs.declared.element.Name.TheVariants.{Other, Article, Section, Div, P, H1, H2, H3, H4, H5, H6, Ul, Ol, Dl, Table, Hr, Li, Tr, Th, Td, Br, A, Img, Pre, Code, Strong, B, Em, I, Thead, Tbody}

@@ -1,4 +1,4 @@
--- What a sheet's list and the reading of a text consist of (document 01, "Plain sheets and their reading"). Assumes nothing.
+-- What a sheet's list and the reading of a text consist of (document 01, "Plain sheets and their reading").
 use Rattle.std.specs.Prelude.{ℕ, Bool, List, [], ◌∷◌, ◌++◌, length}
 use Rattle.std.proofs.Math.Option.{Option, none, some}
 use Rattle.spec.specs.Bytes.{Bytes, same}

@@ -1,5 +1,5 @@
 -- Fields, the form of sheets and skip lists (document 01, "The sheet"): "A field is a one-byte tag, a two-byte big-endian
--- length and that many bytes." Assumes nothing.
+-- length and that many bytes."
 use Rattle.std.specs.Prelude.{ℕ, zero, suc, ◌+◌, ◌*◌, ◌≤◌, ◌<◌, ◌≡◌, refl, Bool, true, false, ◌&&◌, List, [], ◌∷◌, length, take, drop, leb}
 use Rattle.std.proofs.Common.{arith, ap, length-drop}
 use Rattle.spec.specs.Bytes.{Bytes, null}

@@ -1,4 +1,4 @@
--- List numbers, by the HTML Standard's rules for parsing integers as document 01 states them. Assumes nothing.
+-- List numbers, by the HTML Standard's rules for parsing integers as document 01 states them.
 use Rattle.std.specs.Prelude.{ℕ, suc, min, cond, List, [], ◌∷◌, eqb}
 use Rattle.std.proofs.Math.Option.{Option, none, some}
 use Rattle.spec.specs.Bytes.{Bytes, ascii, digit, trim_ascii_start, take_while, value_from}

@@ -1,4 +1,4 @@
--- `serializing/md.rs` as definitions: one file for each file of the Rust, with its names. Assumes nothing.
+-- `serializing/md.rs` as definitions: one file for each file of the Rust, with its names.
 pub mod Constants
 pub mod LineBreak
 pub mod Ctx

@@ -1,4 +1,4 @@
--- The element names that the writers know, each by a small number. Assumes nothing.
+-- The element names that the writers know, each by a small number.
 use Rattle.std.specs.Prelude.{ℕ, suc, ◌≡◌, refl, cond, List, [], ◌∷◌, map}
 use Rattle.spec.specs.Bytes.{Bytes, ascii, same}
 

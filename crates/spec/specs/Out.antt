@@ -1,5 +1,5 @@
 -- What writing gives: the text, and the most room that it took on the way (document 01, question 10: "No, exactly when at
--- some append of the definition the texts then in being are together longer than it"). Assumes nothing.
+-- some append of the definition the texts then in being are together longer than it").
 use Rattle.std.specs.Prelude.{ℕ, ◌+◌, max, List, [], ◌∷◌, ◌++◌, length}
 use Rattle.spec.specs.Bytes.{Bytes}
 

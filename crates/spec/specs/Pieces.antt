@@ -1,5 +1,5 @@
 -- Pieces of the written text that a public document defines, each by the rules for that piece alone; what Reading/ defines is not said
--- again. Assumes nothing.
+-- again.
 --
 -- Sentences with a section number are those of the CommonMark specification 0.31 (John MacFarlane, CC BY-SA 4.0), those marked "GFM"
 -- are those of the GitHub Flavored Markdown specification (GitHub, CC BY-SA 4.0), those marked "HTML" are those of the HTML Standard

@@ -1,4 +1,4 @@
--- Plain sheets (document 01, "Plain sheets and their reading"), a test on what the fragment holds. Assumes nothing.
+-- Plain sheets (document 01, "Plain sheets and their reading"), a test on what the fragment holds.
 use Rattle.std.specs.Prelude.{ℕ, suc, Bool, true, false, cond, not, ◌&&◌, ◌||◌, List, [], ◌∷◌, ◌++◌, drop, eqb, leb}
 use Rattle.std.proofs.Math.Option.{Option, none, some}
 use Rattle.spec.specs.Bytes.{Bytes, ascii, null, same, isin, starts_with, ends_with, white_space_of, words, first_word}

@@ -1,6 +1,6 @@
 -- What a call of `serialize_md` promises, the three demands together: from a sheet, a skip list, a start number, with that node
 -- or without it, and both lent memories before the call, to the number and the length that it answers and both memories after it.
--- Assumes nothing.
+--
 use Rattle.std.specs.Prelude.{ℕ, ◌≡◌, Bool, true, false, take}
 use Rattle.spec.specs.Bytes.{Bytes}
 use Rattle.spec.specs.Fields.{fields}

@@ -1,4 +1,4 @@
--- Questions 1 to 9 (document 01, "The ten questions"), each a test of its own; `true` is yes. Assumes nothing.
+-- Questions 1 to 9 (document 01, "The ten questions"), each a test of its own; `true` is yes.
 use Rattle.std.specs.Prelude.{ℕ, suc, ◌-◌, ◌*◌, Bool, true, false, cond, not, ◌&&◌, List, [], ◌∷◌, length, eqb, leb, ltb}
 use Rattle.spec.specs.Bytes.{Bytes, ascii, null, same, isin}
 use Rattle.spec.specs.Utf8.{is_utf8}

@@ -1,4 +1,4 @@
--- The reading: what a Markdown reader finds in a text (document 01, "Plain sheets and their reading"). Assumes nothing.
+-- The reading: what a Markdown reader finds in a text (document 01, "Plain sheets and their reading").
 --
 -- Sentences quoted here and in Reading/ are, unless it is said otherwise, those of the CommonMark specification (John MacFarlane), in
 -- the words of version 0.30; where 0.31 has another rule, that rule is followed. "GFM" marks those of the GitHub Flavored Markdown

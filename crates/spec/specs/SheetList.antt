@@ -1,4 +1,4 @@
--- The sheet's list (document 01, "Plain sheets and their reading"), from the tree alone. Assumes nothing.
+-- The sheet's list (document 01, "Plain sheets and their reading"), from the tree alone.
 use Rattle.std.specs.Prelude.{ℕ, suc, ◌-◌, Bool, true, cond, ◌&&◌, ◌||◌, List, [], ◌∷◌, ◌++◌, map, eqb, leb}
 use Rattle.std.proofs.Math.Option.{Option, none, some}
 use Rattle.spec.specs.Bytes.{Bytes, ascii, null, ends_with, words}

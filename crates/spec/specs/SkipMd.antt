@@ -1,4 +1,4 @@
--- `write` under `skip_md` is `write_skip_md`: it reaches no other writer. Assumes nothing.
+-- `write` under `skip_md` is `write_skip_md`: it reaches no other writer.
 use Rattle.std.specs.Prelude.{ℕ, zero, suc, ◌≤◌, ◌<◌, ◌≡◌, refl, List, ◌∷◌}
 use Rattle.std.proofs.Common.{arith, ap}
 use Rattle.std.proofs.Math.Path.{fun_ext}

@@ -1,4 +1,4 @@
--- The tree of a sheet (document 01, "The sheet"). Assumes nothing.
+-- The tree of a sheet (document 01, "The sheet").
 use Rattle.std.specs.Prelude.{ℕ, zero, suc, ◌+◌, ◌-◌, max, cond, List, [], ◌∷◌, ◌++◌, eqb, ltb}
 use Rattle.std.proofs.Math.Option.{Option, none, some}
 use Rattle.spec.specs.Bytes.{Bytes, same}

@@ -1,4 +1,4 @@
--- UTF-8, by the Unicode Standard's Table 3-7, "Well-Formed UTF-8 Byte Sequences". Assumes nothing.
+-- UTF-8, by the Unicode Standard's Table 3-7, "Well-Formed UTF-8 Byte Sequences".
 use Rattle.std.specs.Prelude.{ℕ, Bool, true, false, cond, ◌&&◌, List, [], ◌∷◌, leb}
 use Rattle.spec.specs.Bytes.{Bytes}
 

@@ -1,4 +1,4 @@
--- The cells of a line, one by one. Assumes nothing.
+-- The cells of a line, one by one.
 use Prim.Native.Nat.{ℕ, ◌+◌, ◌≤◌}
 use native.Mathlib.Omega.{arith}
 use mathlib.Core.Path.{◌≡◌, refl, ap}

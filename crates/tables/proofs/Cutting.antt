@@ -1,4 +1,4 @@
--- Texts cut at their lengths, and the cells of lines. Assumes nothing.
+-- Texts cut at their lengths, and the cells of lines.
 use Prim.Native.Nat.{ℕ, ◌+◌, ◌-◌, ◌*◌, ◌≤◌, max}
 use native.Mathlib.Omega.{arith}
 use mathlib.Core.Path.{◌≡◌, refl, ap, sym, ◌∙◌}

@@ -1,4 +1,4 @@
--- What the numbers of a range give, and the lengths of a row's cells from sibling to sibling. Assumes nothing.
+-- What the numbers of a range give, and the lengths of a row's cells from sibling to sibling.
 use Prim.Native.Nat.{ℕ, zero, suc, ◌+◌, ◌-◌, ◌≤◌, ◌<◌, max}
 use native.Mathlib.Omega.{arith}
 use native.Mathlib.Numerals.{add-one}

@@ -1,4 +1,4 @@
--- The rows of a table that have cells, from row to row. Assumes nothing.
+-- The rows of a table that have cells, from row to row.
 use Prim.Native.Nat.{ℕ, suc, ◌+◌, ◌≤◌, ◌<◌}
 use native.Mathlib.Omega.{arith}
 use mathlib.Core.Path.{◌≡◌, refl, ap, sym, subst, ◌∙◌}

@@ -1,4 +1,4 @@
--- The tests of `elements/table.rs` on rows, from row to row. Assumes nothing.
+-- The tests of `elements/table.rs` on rows, from row to row.
 use Prim.Native.Nat.{ℕ, zero, suc, ◌+◌, ◌≤◌, ◌<◌}
 use native.Mathlib.Omega.{arith}
 use mathlib.Core.Path.{◌≡◌, refl, ap, ◌∙◌, sym, subst}

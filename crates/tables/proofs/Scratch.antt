@@ -1,4 +1,4 @@
--- What is stored in the scratch of a cell, and what it leaves of other cells'. Assumes nothing.
+-- What is stored in the scratch of a cell, and what it leaves of other cells'.
 use Prim.Native.Nat.{ℕ, zero, suc, ◌+◌, ◌-◌, ◌*◌, ◌≤◌, ◌<◌}
 use native.Mathlib.Omega.{arith}
 use mathlib.Core.Path.{◌≡◌, refl, ap, ap₂, ◌∙◌}

@@ -1,4 +1,4 @@
--- The cells of a row, from sibling to sibling. Assumes nothing.
+-- The cells of a row, from sibling to sibling.
 use Prim.Native.Nat.{ℕ, ◌+◌, ◌≤◌, ◌<◌}
 use native.Mathlib.Omega.{arith}
 use mathlib.Core.Path.{◌≡◌, refl, ap, ◌∙◌, sym, subst}

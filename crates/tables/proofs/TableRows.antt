@@ -1,4 +1,4 @@
--- The rows of a table, found by number. Assumes nothing.
+-- The rows of a table, found by number.
 use Prim.Native.Nat.{ℕ, ◌+◌, ◌%◌, ◌≤◌, ◌<◌}
 use native.Mathlib.Omega.{arith}
 use mathlib.Core.Path.{◌≡◌, refl, ap, ◌∙◌, sym, subst}

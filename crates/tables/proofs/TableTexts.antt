@@ -1,4 +1,4 @@
--- The table that is put together from cells' texts is the definition's. Assumes nothing.
+-- The table that is put together from cells' texts is the definition's.
 use Prim.Native.Nat.{ℕ, zero, suc, ◌+◌, ◌-◌, ◌<◌, max}
 use native.Mathlib.Omega.{arith}
 use mathlib.Core.Path.{◌≡◌, refl, ap, ap₂, sym, subst, ◌∙◌}

@@ -1,4 +1,4 @@
--- A table from the texts of its cells: the room that it takes, and that it is the definition's. Assumes nothing.
+-- A table from the texts of its cells: the room that it takes, and that it is the definition's.
 use Prim.Native.Nat.{ℕ, ◌+◌, ◌-◌, ◌*◌, ◌≤◌, ◌<◌}
 use native.Mathlib.Omega.{arith}
 use mathlib.Core.Path.{◌≡◌, ap, ap₂, sym, subst, ◌∙◌}

@@ -1,4 +1,4 @@
--- The cells of a line: texts, or hyphens under them. Assumes nothing.
+-- The cells of a line: texts, or hyphens under them.
 use Rattle.std.specs.Prelude.{ℕ, max, Bool, cond, List, take, replicate}
 use Rattle.spec.specs.Bytes.{Bytes}
 use Rattle.tables.specs.Spans.{cuts, unders}

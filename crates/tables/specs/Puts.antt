@@ -1,4 +1,4 @@
--- Bytes put where room is known to be. Assumes nothing.
+-- Bytes put where room is known to be.
 use Rattle.std.specs.Prelude.{ℕ, ◌+◌, ◌≡◌, List, [], ◌∷◌, ◌++◌, length, take, drop}
 use Rattle.spec.specs.Bytes.{Bytes}
 use Rattle.text.specs.declared.text.Text.{Text}

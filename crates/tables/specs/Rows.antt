@@ -1,4 +1,4 @@
--- The rows of a table in node memory, among a range of numbers in the order of opening. Assumes nothing.
+-- The rows of a table in node memory, among a range of numbers in the order of opening.
 use Rattle.std.specs.Prelude.{ℕ, ◌+◌, ◌≤◌, ◌<◌, ◌≡◌, List, [], ◌∷◌}
 use Rattle.spec.specs.Bytes.{Bytes}
 use Rattle.spec.specs.Names.{tag_of}

@@ -1,4 +1,4 @@
--- The texts of a table's cells, one behind the other, by the lengths in the scratch of the cells' records. Assumes nothing.
+-- The texts of a table's cells, one behind the other, by the lengths in the scratch of the cells' records.
 use Rattle.std.specs.Prelude.{ℕ, zero, suc, ◌+◌, ◌-◌, ◌*◌, ◌<◌, max, ◌≡◌, true, cond, ◌&&◌, List, [], ◌∷◌, ◌++◌, length, take, drop, replicate, eqb}
 use Rattle.spec.specs.Bytes.{Bytes, null}
 use Rattle.spec.specs.Tree.{Forest}

@@ -1,4 +1,4 @@
--- The texts of a table's cells as they are written, and what is made of them. Assumes nothing.
+-- The texts of a table's cells as they are written, and what is made of them.
 use Rattle.std.specs.Prelude.{ℕ, ◌+◌, ◌-◌, ◌*◌, ◌≤◌, ◌<◌, ◌≡◌, List, [], ◌∷◌, ◌++◌, map, length}
 use Rattle.spec.specs.Bytes.{Bytes, ascii}
 use Rattle.spec.specs.Out.{Out, Step, and_then, push, beside, inside_all}

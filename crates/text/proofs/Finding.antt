@@ -1,4 +1,4 @@
--- What `all` and `position` of the library say, in the words of `spec`. Assumes nothing.
+-- What `all` and `position` of the library say, in the words of `spec`.
 use Prim.Native.Nat.{ℕ, zero, suc, ◌≤◌, ◌<◌}
 use mathlib.Core.Path.{◌≡◌, refl, sym, ap, ◌∙◌}
 use mathlib.Core.Bool.{Bool, true, false, and-false}

@@ -1,4 +1,4 @@
--- A temporary that was lifted to the end of the room: what is appended before it, then it, and what follows. Assumes nothing.
+-- A temporary that was lifted to the end of the room: what is appended before it, then it, and what follows.
 use Prim.Native.Nat.{ℕ, ◌+◌, ◌-◌, ◌≤◌, ◌<◌}
 use mathlib.Core.Path.{◌≡◌, sym, ap, subst, subst₂, ◌∙◌}
 use mathlib.Core.List.{List, ◌++◌}

@@ -1,4 +1,4 @@
--- Words of ordinary bytes: they are appended as they are. Assumes nothing.
+-- Words of ordinary bytes: they are appended as they are.
 use Prim.Native.Nat.{ℕ, suc, ◌-◌, ◌≤◌, ◌<◌}
 use mathlib.Core.Path.{◌≡◌, refl, sym, ap, ◌∙◌}
 use mathlib.Core.Bool.{Bool, true, false, cond, not, ◌&&◌, ◌||◌, false≢true, and-false, and-eq-true_iff}

@@ -1,4 +1,4 @@
--- Parts of a text's room that are lent to a callee, and temporaries that are lifted to the room's end. Assumes nothing.
+-- Parts of a text's room that are lent to a callee, and temporaries that are lifted to the room's end.
 use Prim.Native.Nat.{ℕ, ◌+◌, ◌-◌, ◌≤◌}
 use mathlib.Core.Path.{◌≡◌, sym, ap, subst, subst₂, ◌∙◌}
 use mathlib.Core.List.{List, ◌++◌}

@@ -1,4 +1,4 @@
--- Bytes that are appended: d is the memory, and its first `len` bytes are the text. Assumes nothing.
+-- Bytes that are appended: d is the memory, and its first `len` bytes are the text.
 use Prim.Native.Nat.{ℕ, ◌+◌, ◌-◌, ◌≤◌, ◌<◌}
 use mathlib.Core.Path.{◌≡◌, sym, ap, ◌∙◌}
 use mathlib.Core.List.{List, [], ◌∷◌, ◌++◌, append_assoc}

@@ -1,4 +1,4 @@
--- Texts that are appended before a room, behind which the memory stays as it is. Assumes nothing.
+-- Texts that are appended before a room, behind which the memory stays as it is.
 use Prim.Native.Nat.{ℕ, suc, ◌+◌, ◌-◌, ◌≤◌, ◌<◌}
 use mathlib.Core.Path.{◌≡◌, sym, ap, subst, subst₂, ◌∙◌}
 use mathlib.Core.Bool.{false}

@@ -1,4 +1,4 @@
--- Blanks and line breaks at the end of a text. Assumes nothing.
+-- Blanks and line breaks at the end of a text.
 use Prim.Native.Nat.{ℕ, zero, suc, ◌-◌, ◌≤◌, ◌<◌}
 use mathlib.Core.Path.{◌≡◌, refl, sym, ap, ◌∙◌}
 use mathlib.Core.Bool.{true, false, ◌||◌}

@@ -1,4 +1,4 @@
--- A text begun behind the text, lifted to the end of the room, and appended from there. Assumes nothing.
+-- A text begun behind the text, lifted to the end of the room, and appended from there.
 use Prim.Native.Nat.{ℕ, ◌+◌, ◌-◌, ◌≤◌}
 use mathlib.Core.Path.{◌≡◌, sym, ap, subst₂, ◌∙◌}
 use mathlib.Core.List.{List, ◌++◌}

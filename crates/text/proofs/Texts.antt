@@ -1,4 +1,4 @@
--- How the answers of methods that write to a text go together. Assumes nothing.
+-- How the answers of methods that write to a text go together.
 use Prim.Native.Nat.{ℕ, ◌+◌, ◌-◌, ◌≤◌, ◌<◌}
 use mathlib.Core.Path.{◌≡◌, refl, sym, subst, subst₂, ap, ◌∙◌}
 use mathlib.Core.Bool.{false≢true}

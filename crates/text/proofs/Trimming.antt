@@ -1,4 +1,4 @@
--- Trims, byte by byte from the end. Assumes nothing.
+-- Trims, byte by byte from the end.
 use Prim.Native.Nat.{ℕ, suc, ◌+◌, ◌-◌, ◌≤◌, ◌<◌}
 use mathlib.Core.Path.{◌≡◌, refl, sym, ap, subst, ◌∙◌}
 use mathlib.Core.Bool.{Bool, true, false}

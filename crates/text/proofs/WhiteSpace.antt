@@ -1,4 +1,4 @@
--- White_Space at the end of a text. Assumes nothing.
+-- White_Space at the end of a text.
 use Prim.Native.Nat.{ℕ, suc, ◌-◌, ◌≤◌, ◌<◌}
 use mathlib.Core.Path.{◌≡◌, refl, sym, ap, ◌∙◌}
 use mathlib.Core.Bool.{Bool, true, false, and-false}

@@ -1,4 +1,4 @@
--- How the answers of functions that write go together. Assumes nothing.
+-- How the answers of functions that write go together.
 use Prim.Native.Nat.{ℕ, ◌≤◌}
 use mathlib.Core.Path.{◌≡◌, refl, sym, ap, subst, subst₂}
 use mathlib.Core.Bool.{Bool, true, false, cond, false≢true}

@@ -1,4 +1,4 @@
--- What the sets of bytes of `class` hold that have no name in `spec`. Assumes nothing.
+-- What the sets of bytes of `class` hold that have no name in `spec`.
 use Rattle.std.specs.Prelude.{ℕ, Bool, not, ◌&&◌, eqb}
 use Rattle.spec.specs.Bytes.{isin, white}
 use Rattle.spec.specs.Md.Constants.{ALWAYS_ESCAPED}

@@ -1,4 +1,4 @@
--- A text that is appended byte by byte: what a byte adds depends on itself and on what stands behind it. Assumes nothing.
+-- A text that is appended byte by byte: what a byte adds depends on itself and on what stands behind it.
 use Rattle.std.specs.Prelude.{ℕ, ◌+◌, ◌≤◌, ◌<◌, ◌≡◌, Bool, true, false, cond, not, ◌&&◌, ◌||◌, [], ◌∷◌, ◌++◌, length, get_or, eqb}
 use Rattle.spec.specs.Bytes.{Bytes, ascii, white}
 use Rattle.spec.specs.Md.TextUtils.{is_escaped, is_ordered_list_marker}

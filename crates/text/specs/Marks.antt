@@ -1,4 +1,4 @@
--- The parts of a text that is appended word by word. Assumes nothing.
+-- The parts of a text that is appended word by word.
 use Rattle.std.specs.Prelude.{ℕ, Bool, cond, not, ◌&&◌, ◌||◌, [], ◌∷◌, eqb}
 use Rattle.spec.specs.Bytes.{Bytes, ascii, null, same, ends_with}
 use Rattle.spec.specs.Md.TextUtils.{escaped_from, ends_with_marker_digits}

@@ -1,4 +1,4 @@
--- A text whose room is a part of the memory. Assumes nothing.
+-- A text whose room is a part of the memory.
 use Rattle.std.specs.Prelude.{ℕ, ◌≡◌, List, length, take, drop}
 use Rattle.spec.specs.Out.{Out}
 use Rattle.text.specs.Writes.{Writes, Wrote}

@@ -1,4 +1,4 @@
--- What a method that writes to a text leaves: the same room, and in it what its definition makes of the text. Assumes nothing.
+-- What a method that writes to a text leaves: the same room, and in it what its definition makes of the text.
 use Rattle.std.specs.Prelude.{ℕ, ◌≡◌, List, length, take, Result, Ok, Err}
 use Rattle.spec.specs.Out.{Step}
 use Rattle.text.specs.declared.buffer.Full.{Full}

@@ -1,4 +1,4 @@
--- What a trim answers: the new length, or how much is left out in front. Assumes nothing.
+-- What a trim answers: the new length, or how much is left out in front.
 use Rattle.std.specs.Prelude.{ℕ, ◌≤◌, ◌<◌, ◌≡◌, List, length, take, drop}
 use Rattle.spec.specs.Bytes.{trim_end}
 

@@ -1,4 +1,4 @@
--- What a function that writes answers: the contract of each is `Writes` of its definition. Assumes nothing.
+-- What a function that writes answers: the contract of each is `Writes` of its definition.
 use Rattle.std.specs.Prelude.{ℕ, ◌≤◌, ◌<◌, ◌≡◌, List, length, take, Result, Ok, Err}
 use Rattle.spec.specs.Out.{Out}
 use Rattle.text.specs.declared.buffer.Full.{Full}

@@ -1,4 +1,4 @@
--- What the field of a node says of its kind, its name and its text, and what the records say of its siblings. Assumes nothing.
+-- What the field of a node says of its kind, its name and its text, and what the records say of its siblings.
 use Prim.Native.Nat.{ℕ, ◌-◌, ◌≤◌}
 use native.Mathlib.Omega.{arith}
 use mathlib.Core.Path.{◌≡◌, ap, ◌∙◌, sym}

@@ -1,4 +1,4 @@
--- The node with a number, and the elements around it. Assumes nothing.
+-- The node with a number, and the elements around it.
 use Prim.Native.Nat.{ℕ, zero, suc, ◌+◌, ◌-◌, ◌*◌, ◌≤◌, ◌<◌}
 use native.Mathlib.Omega.{arith}
 use mathlib.Core.Path.{◌≡◌, refl, ap, sym, subst}

@@ -1,4 +1,4 @@
--- The attributes that fields say, from field to field. Assumes nothing.
+-- The attributes that fields say, from field to field.
 use Prim.Native.Nat.{ℕ, ◌+◌, ◌-◌, ◌<◌, ◌≤◌}
 use native.Mathlib.Omega.{arith}
 use mathlib.Core.Path.{◌≡◌, refl, ap, ◌∙◌, sym, subst}

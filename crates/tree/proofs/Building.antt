@@ -1,4 +1,4 @@
--- Storing the fields of a sheet one after the other: what node memory tells so far, and what the rest will add. Assumes nothing.
+-- Storing the fields of a sheet one after the other: what node memory tells so far, and what the rest will add.
 use Prim.Native.Nat.{ℕ, ◌+◌, ◌*◌, ◌<◌, ◌≤◌}
 use native.Mathlib.Omega.{arith}
 use mathlib.Core.Path.{◌≡◌, refl, ◌∙◌}

@@ -1,4 +1,4 @@
--- The entry of a node in its record: the place of its field, and the number of its name. Assumes nothing.
+-- The entry of a node in its record: the place of its field, and the number of its name.
 use Prim.Native.Nat.{ℕ, suc, ◌+◌, ◌/◌, ◌%◌, ◌≤◌, ◌<◌}
 use native.Mathlib.Omega.{arith}
 use mathlib.Core.Path.{◌≡◌}

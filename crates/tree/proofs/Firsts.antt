@@ -1,4 +1,4 @@
--- What the record of the first node of a forest says of the forest. Assumes nothing.
+-- What the record of the first node of a forest says of the forest.
 use Prim.Native.Nat.{ℕ, ◌+◌, ◌*◌, ◌/◌, ◌≤◌, ◌<◌}
 use native.Mathlib.Omega.{arith}
 use mathlib.Core.Path.{◌≡◌, refl, ap, ap₂, sym, subst}

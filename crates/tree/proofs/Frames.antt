@@ -1,4 +1,4 @@
--- What changes only scratch leaves the tree in node memory as it was. Assumes nothing.
+-- What changes only scratch leaves the tree in node memory as it was.
 use Prim.Native.Nat.{ℕ, ◌+◌, ◌-◌, ◌*◌, ◌/◌, ◌≤◌, ◌<◌}
 use native.Mathlib.Omega.{arith}
 use mathlib.Core.Path.{◌≡◌, refl, ap, ◌∙◌, sym, subst}

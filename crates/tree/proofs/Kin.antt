@@ -1,4 +1,4 @@
--- What the access functions find at the first node of a forest: its name, whether the skip list leaves it out, and its bytes. Assumes nothing.
+-- What the access functions find at the first node of a forest: its name, whether the skip list leaves it out, and its bytes.
 use Prim.Native.Nat.{ℕ, ◌<◌}
 use native.Mathlib.Omega.{arith}
 use mathlib.Core.Path.{◌≡◌, ap, sym}

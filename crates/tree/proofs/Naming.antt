@@ -1,4 +1,4 @@
--- A name among the bytes of a run's fields, from field to field, and the number of a name. Assumes nothing.
+-- A name among the bytes of a run's fields, from field to field, and the number of a name.
 use Prim.Native.Nat.{ℕ, zero, suc, ◌<◌, ◌≤◌}
 use mathlib.Core.Path.{◌≡◌, refl, ap, ◌∙◌, sym}
 use native.Mathlib.Omega.{arith}

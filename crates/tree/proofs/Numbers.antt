@@ -1,4 +1,4 @@
--- Numbers of several bytes in memory: reading them, and storing them. Assumes nothing.
+-- Numbers of several bytes in memory: reading them, and storing them.
 use Prim.Native.Nat.{ℕ, ◌+◌, ◌≤◌, ◌<◌}
 use native.Mathlib.Omega.{arith}
 use mathlib.Core.Path.{◌≡◌, ◌∙◌}

@@ -1,4 +1,4 @@
--- Storing a record, and a field by its kind. Assumes nothing.
+-- Storing a record, and a field by its kind.
 use Prim.Native.Nat.{ℕ, ◌+◌, ◌*◌}
 use native.Mathlib.Omega.{arith}
 use mathlib.Core.Path.{◌∙◌}

@@ -1,4 +1,4 @@
--- Descendants as a range of numbers: what the nodes of a forest give one after the other is what their numbers give. Assumes nothing.
+-- Descendants as a range of numbers: what the nodes of a forest give one after the other is what their numbers give.
 use Prim.Native.Nat.{ℕ, zero, suc, ◌+◌, ◌-◌, ◌≤◌, ◌<◌}
 use native.Mathlib.Omega.{arith}
 use native.Mathlib.Numerals.{add-one}

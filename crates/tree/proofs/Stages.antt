@@ -1,4 +1,4 @@
--- One stage of storing follows from the one before it, field by field. Assumes nothing.
+-- One stage of storing follows from the one before it, field by field.
 use Prim.Native.Nat.{ℕ, suc, ◌+◌, ◌-◌, ◌*◌, ◌<◌, ◌≤◌}
 use native.Mathlib.Omega.{arith}
 use mathlib.Core.Path.{◌≡◌, refl, ◌∙◌, sym, subst, subst₂}

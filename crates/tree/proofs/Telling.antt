@@ -1,4 +1,4 @@
--- What the fields of a sheet tell of the records of its nodes, and that memory which says so holds the tree. Assumes nothing.
+-- What the fields of a sheet tell of the records of its nodes, and that memory which says so holds the tree.
 use Prim.Native.Nat.{ℕ, ◌+◌, ◌*◌, ◌/◌, ◌<◌, ◌≤◌}
 use native.Mathlib.Omega.{arith}
 use mathlib.Core.Path.{◌≡◌, refl, ap, ◌∙◌, sym, subst}

@@ -1,4 +1,4 @@
--- The default skip list has no name that has a number. Assumes nothing.
+-- The default skip list has no name that has a number.
 use Prim.Native.Nat.{ℕ}
 use mathlib.Core.Path.{◌≡◌, refl, ap, ◌∙◌, sym}
 use mathlib.Core.Bool.{Bool, true, false, cond, ◌&&◌, ◌||◌, false≢true}

@@ -1,4 +1,4 @@
--- What an answer about an attribute says. Assumes nothing.
+-- What an answer about an attribute says.
 use Prim.Native.Nat.{ℕ, zero, suc, ◌+◌, ◌-◌, ◌<◌, ◌≤◌}
 use mathlib.Core.Path.{◌≡◌, refl, ap, ◌∙◌, sym, subst}
 use mathlib.Core.Bool.{Bool, true, false, cond, ◌||◌, or-false, or_self}

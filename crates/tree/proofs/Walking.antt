@@ -1,4 +1,4 @@
--- From sibling to sibling. Assumes nothing.
+-- From sibling to sibling.
 use Prim.Native.Nat.{ℕ, ◌+◌, ◌*◌, ◌≤◌, ◌<◌}
 use mathlib.Core.Logic.{∥∥₁_elim, ∥∥₁_map}
 use mathlib.Core.Path.{◌≡◌, subst, sym}

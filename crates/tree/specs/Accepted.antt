@@ -1,4 +1,4 @@
--- A sheet that questions 1 to 9 let pass can be stored. Assumes nothing.
+-- A sheet that questions 1 to 9 let pass can be stored.
 use Rattle.std.specs.Prelude.{ℕ, suc, ◌*◌, ◌≤◌, ◌≡◌, refl, Bool, true, false, List, [], ◌∷◌, length, eqb, leb}
 use Rattle.std.proofs.Common.{arith, leb-true, eqb-true}
 use Rattle.std.proofs.Math.Bool.{and-eq-true_iff}

@@ -1,4 +1,4 @@
--- What is asked of an element's attributes, and the answer as a part of the sheet. Assumes nothing.
+-- What is asked of an element's attributes, and the answer as a part of the sheet.
 use Rattle.std.specs.Prelude.{ℕ, ◌-◌, ◌≤◌, ◌≡◌, Bool, cond, ◌||◌, List, [], ◌∷◌, length, take, drop, Option as Answer, Some, None}
 use Rattle.std.specs.Borrow.{Bor}
 use Rattle.std.proofs.Math.Option.{Option, none, some}

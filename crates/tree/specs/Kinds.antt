@@ -1,4 +1,4 @@
--- What a field does to the nodes, and what storing it does to node memory. Assumes nothing.
+-- What a field does to the nodes, and what storing it does to node memory.
 use Rattle.std.specs.Prelude.{ℕ, ◌+◌, ◌*◌, ◌≤◌, ◌<◌, ◌≡◌, Bool, true, false, length, get_or, eqb}
 use Rattle.spec.specs.Bytes.{Bytes}
 use Rattle.spec.specs.Fields.{fields}

@@ -1,4 +1,4 @@
--- Numbers in memory, and the records of nodes: 24 bytes each, in the order of opening. Assumes nothing.
+-- Numbers in memory, and the records of nodes: 24 bytes each, in the order of opening.
 use Rattle.std.specs.Prelude.{ℕ, zero, suc, ◌+◌, ◌*◌, ◌/◌, ◌%◌, ◌≤◌, ◌<◌, ◌≡◌, length, get_or}
 use Rattle.spec.specs.Bytes.{Bytes}
 use Rattle.spec.specs.Fields.{word}

@@ -1,4 +1,4 @@
--- What is asked of the field of a node. Assumes nothing.
+-- What is asked of the field of a node.
 use Rattle.std.specs.Prelude.{ℕ, ◌≡◌, List}
 use Rattle.spec.specs.Bytes.{Bytes}
 use Rattle.spec.specs.Tree.{Attr}

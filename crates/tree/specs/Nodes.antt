@@ -1,4 +1,4 @@
--- What is asked of a node, by its number or by the place of its field in the sheet. Assumes nothing.
+-- What is asked of a node, by its number or by the place of its field in the sheet.
 use Rattle.std.specs.Prelude.{ℕ, ◌+◌, ◌-◌, ◌*◌, ◌≤◌, ◌≡◌, Bool, true, false, cond, ◌&&◌, List, [], length, get_or, take, drop, eqb, ltb, Option, Some, None}
 use Rattle.spec.specs.Bytes.{Bytes, among}
 use Rattle.spec.specs.Names.{tag_of}

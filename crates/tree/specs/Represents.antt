@@ -1,5 +1,5 @@
 -- The tree in node memory. Node 0 is the fragment; nodes are numbered in the order of opening, so that a node and its
--- descendants are a range of numbers. Assumes nothing.
+-- descendants are a range of numbers.
 use Rattle.std.specs.Prelude.{ℕ, ◌+◌, ◌*◌, ◌/◌, ◌%◌, ◌≤◌, ◌<◌, ◌≡◌, List, [], ◌∷◌, length, drop}
 use Rattle.spec.specs.Bytes.{Bytes}
 use Rattle.spec.specs.Fields.{Field, fields}

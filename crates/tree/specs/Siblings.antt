@@ -1,4 +1,4 @@
--- What the iterator over siblings gives. Assumes nothing.
+-- What the iterator over siblings gives.
 use Rattle.std.specs.Prelude.{ℕ, ◌-◌, ◌≤◌, ◌<◌, ◌≡◌, Option, None, Some}
 use Rattle.spec.specs.Bytes.{Bytes}
 use Rattle.tree.specs.Memory.{end_at}

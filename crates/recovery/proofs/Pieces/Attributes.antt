@@ -1,4 +1,4 @@
--- `html_escape` is the HTML Standard's escaping in attribute mode, but that it leaves `<` and `>` alone. Assumes nothing.
+-- `html_escape` is the HTML Standard's escaping in attribute mode, but that it leaves `<` and `>` alone.
 use Rattle.std.specs.Prelude.{ℕ, ◌≡◌, refl, Bool, cond, ◌&&◌, [], ◌∷◌, ◌++◌, eqb, take}
 use Rattle.std.proofs.Common.{sym, ap, ◌∙◌, true≢false, append-nil, append_assoc}
 use Rattle.std.proofs.Math.Bool.{true, false, and-true}

@@ -1,4 +1,4 @@
--- The cells of a written row, whatever they hold, part where they were joined. Assumes nothing.
+-- The cells of a written row, whatever they hold, part where they were joined.
 use Rattle.std.specs.Prelude.{ℕ, suc, ◌<◌, ◌≤◌, ◌≡◌, Bool, cond, not, ◌&&◌, ◌||◌, List, [], ◌∷◌, ◌++◌, eqb, length}
 use Rattle.std.proofs.Common.{arith, sym, ap, ◌∙◌, eqb-true}
 use Rattle.std.proofs.Math.Path.{refl}

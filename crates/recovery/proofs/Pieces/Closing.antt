@@ -1,4 +1,4 @@
--- Closing sequences of headings: where there is one, and what the reader does where there is none. Assumes nothing.
+-- Closing sequences of headings: where there is one, and what the reader does where there is none.
 use Rattle.std.specs.Prelude.{ℕ, ◌≡◌, refl, Bool, true, cond, ◌&&◌, ◌||◌, eqb}
 use Rattle.std.proofs.Math.Path.{sym}
 use Rattle.std.proofs.Common.{ap, ◌∙◌, true≢false, eqb-true, ne_eqb}

@@ -1,4 +1,4 @@
--- The backslash of `escape_closing_hashes`: behind it no run of # closes a heading behind a blank. Assumes nothing.
+-- The backslash of `escape_closing_hashes`: behind it no run of # closes a heading behind a blank.
 use Rattle.std.specs.Prelude.{ℕ, ◌-◌, ◌<◌, ◌≡◌, Bool, true, ◌&&◌, [], ◌∷◌, ◌++◌, eqb, ltb, length, take, drop}
 use Rattle.std.proofs.Common.{arith, sym, ap, ◌∙◌, true≢false, append-nil, append_assoc, length-append, take-append-drop, eqb-true, lt-ltb, ltb-true}
 use Rattle.std.proofs.Math.Path.{refl}

@@ -1,4 +1,4 @@
--- Code spans: what `push_code_text` appends is a span whose content is the code. Assumes nothing.
+-- Code spans: what `push_code_text` appends is a span whose content is the code.
 use Rattle.std.specs.Prelude.{ℕ, zero, suc, ◌+◌, ◌-◌, ◌≤◌, ◌<◌, max, ◌≡◌, Bool, not, ◌&&◌, ◌||◌, length}
 use Rattle.std.proofs.Common.{arith, sym, ◌∙◌, true≢false, length-append, eqb-true, eq-eqb, ne_eqb}
 use Rattle.std.proofs.Math.Path.{refl, ap}

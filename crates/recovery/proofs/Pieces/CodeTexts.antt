@@ -1,4 +1,4 @@
--- The code texts of the writer hold no line ends. Assumes nothing.
+-- The code texts of the writer hold no line ends.
 use Rattle.std.specs.Prelude.{ℕ, ◌≡◌, Bool, true, cond, not, ◌&&◌, ◌||◌, List, [], ◌∷◌, eqb}
 use Rattle.std.proofs.Math.Path.{refl}
 use Rattle.std.proofs.Common.{ap}

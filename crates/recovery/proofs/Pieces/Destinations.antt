@@ -1,4 +1,4 @@
--- Link destinations: what `push_md_url` appends is one, and means the attribute. Assumes nothing.
+-- Link destinations: what `push_md_url` appends is one, and means the attribute.
 use Rattle.std.specs.Prelude.{ℕ, zero, suc, ◌≡◌, Bool, not, ◌||◌, eqb}
 use Rattle.std.proofs.Common.{arith, sym, ap, ◌∙◌, true≢false}
 use Rattle.std.proofs.Math.Path.{refl}

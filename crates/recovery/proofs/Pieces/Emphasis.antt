@@ -1,4 +1,4 @@
--- The marks of emphasis: beside which characters they are delimiters by the flanking rules. Assumes nothing.
+-- The marks of emphasis: beside which characters they are delimiters by the flanking rules.
 use Rattle.std.specs.Prelude.{ℕ, zero, suc, ◌≡◌, Bool, cond, not, ◌&&◌, eqb, leb, drop, replicate}
 use Rattle.std.proofs.Common.{arith, sym, ap, ◌∙◌, true≢false, leb-true}
 use Rattle.std.proofs.Math.Path.{refl}

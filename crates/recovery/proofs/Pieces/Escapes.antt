@@ -1,4 +1,4 @@
--- Backslash escapes of words, for every chunk. Assumes nothing.
+-- Backslash escapes of words, for every chunk.
 use Rattle.std.specs.Prelude.{ℕ, ◌≡◌, Bool, true, cond, ◌||◌, [], ◌∷◌, ◌++◌, eqb}
 use Rattle.std.proofs.Math.Path.{refl}
 use Rattle.std.proofs.Math.Bool.{false}

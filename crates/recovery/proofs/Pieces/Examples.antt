@@ -1,4 +1,4 @@
--- Published examples of the CommonMark specification (numbered as in version 0.30), by the definitions of the pieces. Assumes nothing.
+-- Published examples of the CommonMark specification (numbered as in version 0.30), by the definitions of the pieces.
 use Rattle.std.specs.Prelude.{◌≡◌, refl, Bool, true, false, cond, not, ◌&&◌, List, [], ◌∷◌}
 use Rattle.std.proofs.Math.Option.{Option, none, some}
 use Rattle.spec.specs.Bytes.{Bytes, ascii, same}

@@ -1,4 +1,4 @@
--- Fences: a written block is one fenced code block with that content and info string. Assumes nothing.
+-- Fences: a written block is one fenced code block with that content and info string.
 use Rattle.std.specs.Prelude.{ℕ, suc, ◌≤◌, ◌<◌, max, ◌≡◌, Bool, false, not, ◌||◌, leb}
 use Rattle.std.proofs.Common.{arith, ◌∙◌, le-leb}
 use Rattle.std.proofs.Math.Path.{refl, ap}

@@ -1,4 +1,4 @@
--- A written heading line, whatever it holds, is an ATX heading with that content. Assumes nothing.
+-- A written heading line, whatever it holds, is an ATX heading with that content.
 use Rattle.std.specs.Prelude.{ℕ, zero, suc, ◌+◌, ◌-◌, ◌<◌, ◌≡◌, Bool, true, not, ◌||◌, eqb, ltb, length, replicate, take, drop}
 use Rattle.std.proofs.Common.{arith, sym, ◌∙◌, length-append, eqb-true, le-leb, le-ltb, lt-ltb, ltb-true, ltb-false}
 use Rattle.std.proofs.Math.Path.{refl, ap}

@@ -1,4 +1,4 @@
--- List numbers against the HTML Standard's integers. Assumes nothing.
+-- List numbers against the HTML Standard's integers.
 use Rattle.std.specs.Prelude.{ℕ, ◌≡◌, refl, Bool, true, false, cond, ◌↔◌, [], ◌∷◌, eqb}
 use Rattle.std.proofs.Common.{◌∙◌}
 use Rattle.std.proofs.Math.Option.{Option, none, some, map, map-eq-none_iff}

@@ -1,4 +1,4 @@
--- The destination and the title of a written link part where they were joined. Assumes nothing.
+-- The destination and the title of a written link part where they were joined.
 use Rattle.std.specs.Prelude.{ℕ, zero, suc, ◌≡◌, Bool, cond, not, ◌&&◌, ◌||◌, [], ◌∷◌, ◌++◌, eqb}
 use Rattle.std.proofs.Common.{arith, ap, ◌∙◌, append_assoc, eqb-true, ne_eqb}
 use Rattle.std.proofs.Math.Path.{refl}

@@ -1,4 +1,4 @@
--- The text of a link ends at the bracket that was written behind it. Assumes nothing.
+-- The text of a link ends at the bracket that was written behind it.
 use Rattle.std.specs.Prelude.{ℕ, zero, suc, ◌≡◌, not, ◌&&◌, ◌||◌, eqb, replicate}
 use Rattle.std.proofs.Common.{arith, sym, ◌∙◌, length-append, eqb-true}
 use Rattle.std.proofs.Math.Path.{refl}

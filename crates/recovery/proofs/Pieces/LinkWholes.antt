@@ -1,4 +1,4 @@
--- The bytes of a link are read as a link whose text, destination and title part where they were joined. Assumes nothing.
+-- The bytes of a link are read as a link whose text, destination and title part where they were joined.
 use Rattle.std.specs.Prelude.{ℕ, suc, ◌≡◌, refl, Bool, true, cond, not, ◌||◌, [], ◌∷◌, ◌++◌, eqb, length}
 use Rattle.std.proofs.Common.{arith, sym, ap, ◌∙◌, true≢false, append_assoc, ne_eqb}
 use Rattle.std.proofs.Math.Bool.{false, or-false}

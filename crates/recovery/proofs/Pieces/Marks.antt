@@ -1,4 +1,4 @@
--- Rules, list markers and hard line breaks as the writer writes them. Assumes nothing.
+-- Rules, list markers and hard line breaks as the writer writes them.
 use Rattle.std.specs.Prelude.{ℕ, suc, ◌+◌, ◌≤◌, min, ◌≡◌, Bool, cond, not, ◌&&◌, ◌||◌, eqb, ltb, length, drop}
 use Rattle.std.proofs.Common.{arith, sym, ap, ◌∙◌, true≢false}
 use Rattle.std.proofs.Math.Path.{refl}

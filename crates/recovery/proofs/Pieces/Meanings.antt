@@ -1,4 +1,4 @@
--- Texts with backslash escapes and character references, and what they mean. Assumes nothing.
+-- Texts with backslash escapes and character references, and what they mean.
 use Rattle.std.specs.Prelude.{ℕ, suc, ◌≡◌, refl, Bool, true, false, not, [], ◌∷◌, ◌++◌, eqb, length}
 use Rattle.std.proofs.Math.Bool.{or-true}
 use Rattle.std.proofs.Common.{append_assoc}

@@ -1,4 +1,4 @@
--- `write_pre`: the language is an info string, and the block begins a line. Assumes nothing.
+-- `write_pre`: the language is an info string, and the block begins a line.
 use Rattle.std.specs.Prelude.{ℕ, ◌-◌, ◌≡◌, Bool, true, false, cond, ◌||◌, List, [], ◌∷◌, ◌++◌, eqb, length, drop}
 use Rattle.std.proofs.Math.Path.{refl, sym, ap}
 use Rattle.std.proofs.Common.{◌∙◌, append-nil, append_assoc, take-append-drop}

@@ -1,4 +1,4 @@
--- Escaped attributes: what a reader receives of one, however its bytes are written. Assumes nothing.
+-- Escaped attributes: what a reader receives of one, however its bytes are written.
 use Prim.Native.Nat.{ℕ}
 use Rattle.std.specs.Prelude.{◌≡◌, Bool, cond}
 use Rattle.std.proofs.Math.Path.{refl}

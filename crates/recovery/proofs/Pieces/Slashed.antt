@@ -1,4 +1,4 @@
--- Texts with backslash escapes: what the writer makes of words, and what it means. Assumes nothing.
+-- Texts with backslash escapes: what the writer makes of words, and what it means.
 use Rattle.std.specs.Prelude.{ℕ, suc, length, ◌≡◌, Bool, cond, ◌&&◌}
 use Rattle.std.proofs.Math.Option.{none}
 use Rattle.std.proofs.Math.Path.{refl}

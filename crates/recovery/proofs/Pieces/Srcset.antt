@@ -1,4 +1,4 @@
--- The first URL of a `srcset`: where the writer's choice is the HTML Standard's, and where not. Assumes nothing.
+-- The first URL of a `srcset`: where the writer's choice is the HTML Standard's, and where not.
 use Rattle.std.specs.Prelude.{ℕ, ◌≡◌, Bool, cond, not, ◌&&◌, ◌||◌, List, [], ◌∷◌, eqb}
 use Rattle.std.proofs.Math.Path.{refl, sym}
 use Rattle.std.proofs.Common.{ap, ◌∙◌, true≢false}

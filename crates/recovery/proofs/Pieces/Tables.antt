@@ -1,4 +1,4 @@
--- Written tables, whatever their cells hold, are tables with those cells. Assumes nothing.
+-- Written tables, whatever their cells hold, are tables with those cells.
 use Rattle.std.specs.Prelude.{ℕ, suc, ◌≡◌, Bool, true, false, cond, List, [], ◌∷◌, ◌++◌, map}
 use Rattle.std.proofs.Math.Path.{refl, ap}
 use Rattle.std.proofs.Common.{sym, ap₂, ◌∙◌, true≢false, eq-eqb}

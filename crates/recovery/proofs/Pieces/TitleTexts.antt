@@ -1,4 +1,4 @@
--- What `push_title` appends. Assumes nothing.
+-- What `push_title` appends.
 use Rattle.std.specs.Prelude.{ℕ, ◌-◌, ◌≡◌, Bool, cond, not, ◌&&◌, ◌||◌, length}
 use Rattle.std.proofs.Common.{arith, sym, ◌∙◌, true≢false}
 use Rattle.std.proofs.Math.Path.{refl}

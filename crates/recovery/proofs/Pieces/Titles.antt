@@ -1,4 +1,4 @@
--- Link titles: what `push_title` appends is one, and means the title's words. Assumes nothing.
+-- Link titles: what `push_title` appends is one, and means the title's words.
 use Rattle.std.specs.Prelude.{ℕ, ◌≡◌, Bool, cond, ◌&&◌, List, [], ◌∷◌, ◌++◌, eqb}
 use Rattle.std.proofs.Math.Path.{refl}
 use Rattle.std.proofs.Common.{sym, ap, ◌∙◌, append-nil}

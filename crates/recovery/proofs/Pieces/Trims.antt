@@ -1,4 +1,4 @@
--- `trim_end` and runs of #. Assumes nothing.
+-- `trim_end` and runs of #.
 use Rattle.std.specs.Prelude.{ℕ, ◌≡◌, Bool, true, not, [], ◌∷◌, ◌++◌, eqb}
 use Rattle.std.proofs.Math.Path.{refl, ap}
 use Rattle.std.proofs.Common.{sym, ◌∙◌, true≢false}

@@ -1,5 +1,5 @@
 -- Published examples of the CommonMark specification (numbered as in version 0.30) and of GitHub's tables, by the definitions of the
--- pieces. Assumes nothing.
+-- pieces.
 use Rattle.std.specs.Prelude.{ℕ, ◌≡◌, refl, Bool, true, false, cond, not, ◌&&◌, List, [], ◌∷◌, eqb}
 use Rattle.std.proofs.Math.Option.{Option, none, some}
 use Rattle.spec.specs.Bytes.{Bytes, ascii, same}

@@ -1,4 +1,4 @@
--- Written links and pictures are links and images with the text, destination and title that were joined. Assumes nothing.
+-- Written links and pictures are links and images with the text, destination and title that were joined.
 use Rattle.std.specs.Prelude.{◌≡◌, true, false, not, ◌||◌, List, [], ◌∷◌, ◌++◌}
 use Rattle.std.proofs.Math.Path.{refl}
 use Rattle.std.proofs.Common.{sym, ap, ◌∙◌, append-nil, append_assoc}

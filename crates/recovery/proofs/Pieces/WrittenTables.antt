@@ -1,4 +1,4 @@
--- The tables of the writer, whatever their cells hold, are read with those cells. Assumes nothing.
+-- The tables of the writer, whatever their cells hold, are read with those cells.
 use Rattle.std.specs.Prelude.{ℕ, zero, suc, ◌-◌, ◌≡◌, Bool, true, cond, not, ◌&&◌, eqb, length, replicate}
 use Rattle.std.proofs.Common.{arith, ◌∙◌, true≢false}
 use Rattle.std.proofs.Math.Numerals.{unary_clauses}

@@ -1,4 +1,4 @@
--- Where the writer stands between blocks, and what a block's text makes of that. Assumes nothing.
+-- Where the writer stands between blocks, and what a block's text makes of that.
 use Rattle.std.specs.Prelude.{ℕ, zero, suc, ◌≡◌, Bool, true, false, cond, not, List, [], ◌∷◌, ◌++◌, replicate}
 use Rattle.std.proofs.Math.Path.{refl}
 use Rattle.std.proofs.Common.{sym, ap, ◌∙◌, subst, true≢false, append-nil, append_assoc}

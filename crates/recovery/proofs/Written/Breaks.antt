@@ -1,4 +1,4 @@
--- Line breaks at the end of a text, and the trim of both ends of the whole text. Assumes nothing.
+-- Line breaks at the end of a text, and the trim of both ends of the whole text.
 use Rattle.std.specs.Prelude.{ℕ, zero, suc, ◌≡◌, Bool, true, false, cond, [], ◌∷◌, ◌++◌, eqb, length, replicate}
 use Rattle.std.proofs.Math.Path.{refl}
 use Rattle.std.proofs.Common.{sym, ap, ◌∙◌, append_assoc}

@@ -1,4 +1,4 @@
--- What the writer writes for a cell that holds a plain text is the text's phrase. Assumes nothing.
+-- What the writer writes for a cell that holds a plain text is the text's phrase.
 use Prim.Native.Nat.{ℕ, zero, suc, ◌+◌, ◌-◌, ◌%◌}
 use native.Mathlib.Omega.{arith}
 use Rattle.std.specs.Prelude.{◌≡◌, Bool, true, false, cond, ◌&&◌, eqb, length, replicate, take, drop}

@@ -1,4 +1,4 @@
--- The options and list contexts under which a plain sheet is written, and an item's number, marker and step by them. Assumes nothing.
+-- The options and list contexts under which a plain sheet is written, and an item's number, marker and step by them.
 use Rattle.std.specs.Prelude.{ℕ, ◌+◌, min, ◌≡◌, Bool, true, cond, List, eqb}
 use Rattle.std.proofs.Common.{arith, add-one, leb-true}
 use Rattle.std.proofs.Math.Path.{refl}

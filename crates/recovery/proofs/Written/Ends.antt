@@ -1,4 +1,4 @@
--- Trims and ends of a text, by its first and last bytes. Assumes nothing.
+-- Trims and ends of a text, by its first and last bytes.
 use Rattle.std.specs.Prelude.{ℕ, zero, suc, ◌-◌, ◌≡◌, Bool, true, false, cond, not, [], ◌∷◌, ◌++◌, eqb, length, replicate, drop}
 use Rattle.std.proofs.Common.{arith, ap, ◌∙◌, true≢false, length-append}
 use Rattle.std.proofs.Math.Path.{refl}

@@ -1,4 +1,4 @@
--- The writer's fixed texts are the closed form's. Assumes nothing.
+-- The writer's fixed texts are the closed form's.
 use Rattle.std.specs.Prelude.{ℕ, zero, suc, ◌+◌, max, ◌≡◌, refl, Bool, true, false, cond, ◌&&◌, ◌||◌, List, [], ◌∷◌, ◌++◌, take, replicate}
 use Rattle.std.proofs.Common.{arith, sym, ap, append-nil, append_assoc}
 use Rattle.std.proofs.lemmas.Bool.{false≢true}

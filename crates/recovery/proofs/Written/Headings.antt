@@ -1,4 +1,4 @@
--- The writer's headings are the closed form's. Assumes nothing.
+-- The writer's headings are the closed form's.
 use Rattle.std.specs.Prelude.{ℕ, suc, ◌<◌, ◌≡◌, Bool, cond, not, ◌&&◌, ◌||◌, eqb, length, replicate}
 use Rattle.std.proofs.Common.{arith, ap, ◌∙◌, true≢false, length-append}
 use Rattle.std.proofs.Math.Path.{refl, sym}

@@ -1,4 +1,4 @@
--- The elements of plain sheets are not skipped. Assumes nothing.
+-- The elements of plain sheets are not skipped.
 use Rattle.std.specs.Prelude.{ℕ, ◌≡◌, Bool}
 use Rattle.std.proofs.Math.Path.{refl, sym}
 use Rattle.std.proofs.Common.{ap, ◌∙◌}

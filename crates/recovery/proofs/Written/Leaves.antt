@@ -1,4 +1,4 @@
--- The text of each kind of block of a plain sheet, behind what is written so far. Assumes nothing.
+-- The text of each kind of block of a plain sheet, behind what is written so far.
 use Rattle.std.specs.Prelude.{ℕ, suc, ◌-◌, ◌<◌, ◌≡◌, Bool, cond, ◌||◌, replicate}
 use Rattle.std.proofs.Math.Path.{refl, sym, ap, subst}
 use Rattle.std.proofs.Common.{◌∙◌}

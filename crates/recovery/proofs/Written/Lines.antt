@@ -1,4 +1,4 @@
--- Lists of lines as texts: each line ended, or with a line end before each; and a last line that ends in no white byte. Assumes nothing.
+-- Lists of lines as texts: each line ended, or with a line end before each; and a last line that ends in no white byte.
 use Rattle.std.specs.Prelude.{ℕ, ◌≡◌, refl, Bool, true, false, cond, not, List, [], ◌∷◌, ◌++◌}
 use Rattle.std.proofs.Common.{sym, ap, true≢false, append-nil, append_assoc}
 use Rattle.std.proofs.lemmas.Bool.{not-true}

@@ -1,4 +1,4 @@
--- The text of each step by which the writer writes a list of a plain sheet. Assumes nothing.
+-- The text of each step by which the writer writes a list of a plain sheet.
 use Rattle.std.specs.Prelude.{ℕ, suc, ◌+◌, min, ◌≡◌, Bool, cond, ◌&&◌, ◌||◌, List, [], ◌∷◌, ◌++◌, eqb, replicate}
 use Rattle.std.proofs.Common.{arith, sym, ap, ◌∙◌, append-nil, append_assoc, ⊎_elim, leb-true}
 use Rattle.std.proofs.Math.Path.{refl}

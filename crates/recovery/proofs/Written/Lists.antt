@@ -1,5 +1,5 @@
 -- The text that the writer gives a list of a plain sheet is that of its lines, through the trims of the whole text behind each
--- item: any number of line ends may begin the text before an item, none begins it behind one. Assumes nothing.
+-- item: any number of line ends may begin the text before an item, none begins it behind one.
 use Rattle.std.specs.Prelude.{ℕ, zero, suc, ◌+◌, ◌≤◌, ◌<◌, ◌≡◌, Bool, true, false, cond, ◌&&◌, List, [], ◌∷◌, ◌++◌, replicate}
 use Rattle.std.proofs.Common.{arith, sym, ap, ◌∙◌, append-nil, append_assoc}
 use Rattle.std.proofs.Math.Path.{refl}

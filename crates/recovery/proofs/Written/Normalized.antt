@@ -1,4 +1,4 @@
--- What the writer appends for a plain text at the beginning of a line is its phrase. Assumes nothing.
+-- What the writer appends for a plain text at the beginning of a line is its phrase.
 use Rattle.std.specs.Prelude.{ℕ, ◌-◌, ◌≡◌, refl, Bool, true, false, cond, not, ◌||◌, List, [], ◌∷◌, ◌++◌, eqb, length}
 use Rattle.std.proofs.Common.{arith, sym, ap, ◌∙◌, true≢false, append_assoc}
 use Rattle.std.proofs.Math.Bool.{and-false}

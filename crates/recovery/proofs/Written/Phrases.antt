@@ -1,4 +1,4 @@
--- The first and last bytes of phrases, markers and items, and the lines of lists: none begins or ends with a white byte. Assumes nothing.
+-- The first and last bytes of phrases, markers and items, and the lines of lists: none begins or ends with a white byte.
 use Rattle.std.specs.Prelude.{ℕ, ◌+◌, ◌≤◌, ◌≡◌, refl, Bool, true, false, ◌&&◌, List, [], ◌∷◌, ◌++◌, length, replicate}
 use Rattle.std.proofs.Common.{arith, ◌∙◌, true≢false, append-nil, append_assoc}
 use Rattle.std.proofs.Math.Bool.{not}

@@ -1,4 +1,4 @@
--- The rows of a plain table as the writer takes them: each is one of Plain's rows, by its cells. Assumes nothing.
+-- The rows of a plain table as the writer takes them: each is one of Plain's rows, by its cells.
 use Rattle.std.specs.Prelude.{ℕ, suc, ◌≡◌, refl, Bool, true, false, cond, ◌&&◌, ◌||◌, List, [], ◌∷◌, ◌++◌, eqb, length}
 use Rattle.std.proofs.Common.{ap, append_assoc, eqb-true}
 use Rattle.std.proofs.Math.Bool.{or-true}

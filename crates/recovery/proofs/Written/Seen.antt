@@ -1,4 +1,4 @@
--- A plain text is more than White_Space, so that a list whose first item begins with it can interrupt a paragraph by its number. Assumes nothing.
+-- A plain text is more than White_Space, so that a list whose first item begins with it can interrupt a paragraph by its number.
 use Rattle.std.specs.Prelude.{ℕ, ◌≡◌, refl, Bool, true, false, cond, not, ◌&&◌, ◌||◌, List, [], ◌∷◌, ◌++◌, eqb}
 use Rattle.std.proofs.Common.{sym, ap, ◌∙◌, subst, true≢false, eq-eqb}
 use Rattle.std.proofs.Math.Bool.{and-false, or-true}

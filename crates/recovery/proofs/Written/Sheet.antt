@@ -1,4 +1,4 @@
--- The definition of the writer gives the closed form of a plain sheet's text: one induction over the sheet. Assumes nothing.
+-- The definition of the writer gives the closed form of a plain sheet's text: one induction over the sheet.
 use Prim.Native.Nat.{ℕ, zero, suc, ◌-◌, ◌≤◌, ◌<◌}
 use Rattle.std.proofs.Common.{arith, sym, ap, ◌∙◌, true≢false, append-nil, append_assoc, ⊎_elim}
 use Rattle.std.specs.Prelude.{◌≡◌, Bool, true, cond, ◌&&◌, List, [], ◌∷◌, ◌++◌, eqb}

@@ -1,4 +1,4 @@
--- The writer's tables are the closed form's. Assumes nothing.
+-- The writer's tables are the closed form's.
 use Rattle.std.specs.Prelude.{ℕ, suc, ◌-◌, ◌≤◌, ◌≡◌, Bool, true, false, cond, eqb, leb, length, replicate}
 use native.Mathlib.Omega.{arith}
 use Rattle.std.proofs.Math.Path.{refl}

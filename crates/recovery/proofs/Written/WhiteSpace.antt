@@ -1,4 +1,4 @@
--- `trim_end`, which trims Unicode's White_Space, stops at the last word of a plain text. Assumes nothing.
+-- `trim_end`, which trims Unicode's White_Space, stops at the last word of a plain text.
 use Rattle.std.specs.Prelude.{ℕ, ◌≡◌, Bool, true, not, ◌&&◌, ◌||◌, List, [], ◌∷◌, ◌++◌, eqb, drop}
 use Rattle.std.proofs.Math.Path.{refl}
 use Rattle.std.proofs.Common.{sym, ap, ◌∙◌, true≢false, append_assoc, eqb-true}

@@ -1,4 +1,4 @@
--- The height of the tree that fields say, by the number of elements that are open. Assumes nothing.
+-- The height of the tree that fields say, by the number of elements that are open.
 use Rattle.std.specs.Prelude.{ℕ, zero, suc, ◌+◌, ◌-◌, ◌≤◌, ◌≡◌, refl, Bool, true, false, cond, not, ◌&&◌, List, [], ◌∷◌, eqb, leb}
 use Rattle.std.proofs.Common.{arith, leb-true}
 use Rattle.std.proofs.Math.Bool.{and-eq-true_iff}

@@ -1,4 +1,4 @@
--- Two serializers whose writers do the same on what stands below an element do the same on the element. Assumes nothing.
+-- Two serializers whose writers do the same on what stands below an element do the same on the element.
 use Rattle.std.specs.Prelude.{ℕ, zero, suc, ◌≤◌, ◌<◌, ◌≡◌, Bool}
 use native.Mathlib.Omega.{arith}
 use Rattle.std.proofs.Math.Path.{refl, ap₂, fun_ext}

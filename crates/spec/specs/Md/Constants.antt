@@ -1,4 +1,4 @@
--- `constants.rs`. Assumes nothing.
+-- `constants.rs`.
 use Rattle.std.specs.Prelude.{ℕ, List, [], ◌∷◌}
 use Rattle.spec.specs.Bytes.{Bytes, ascii}
 

@@ -1,4 +1,4 @@
--- `ctx.rs`. Assumes nothing.
+-- `ctx.rs`.
 use Rattle.std.specs.Prelude.{ℕ, ◌+◌, max, min, Bool, true, false, cond, ◌++◌, length, eqb}
 use Rattle.std.specs.Int.Bits.{bit_and, bit_or}
 use Rattle.spec.specs.Bytes.{Bytes, ascii, same, decimal}

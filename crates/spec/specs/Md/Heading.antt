@@ -1,4 +1,4 @@
--- `heading.rs`. Assumes nothing.
+-- `heading.rs`.
 use Rattle.std.specs.Prelude.{ℕ, Bool, cond, ◌&&◌, [], ◌∷◌, ◌++◌, length, take, drop, eqb, ltb}
 use Rattle.spec.specs.Bytes.{Bytes, ascii, isin, ends_with, one, trim_end_matches, trim_end}
 use Rattle.spec.specs.Names as tag

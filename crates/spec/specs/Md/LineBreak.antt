@@ -1,4 +1,4 @@
--- The line breaks of `text_utils.rs`; apart, since that file and `ctx.rs` name one another. Assumes nothing.
+-- The line breaks of `text_utils.rs`; apart, since that file and `ctx.rs` name one another.
 use Rattle.std.specs.Prelude.{Bool, cond}
 use Rattle.spec.specs.Bytes.{Bytes, ascii}
 

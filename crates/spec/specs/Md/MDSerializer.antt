@@ -1,4 +1,4 @@
--- `MDSerializer` as its element writers see it. Assumes nothing.
+-- `MDSerializer` as its element writers see it.
 use Rattle.std.specs.Prelude.{cond, List, ◌∷◌}
 use Rattle.spec.specs.Bytes.{Bytes}
 use Rattle.spec.specs.Tree.{Attr, Forest, attrs_of, kids_of}

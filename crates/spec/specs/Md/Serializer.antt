@@ -1,4 +1,4 @@
--- `serializer.rs`. Assumes nothing.
+-- `serializer.rs`.
 use Rattle.std.specs.Prelude.{ℕ, zero, suc, ◌-◌, Bool, cond, not, ◌&&◌, ◌||◌, List, [], ◌∷◌, ◌++◌, eqb}
 use Rattle.spec.specs.Bytes.{Bytes, ascii, isin, among, ends_with}
 use Rattle.spec.specs.Names as tag

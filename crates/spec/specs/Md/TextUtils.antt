@@ -1,4 +1,4 @@
--- `text_utils.rs`. Assumes nothing.
+-- `text_utils.rs`.
 use Rattle.std.specs.Prelude.{ℕ, zero, suc, ◌-◌, Bool, false, cond, not, ◌&&◌, ◌||◌, List, [], ◌∷◌, ◌++◌, length, take, drop, eqb, leb}
 use Rattle.spec.specs.Bytes.{
   Bytes,

@@ -1,4 +1,4 @@
--- Code spans (CommonMark 0.31, section 6.1). Assumes nothing.
+-- Code spans (CommonMark 0.31, section 6.1).
 use Rattle.std.specs.Prelude.{ℕ, suc, ◌-◌, cond, not, ◌&&◌, [], ◌∷◌, ◌++◌, length, take, drop, replicate, eqb}
 use Rattle.std.proofs.Math.Option.{Option, none, some}
 use Rattle.spec.specs.Bytes.{Bytes, ascii, every, starts_with, ends_with, blank}

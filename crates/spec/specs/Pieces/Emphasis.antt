@@ -1,5 +1,5 @@
 -- Delimiter runs of asterisks and the flanking rules (CommonMark 0.31, sections 2.1 and 6.2), for any way of telling the characters
--- outside ASCII. Assumes nothing.
+-- outside ASCII.
 use Rattle.std.specs.Prelude.{ℕ, ◌≡◌, Bool, true, false, cond, not, ◌&&◌, [], ◌∷◌, ◌++◌, eqb, leb}
 use Rattle.spec.specs.Bytes.{Bytes, null}
 use Rattle.spec.specs.Reading.Lines.{drop_run}

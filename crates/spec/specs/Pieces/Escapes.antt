@@ -1,4 +1,4 @@
--- Escaping a string (HTML Standard, section 13.3, "Serializing HTML fragments"). Assumes nothing.
+-- Escaping a string (HTML Standard, section 13.3, "Serializing HTML fragments").
 use Rattle.std.specs.Prelude.{ℕ, zero, suc, ◌-◌, cond, [], ◌∷◌, ◌++◌, length}
 use Rattle.spec.specs.Bytes.{Bytes, ascii, starts_with}
 

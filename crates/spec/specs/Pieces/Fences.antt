@@ -1,4 +1,4 @@
--- Fenced code blocks (CommonMark 0.31, section 4.5). Assumes nothing.
+-- Fenced code blocks (CommonMark 0.31, section 4.5).
 use Rattle.std.specs.Prelude.{ℕ, Bool, cond, ◌&&◌, List, [], ◌∷◌, ◌++◌, eqb, leb}
 use Rattle.std.proofs.Math.Option.{Option, none, some}
 use Rattle.spec.specs.Bytes.{Bytes, one, trim_end_matches}

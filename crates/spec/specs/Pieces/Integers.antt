@@ -1,4 +1,4 @@
--- The rules for parsing integers (HTML Standard, section 2.3.4.1). Assumes nothing.
+-- The rules for parsing integers (HTML Standard, section 2.3.4.1).
 use Rattle.std.specs.Prelude.{ℕ, min, cond, [], ◌∷◌, eqb}
 use Rattle.std.proofs.Math.Option.{Option, none, some}
 use Rattle.spec.specs.Bytes.{Bytes, trim_ascii_start}

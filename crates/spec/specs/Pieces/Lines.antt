@@ -1,5 +1,5 @@
 -- The content of an ATX heading, and hard line breaks (CommonMark 0.31, sections 4.2 and 6.7); thematic breaks, the opening of
--- headings and list markers are in Reading/Starts. Assumes nothing.
+-- headings and list markers are in Reading/Starts.
 use Rattle.std.specs.Prelude.{Bool, true, false, not, ◌&&◌, ◌||◌, [], ◌∷◌, leb}
 use Rattle.spec.specs.Bytes.{Bytes, ends_with, one, trim_end_matches}
 use Rattle.spec.specs.Reading.Lines.{space_or_tab, blank_line, column, strip}

@@ -1,4 +1,4 @@
--- Link destinations, link titles, and the text that they stand for (CommonMark 0.31, sections 2.4, 2.5 and 6.3). Assumes nothing.
+-- Link destinations, link titles, and the text that they stand for (CommonMark 0.31, sections 2.4, 2.5 and 6.3).
 use Rattle.std.specs.Prelude.{ℕ, zero, suc, ◌-◌, Bool, true, false, cond, not, ◌&&◌, ◌||◌, List, [], ◌∷◌, ◌++◌, length, take, drop, eqb, leb}
 use Rattle.std.proofs.Math.Option.{Option, none, some}
 use Rattle.spec.specs.Bytes.{Bytes, null, isin, take_while}

@@ -1,4 +1,4 @@
--- The first URL and the first candidate of a `srcset` (HTML Standard, "parse a srcset attribute"). Assumes nothing.
+-- The first URL and the first candidate of a `srcset` (HTML Standard, "parse a srcset attribute").
 use Rattle.std.specs.Prelude.{ℕ, zero, suc, Bool, true, false, cond, not, ◌||◌, List, [], ◌∷◌, ◌++◌, eqb, length, drop}
 use Rattle.std.proofs.Math.Option.{Option, none, some}
 use Rattle.spec.specs.Bytes.{Bytes, ascii, null, ends_with, white, one, trim_end_matches, trim_start_matches, take_while}

@@ -1,4 +1,4 @@
--- Whole tables and the text of a cell (GitHub Flavored Markdown, section 4.10). Assumes nothing.
+-- Whole tables and the text of a cell (GitHub Flavored Markdown, section 4.10).
 use Rattle.std.specs.Prelude.{ℕ, Bool, cond, not, ◌&&◌, ◌||◌, List, [], ◌∷◌, map, eqb, length}
 use Rattle.std.proofs.Math.Option.{Option, none, some}
 use Rattle.spec.specs.Bytes.{Bytes, one, trim_end_matches}

@@ -1,4 +1,4 @@
--- Link reference definitions (CommonMark 0.31, section 4.7). Assumes nothing.
+-- Link reference definitions (CommonMark 0.31, section 4.7).
 use Rattle.std.specs.Prelude.{ℕ, Bool, false, cond, not, ◌&&◌, ◌||◌, [], ◌∷◌, eqb}
 use Rattle.spec.specs.Bytes.{Bytes, every}
 use Rattle.spec.specs.Reading.Lines.{space_or_tab}

@@ -1,5 +1,5 @@
 -- What the reading holds between two lines: the blocks so far, the content columns of the open items, the open leaf; and what a
--- leaf gives when it closes. Assumes nothing.
+-- leaf gives when it closes.
 use Rattle.std.specs.Prelude.{ℕ, Bool, true, false, cond, not, ◌&&◌, ◌||◌, List, [], ◌∷◌, ◌++◌, map, length, eqb}
 use Rattle.std.proofs.Math.Option.{Option, none, some}
 use Rattle.spec.specs.Bytes.{Bytes, null, split, join}

@@ -1,4 +1,4 @@
--- The seven kinds of HTML block: how a line begins one, and what ends it (CommonMark 0.31, section 4.6). Assumes nothing.
+-- The seven kinds of HTML block: how a line begins one, and what ends it (CommonMark 0.31, section 4.6).
 use Rattle.std.specs.Prelude.{ℕ, ◌+◌, Bool, true, false, cond, not, ◌&&◌, ◌||◌, List, [], ◌∷◌, map, eqb, leb}
 use Rattle.std.proofs.Math.Option.{Option, none, some}
 use Rattle.spec.specs.Bytes.{Bytes, ascii, isin, starts_with, among, take_while}

@@ -1,4 +1,4 @@
--- The inlines of a leaf: its bytes as a list of pieces (CommonMark 0.31, sections 2.4, 2.5 and 6). Assumes nothing.
+-- The inlines of a leaf: its bytes as a list of pieces (CommonMark 0.31, sections 2.4, 2.5 and 6).
 --
 -- A leaf in which CommonMark finds nothing but text is its words. Where something else may begin, the leaf is not taken apart:
 -- it is one piece `other`. "May" is wide where CommonMark would need all of its inline machinery; each such place says so.

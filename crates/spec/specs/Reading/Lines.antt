@@ -1,4 +1,4 @@
--- The lines of a text, their blanks and columns (CommonMark 0.31, sections 2.1 to 2.3). Assumes nothing.
+-- The lines of a text, their blanks and columns (CommonMark 0.31, sections 2.1 to 2.3).
 use Rattle.std.specs.Prelude.{ℕ, zero, suc, ◌+◌, ◌-◌, ◌%◌, Bool, true, false, cond, not, ◌&&◌, ◌||◌, List, [], ◌∷◌, ◌++◌, replicate, eqb, leb}
 use Rattle.spec.specs.Bytes.{Bytes, every, null, digit, starts_with}
 

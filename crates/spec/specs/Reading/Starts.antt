@@ -1,4 +1,4 @@
--- What a line, its indentation gone, begins (CommonMark 0.31, sections 4.1 to 4.6, 5.1 and 5.2). Assumes nothing.
+-- What a line, its indentation gone, begins (CommonMark 0.31, sections 4.1 to 4.6, 5.1 and 5.2).
 use Rattle.std.specs.Prelude.{ℕ, zero, suc, Bool, true, false, cond, not, ◌&&◌, ◌||◌, [], ◌∷◌, length, eqb, leb}
 use Rattle.std.proofs.Math.Option.{Option, none, some}
 use Rattle.spec.specs.Bytes.{Bytes, isin, digit, take_while, value_from}

@@ -1,4 +1,4 @@
--- One line of the reading (CommonMark 0.31, sections 4 and 5; GitHub Flavored Markdown, section 4.10). Assumes nothing.
+-- One line of the reading (CommonMark 0.31, sections 4 and 5; GitHub Flavored Markdown, section 4.10).
 use Rattle.std.specs.Prelude.{ℕ, zero, suc, ◌+◌, ◌-◌, Bool, true, false, cond, not, ◌&&◌, ◌||◌, List, [], ◌∷◌, ◌++◌, length, leb}
 use Rattle.std.proofs.Math.Option.{Option}
 use Rattle.spec.specs.Bytes.{Bytes, null}

@@ -1,4 +1,4 @@
--- The rows of a table (GitHub Flavored Markdown, section 4.10). Assumes nothing.
+-- The rows of a table (GitHub Flavored Markdown, section 4.10).
 use Rattle.std.specs.Prelude.{ℕ, zero, suc, Bool, true, false, cond, not, ◌&&◌, List, [], ◌∷◌, eqb}
 use Rattle.spec.specs.Bytes.{Bytes, isin, every, null}
 use Rattle.spec.specs.Reading.Lines.{drop_while, drop_run, head_is}

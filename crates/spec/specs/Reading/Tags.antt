@@ -1,4 +1,4 @@
--- What may stand between < and >: tags, comments, instructions, declarations, addresses (CommonMark 0.31, sections 6.5 and 6.6). Assumes nothing.
+-- What may stand between < and >: tags, comments, instructions, declarations, addresses (CommonMark 0.31, sections 6.5 and 6.6).
 use Rattle.std.specs.Prelude.{ℕ, Bool, true, false, cond, not, ◌&&◌, ◌||◌, [], ◌∷◌, length, eqb, leb}
 use Rattle.std.proofs.Math.Option.{Option, none, some}
 use Rattle.spec.specs.Bytes.{Bytes, ascii, isin, starts_with, take_while}

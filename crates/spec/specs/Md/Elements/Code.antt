@@ -1,4 +1,4 @@
--- `elements/code.rs`. Assumes nothing.
+-- `elements/code.rs`.
 use Rattle.std.specs.Prelude.{ℕ, suc, ◌+◌, max, Bool, false, cond, not, ◌&&◌, ◌||◌, List, [], ◌∷◌, ◌++◌, length, take, drop, replicate, eqb, leb}
 use Rattle.std.proofs.Math.Option.{Option, none, some}
 use Rattle.spec.specs.Bytes.{

@@ -1,4 +1,4 @@
--- `elements/emphasis.rs`. Assumes nothing.
+-- `elements/emphasis.rs`.
 use Rattle.std.specs.Prelude.{ℕ, ◌+◌, ◌-◌, ◌%◌, Bool, cond, not, ◌&&◌, ◌||◌, List, [], ◌∷◌, ◌++◌, length, take, drop, eqb}
 use Rattle.spec.specs.Bytes.{
   Bytes,

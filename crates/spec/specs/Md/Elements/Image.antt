@@ -1,4 +1,4 @@
--- `elements/image.rs`. Assumes nothing.
+-- `elements/image.rs`.
 use Rattle.std.specs.Prelude.{cond, List, eqb}
 use Rattle.std.proofs.Math.Option.{Option, none, some}
 use Rattle.spec.specs.Bytes.{Bytes, ascii, null, one, trim_end_matches, trim_end, words, first_word, or_else}

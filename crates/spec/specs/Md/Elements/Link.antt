@@ -1,4 +1,4 @@
--- `elements/link.rs`. Assumes nothing.
+-- `elements/link.rs`.
 use Rattle.std.specs.Prelude.{ℕ, Bool, false, cond, ◌||◌, List, [], length, eqb}
 use Rattle.std.proofs.Math.Option.{Option, none, some}
 use Rattle.spec.specs.Bytes.{Bytes, ascii, null, is_blank}

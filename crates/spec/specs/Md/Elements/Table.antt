@@ -1,4 +1,4 @@
--- `elements/table.rs`. Assumes nothing.
+-- `elements/table.rs`.
 use Rattle.std.specs.Prelude.{ℕ, zero, suc, ◌+◌, ◌-◌, ◌%◌, max, Bool, true, false, cond, not, ◌&&◌, ◌||◌, List, [], ◌∷◌, ◌++◌, map, length, replicate, eqb}
 use Rattle.spec.specs.Bytes.{Bytes, ascii, null, ends_with, join}
 use Rattle.spec.specs.Names as tag
