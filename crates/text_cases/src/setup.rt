@@ -11,6 +11,7 @@ use marks::emphasis::push_emphasis;
 use spec::ctx::{FormatOpts, ListContext, ListKind};
 use text::buffer::Full;
 use text::text::Text;
+use tree::field::NodeField;
 
 // The flags of a case.
 const INLINE: usize = 1;
@@ -164,5 +165,5 @@ pub fn image(text: &mut Text, a: &[u8]) -> Result<(), Full> {
     if a.len() < HEAD || SHEET < a.len() {
         return Err(Full);
     }
-    write_img(text, a, 0)
+    write_img(text, NodeField { sheet: a, place: 0 })
 }
