@@ -119,8 +119,7 @@ fn write_sheet(
 }
 
 // Writes a sheet as Markdown, from the node with the number `start`, with it or without it, into the memory that is lent. The
-// skip list is the default or, where `own` says so, a run of fields. The answer is the length of the text, or the question that
-// said no.
+// skip list is a run of fields, or with `None` the default. The answer is the length of the text, or the question that said no.
 pub fn serialize_md(
     sheet: &[u8],
     skip: Option<&[u8]>,
