@@ -15,12 +15,10 @@ ghost use Rattle.nodes.specs.Stands.{NodeAt, ElementAt, SomeElement};
 use crate::nodes::{node_name, write_text_node};
 use input::tag::OPEN;
 use spec::ctx::FormatOpts;
+use spec::element::BR;
 use text::buffer::{Full, ends_with, ends_with_byte};
 use text::text::Text;
 use tree::nodes::Tree;
-
-// The number of the name `br`.
-const BR: usize = 20;
 
 // A place among the nodes: the innermost element that is open there, and the number of the node that follows.
 #[derive(Clone, Copy)]
