@@ -50,7 +50,7 @@ fn answer(field: &[u8]) -> Wrote {
 }
 
 // The number that a field says in decimal, of as many bytes as are digits and keep it small.
-fn number(field: &[u8]) -> usize {
+pub fn number(field: &[u8]) -> usize {
     let mut n: usize = 0;
     for b in field {
         if !b.is_ascii_digit() || LARGE < n {
