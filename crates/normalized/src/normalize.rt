@@ -66,12 +66,13 @@ fn push_stretch(text: &mut Text, s: &[u8], n: usize, escape: bool) -> Result<(),
     ensures { WritesTo text.old text.new result (push (flow_before escape (take n s.now) (drop n s.now))) }
 {
     if let Some(block) = s.first_chunk::<17>()
+        && let Some(own) = s.first_chunk::<16>()
         && n == 16
         && 32 <= text.room.len() - text.len
     {
         let Block { signs, even } = block_of(block, escape);
         if even {
-            text.len = push_block(block, text.room, text.len, signs);
+            text.len = push_block(own, text.room, text.len, signs);
             return Ok(());
         }
     }
