@@ -21,7 +21,7 @@ use text::class::{ByteClass, Ordinary, White};
 use text::text::Text;
 
 // The byte behind the one at i; a blank where there is none.
-fn next_of(s: &[u8], i: usize) -> u8
+pub fn next_of(s: &[u8], i: usize) -> u8
     requires { i < length s.now }
     ensures { Behind result (drop (i + 1) s.now) }
 {
@@ -37,7 +37,7 @@ pub fn push_escaped(text: &mut Text, escaped: bool, b: u8) -> Result<(), Full>
 }
 
 // Appends what b adds, `next` behind it: for a white byte a blank, if a word begins there.
-fn push_byte_of(text: &mut Text, b: u8, next: u8, escape: bool) -> Result<(), Full>
+pub fn push_byte_of(text: &mut Text, b: u8, next: u8, escape: bool) -> Result<(), Full>
     ensures { (rest : List ℕ) → Behind next rest → WritesTo text.old text.new result (push (added escape b rest)) }
 {
     if Ordinary::has(b) {
