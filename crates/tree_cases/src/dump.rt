@@ -94,7 +94,7 @@ fn read_line(call: &Call, tree: &Tree, i: usize, before: usize) -> Line
         number: tree.node_number(i),
         text: Part {
             from: text.start.saturating_sub(field.place),
-            len: text.len(),
+            len: text.end.saturating_sub(text.start),
         },
         value: part_of_value(field, [call.name, call.name], value),
         language: part_of_value(field, [b"data-lang", b"data-language"], language),
