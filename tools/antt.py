@@ -101,7 +101,7 @@ def everything(spec=SPEC):
         uses.append("use %s" % whole if alias == path[-1] else "use %s as %s" % (whole, alias))
         names += ["%s.%s" % (alias, n) for n in found]
     return ("-- Every definition of the crate that computes, named once: under `unfolding everything` a closed term computes to its value.\n"
-            "-- Assumes nothing.\n%s\n\nunfoldable pub everything : Unit {0}\nunfolding %s\neverything = tt\n"
+            "%s\n\nunfoldable pub everything : Unit {0}\nunfolding %s\neverything = tt\n"
             % ("\n".join(uses), " ".join(names)))
 
 

@@ -17,18 +17,6 @@ import command_line
 
 CRATES = os.path.join(os.path.dirname(os.path.abspath(__file__)), "..", "crates")
 
-OFFSET = "proofs/ctx/ListKind/offset/Answers.antt"
-# what answers the goals of `ListKind::offset` for a number; a goal has its name by the test in the code
-STEPS = ["""pub returns-then-d-lt2 : goal.returns-then-d-lt2
-unfolding offset_of
-returns-then-d-lt2 c =
-    let q : 4 ≡ max (length (decimal c.in-Ol.n) + 2) 4 = omega (arith, c.digits-d.ensures.0, c.if-d-lt2.true) in
-""", """pub returns-else-d-lt2 : goal.returns-else-d-lt2
-unfolding offset_of
-returns-else-d-lt2 c =
-    let q : c.digits-d.result + 2 ≡ max (length (decimal c.in-Ol.n) + 2) 4 = omega (arith, c.digits-d.ensures.0, c.if-d-lt2.false) in
-"""]
-
 # a name, and its edits: a file of `spec`, a text in it, and the text in its place
 CHANGES = [
     ("`_` dropped from the escape set", [
@@ -36,8 +24,7 @@ CHANGES = [
     # the code of `ListKind::offset` follows, so that it still meets its contract
     ("step of an ordered list max(digits + 1, 4)", [
         ("specs/Md/Ctx.antt", "offset_of (Ol n) = max (length (decimal n) + 2)", "offset_of (Ol n) = max (length (decimal n) + 1)"),
-        ("src/ctx.rt", "if d < 2 { 4 } else { d + 2 }", "if d < 3 { 4 } else { d + 1 }")]
-        + [(OFFSET, step, step.replace("lt2", "lt3").replace("+ 2", "+ 1")) for step in STEPS]),
+        ("src/ctx.rt", "const NUMBER_END: usize = 2;", "const NUMBER_END: usize = 1;")]),
     ("fence one shorter", [
         ("specs/Md/Elements/Code.antt", "backticks (max (max_backtick_run content) 2 + 1)", "backticks (max (max_backtick_run content) 2)")]),
     ("closing mark of an emphasis left out", [

@@ -1,5 +1,5 @@
 // A no: which of the ten questions it answers.
-ghost use Rattle.std.specs.Prelude.{◌≡◌};
+ghost use Rattle.std.specs.Prelude.{◌≡◌, Some, decimal};
 ghost use Rattle.input.specs.Refusals.{number_of};
 
 use std::fmt;
@@ -47,8 +47,10 @@ impl Refusal {
     }
 }
 
-// The number.
+// The number, in decimal digits.
 impl fmt::Display for Refusal {
+    ghost output = { λ no. Some (decimal (number_of no)) };
+
     fn fmt<W: fmt::Write>(&self, f: &mut fmt::Formatter<W>) -> fmt::Result {
         write!(f, "{}", self.number())
     }

@@ -20,20 +20,30 @@ const START: Lead = Lead {
 };
 
 // The rows of the Unicode Standard's Table 3-7; `None` where no sequence begins with the byte. They are read here and not by
-// the library's `str::from_utf8`, so that an edit can change a row (`surrogate`), and blocks of ASCII are passed at once.
+// the library's `str::from_utf8`, so that an edit can change a row (`surrogate`), and blocks of ASCII are passed at once. The
+// bytes that are met most come first: one match over all rows would be a jump through a table for each byte.
 fn lead_of(b: u8) -> Option<Lead>
     ensures { result ≡ lead_of b }
 {
-    let (more, low, high) = match b {
-        0x00..=0x7F => (0, 0x80, 0xBF),
-        0xC2..=0xDF => (1, 0x80, 0xBF),
-        0xE0 => (2, 0xA0, 0xBF),
-        0xED => (2, 0x80, 0x9F),
-        0xE1..=0xEF => (2, 0x80, 0xBF),
-        0xF0 => (3, 0x90, 0xBF),
-        0xF1..=0xF3 => (3, 0x80, 0xBF),
-        0xF4 => (3, 0x80, 0x8F),
-        _ => return None,
+    let (more, low, high) = if b < 0x80 {
+        (0, 0x80, 0xBF)
+    } else if b < 0xC2 {
+        return None;
+    } else if b < 0xE0 {
+        (1, 0x80, 0xBF)
+    } else if b < 0xF0 {
+        match b {
+            0xE0 => (2, 0xA0, 0xBF),
+            0xED => (2, 0x80, 0x9F),
+            _ => (2, 0x80, 0xBF),
+        }
+    } else {
+        match b {
+            0xF0 => (3, 0x90, 0xBF),
+            0xF1..=0xF3 => (3, 0x80, 0xBF),
+            0xF4 => (3, 0x80, 0x8F),
+            _ => return None,
+        }
     };
     Some(Lead { more, low, high })
 }
@@ -73,7 +83,7 @@ fn due_behind(before: Lead, part: &[u8]) -> Option<Lead>
 {
     let mut due = before;
     for b in part {
-        if (due.more == 0) & (*b < 0x80) {
+        if due.more == 0 && *b < 0x80 {
             continue;
         }
         due = next_byte(due, *b)?;
@@ -81,27 +91,29 @@ fn due_behind(before: Lead, part: &[u8]) -> Option<Lead>
     Some(due)
 }
 
-// `due_behind` for a block of 16 bytes; one of ASCII is skipped.
-fn due_behind_block(before: Lead, block: &[u8; 16]) -> Option<Lead>
+// `due_behind` for a block; one of 16 bytes of ASCII is skipped.
+fn due_behind_block(before: Lead, block: &[u8]) -> Option<Lead>
     ensures { Behind before block.now result }
 {
-    if before.more == 0 && is_ascii(block) {
+    if before.more == 0 && is_short_ascii(block, block.len()) {
         return Some(before);
     }
     due_behind(before, block)
 }
 
-// What is due at the end; `None` where a byte is wrong.
+// What is due at the end; `None` where a byte is wrong. The last block may be shorter. It has no loop of its own: over blocks
+// whose length is known to be 16 the compiler counts in more instructions for each byte.
 fn due_at_end(s: &[u8]) -> Option<Lead>
     ensures { Behind (make 0 0x80 0xBF) s.now result }
 {
     let mut due = START;
     let mut rest = s;
-    while let Some((block, behind)) = rest.split_first_chunk() {
+    while !rest.is_empty() {
+        let (block, behind) = rest.split_at(rest.len().min(16));
         due = due_behind_block(due, block)?;
         rest = behind;
     }
-    due_behind(due, rest)
+    Some(due)
 }
 
 // `is_utf8` for bytes of which some are not ASCII.
@@ -120,14 +132,15 @@ pub fn is_utf8(s: &[u8]) -> bool
     is_ascii(s) || is_well_formed(s)
 }
 
-// Whether the first n bytes are known to be ASCII. Blocks of 16 are tested; the last may reach behind the first n, and where
-// it would reach behind the end of `s`, nothing is known.
+// Whether the first n bytes are more than 16, and known to be ASCII. The first block of 16 bytes is tested alone, so that a text
+// that begins with other bytes is left at once; then all blocks are. The last may reach behind the first n, and where it would
+// reach behind the end of `s`, nothing is known.
 fn is_ascii_part(s: &[u8], n: usize) -> bool
     requires { n ≤ length s.now }
     ensures { result ≡ true → every is_ascii (take n s.now) ≡ true }
 {
     let blocks = n.div_ceil(16);
-    blocks <= s.len() / 16 && is_ascii(&s[..blocks * 16])
+    16 < n && blocks <= s.len() / 16 && is_ascii(&s[..16]) && is_ascii(&s[..blocks * 16])
 }
 
 // Whether the first n bytes are at most 16, and ASCII with those behind them up to 16.

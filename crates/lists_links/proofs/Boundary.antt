@@ -2,7 +2,7 @@
 use Prim.Native.Nat.{ℕ, zero, suc, ◌+◌, ◌≤◌, ◌<◌}
 use mathlib.Core.Path.{◌≡◌, refl, sym, ap, ◌∙◌}
 use mathlib.Core.Bool.{Bool, true, false}
-use mathlib.Core.List.{List, [], ◌∷◌}
+use mathlib.Core.List.{List}
 use native.Mathlib.Omega.{arith}
 use borrow.Author.Tests.{leb-true, leb-false}
 use lib.ListN.{length, take, get_or, get_or-eq_default}
@@ -10,7 +10,6 @@ use Rattle.std.proofs.lemmas.List.{get_or-take}
 use lib.Dec.{leb}
 use lib.Seq.{length-take-le, take_all}
 use Rattle.spec.specs.Md.Elements.List.{continuation, boundary, truncate}
-use Rattle.text.specs.Trimmed.{Trimmed}
 
 none_behind : (t : List ℕ) (k : ℕ) → length t ≤ k → continuation (get_or t k 0) ≡ false
 unfolding continuation
@@ -33,11 +32,15 @@ unfolding boundary
 boundary_none t zero h = refl
 boundary_none t (suc n) h = rw (h (suc n) (omega arith)) (boundary_none t n (λ j l. h j (omega arith)))
 
+-- behind the end no character goes on
+pub boundary_behind : (t : List ℕ) (n : ℕ) → length t ≤ n → boundary n t ≡ n
+unfolding boundary
+boundary_behind t zero h = refl
+boundary_behind t (suc n) h = rw (none_behind t (suc n) h) refl
+
 pub truncate_all : (t : List ℕ) (n : ℕ) → length t ≤ n → truncate n t ≡ t
-unfolding truncate boundary
-truncate_all [] zero h = refl
-truncate_all (x ∷ t) zero h = absurd (omega arith)
-truncate_all t (suc n) h = rw (none_behind t (suc n) h) (take_all (suc n) t h)
+unfolding truncate
+truncate_all t n h = rw (boundary_behind t n h) (take_all n t h)
 
 -- the places are those of the bytes up to n
 module _ (t : List ℕ) (n : ℕ) (h : n < length t) where
@@ -47,17 +50,13 @@ module _ (t : List ℕ) (n : ℕ) (h : n < length t) where
   front_length : length (take (n + 1) t) ≡ n + 1
   front_length = length-take-le (n + 1) t (omega arith)
 
-  pub truncated_at : (k : ℕ) → k < length (take (n + 1) t) → continuation (get_or (take (n + 1) t) k 0) ≡ false
-      → ((j : ℕ) → k + 1 ≤ j → j < length (take (n + 1) t) → continuation (get_or (take (n + 1) t) j 0) ≡ true) → Trimmed t k (truncate n t)
-  unfolding truncate
-  truncated_at k i e after =
-      let l : k ≤ n = omega (arith, front_length) in
-      let b : boundary n t ≡ k =
-      boundary_at t n k l (ap continuation (sym (front_at k l)) ∙ e) (λ j a b. ap continuation (sym (front_at j b)) ∙ after j (omega arith) (omega (arith, front_length))) in
-      record { within = omega arith; is = ap (λ (j : ℕ). take j t) (sym b) }
+  pub bounded_at : (k : ℕ) → k < length (take (n + 1) t) → continuation (get_or (take (n + 1) t) k 0) ≡ false
+      → ((j : ℕ) → k + 1 ≤ j → j < length (take (n + 1) t) → continuation (get_or (take (n + 1) t) j 0) ≡ true) → (k ≡ boundary n t) × (k ≤ n)
+  bounded_at k i e after =
+      let l : k ≤ n = omega (arith, front_length) in (
+        sym (boundary_at t n k l (ap continuation (sym (front_at k l)) ∙ e) (λ j a b. ap continuation (sym (front_at j b)) ∙ after j (omega arith) (omega (arith, front_length)))),
+        l,
+      )
 
-  pub truncated_none : ((j : ℕ) → j < length (take (n + 1) t) → continuation (get_or (take (n + 1) t) j 0) ≡ true) → Trimmed t 0 (truncate n t)
-  unfolding truncate
-  truncated_none all =
-      let b : boundary n t ≡ 0 = boundary_none t n (λ j l. ap continuation (sym (front_at j l)) ∙ all j (omega (arith, front_length))) in
-      record { within = omega arith; is = ap (λ (j : ℕ). take j t) (sym b) }
+  pub bounded_none : ((j : ℕ) → j < length (take (n + 1) t) → continuation (get_or (take (n + 1) t) j 0) ≡ true) → (0 ≡ boundary n t) × (0 ≤ n)
+  bounded_none all = (sym (boundary_none t n (λ j l. ap continuation (sym (front_at j l)) ∙ all j (omega (arith, front_length)))), omega arith)

@@ -25,6 +25,19 @@ fn continues(b: u8) -> bool
     matches!(b, 128..=191)
 }
 
+// Where a character begins, at n or before it; at n where t has no byte there.
+pub fn boundary(t: &[u8], n: usize) -> usize
+    ensures { (result ≡ def.boundary n t.now) × (result ≤ n) }
+{
+    if t.len() <= n {
+        return n;
+    }
+    match t[..n + 1].iter().rposition(|b| !continues(*b)) {
+        Some(k) => k,
+        None => 0,
+    }
+}
+
 // How long t is, cut at n or before the character that n is inside of.
 fn truncate(t: &[u8], n: usize) -> usize
     ensures { Trimmed t.now result (def.truncate n t.now) }
@@ -32,10 +45,7 @@ fn truncate(t: &[u8], n: usize) -> usize
     if t.len() <= n {
         return t.len();
     }
-    match t[..n + 1].iter().rposition(|b| !continues(*b)) {
-        Some(k) => k,
-        None => 0,
-    }
+    boundary(t, n)
 }
 
 // Whether a block can begin where t ends.

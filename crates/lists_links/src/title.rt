@@ -9,7 +9,7 @@ ghost use Rattle.text.specs.Source.{WritesIn};
 ghost use Rattle.text.specs.Texts.{WritesTo};
 ghost use Rattle.text.specs.Writes.{Writes};
 
-use normalized::normalize::push_normalized_text;
+use normalized::normalize::{push_escaped, push_normalized_text};
 use spec::ctx::FormatOpts;
 use text::buffer::{Full, Wrote, contains_byte, lift};
 use text::text::Text;
@@ -26,10 +26,7 @@ pub fn push_normalized(text: &mut Text, s: &[u8]) -> Result<(), Full>
 fn push_quoted_byte(text: &mut Text, b: u8) -> Result<(), Full>
     ensures { WritesTo text.old text.new result (push (def.quote_escaped b)) }
 {
-    match b {
-        b'"' => text.push_all(b"\\\""),
-        _ => text.push_byte(b),
-    }
+    push_escaped(text, b == b'"', b)
 }
 
 // Appends a normalized title, with its quote marks escaped.

@@ -84,11 +84,15 @@ fn is_kept(b: u8) -> bool
     )
 }
 
-// Whether all bytes do.
+// Whether all bytes do: without an early exit, so that many bytes can be tested at once.
 fn is_kept_dest(dest: &[u8]) -> bool
     ensures { result ≡ every kept dest.now }
 {
-    dest.iter().all(|b| is_kept(*b))
+    let mut all = true;
+    for b in dest {
+        all &= is_kept(*b);
+    }
+    all
 }
 
 fn push_dest(text: &mut Text, dest: &[u8], wrap: bool) -> Result<(), Full>

@@ -6,15 +6,18 @@ use mathlib.Core.List.{List, [], ◌∷◌, ◌++◌, append-nil}
 use native.Mathlib.Omega.{arith}
 use mir.Val.{bool_byte}
 use borrow.Author.Tests.{eqb-true}
-use lib.ListN.{length, take, drop, length-append, length-take, length-drop}
-use lib.Seq.{length-take-le, take-take, take_all, drop-drop}
+use borrow.Rule.Slice.PartMut.{same_len_mid}
+use lib.ListN.{length, take, drop, length-append, length-take, length-drop, drop_of_length-le}
+use lib.Seq.{length-take-le, take-take, take_all, take_at, drop_at, drop-drop}
 use Rattle.spec.specs.Bytes.{Bytes, ascii, null, among, same, starts_with, ends_with, is_white_space, white_space_of, unless, trim_end, trim_end_matches}
 use Rattle.spec.specs.Out.{Out, Step, and_then, cut, keep, push, replace, beside}
 use Rattle.spec.specs.Md.TextUtils.{escape_trailing_bang}
 use Rattle.spec.specs.Md.Elements.Emphasis.{ends_with_emphasis, try_trim_prev_emphasis_marker, drop_end, closed, push_marked, push_emphasis}
 use Rattle.marks.specs.Marked.{lead_blank, bang_if, marked_front, marked_with}
 use Rattle.text.specs.Trimmed.{Trimmed}
-use Rattle.text.specs.Writes.{Refused}
+use Rattle.text.specs.Lifted.{Lifted}
+use Rattle.text.specs.Writes.{Written, Refused, Writes, Wrote}
+use Rattle.text.proofs.Temporary.{lent, back}
 use Rattle.text.proofs.Reading.{rest_part, drop_take, starts_byte, ends_byte, null_none, null_some, starts_short, trimmed_length, ends_long}
 use Rattle.text.proofs.Writing.{then_assoc}
 
@@ -75,6 +78,55 @@ pub closed_full : (d : List ℕ) (len : ℕ) (marker done : Bytes) (lead : Bool)
 unfolding beside and_then push
 closed_full d len marker done lead h k l =
     record { over = omega (arith, front_long marker lead (starts_with (ascii "[") done) (take len d), length-take-le len d h) }
+
+-- ---- the n bytes at `from` are lifted, and `end` is put behind them
+
+module _ {d z : List ℕ} {len from n base : ℕ} (end : Bytes) (i : n + length end ≤ length d) (b : base ≡ length d - (n + length end)) (h : len ≤ base) (g : from ≤ base) (l : Lifted d z from n base) where
+  room : lent z base ≡ drop base z
+  room = rest_part base z
+
+  room_long : length (lent z base) ≡ n + length end
+  room_long = ap length room ∙ length-drop base z ∙ omega (arith, l.long)
+
+  lifted_is : take n (lent z base) ≡ take n (drop from d)
+  lifted_is = ap (take n) room ∙ l.moved
+
+  pub end_reach : n ≤ length (lent z base)
+  end_reach = omega (arith, room_long)
+
+  pub end_fits : Refused (length (lent z base)) (push end (take n (lent z base))) → ⊥
+  unfolding push
+  end_fits w = omega (arith, w.over, room_long, length-take-le n (lent z base) end_reach)
+
+  module _ {ys : List ℕ} {m : ℕ} (w : Written (length (lent z base)) ys m (push end (take n (lent z base)))) where
+    pub end_long : length (back z base ys) ≡ length d
+    end_long = same_len_mid base (length z - base) z ys w.long ∙ l.long
+
+    before_long : length (take base z) ≡ base
+    before_long = length-take-le base z (omega (arith, l.long))
+
+    end_text : take len (back z base ys) ≡ take len d
+    end_text =
+        sym (take-take len base (back z base ys) h) ∙ ap (take len) (take_at (take base z) (ys ++ drop (length z - base) (drop base z)) base before_long ∙ l.kept)
+        ∙ take-take len base d h
+
+    end_is : drop base (back z base ys) ≡ take n (drop from d) ++ end
+    unfolding push
+    end_is =
+        drop_at (take base z) (ys ++ drop (length z - base) (drop base z)) base before_long
+        ∙ ap (λ (r : List ℕ). ys ++ r) (drop_of_length-le (drop base z) {i = length z - base} (omega (arith, length-drop base z))) ∙ append-nil ys
+        ∙ sym (take_all m ys (omega (arith, w.count, w.long, room_long, length-append (take n (lent z base)) end, length-take-le n (lent z base) end_reach))) ∙ w.text_is
+        ∙ ap (λ (t : List ℕ). t ++ end) lifted_is
+
+    pub end_writes : (f : List ℕ → Step) {final : List ℕ} {r : Wrote} → Writes (length (back z base ys)) final r (f (drop base (back z base ys)) (take len (back z base ys)))
+        → Writes (length d) final r (f (take n (drop from d) ++ end) (take len d))
+    end_writes f {final} {r} v =
+        subst (λ (j : ℕ). Writes j final r (f (take n (drop from d) ++ end) (take len d))) end_long
+        (subst₂ (λ (c t : List ℕ). Writes (length (back z base ys)) final r (f c t)) end_is end_text v)
+
+pub end_size : (marker : Bytes) (n : ℕ) (trail : Bool) → n + length marker + bool_byte trail ≡ n + length (marker ++ cond trail (ascii " ") [])
+end_size marker n true = omega (arith, length-append marker (ascii " "))
+end_size marker n false = omega (arith, length-append marker [])
 
 -- ---- blanks at the ends of the emphasis text
 

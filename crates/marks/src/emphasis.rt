@@ -153,7 +153,7 @@ fn push_end_in(room: &mut [u8], len: usize, marker: &[u8], trail: bool) -> Wrote
 }
 
 // The emphasis text without the blanks at its ends is the n bytes at `from`, where at most one blank stands behind the text.
-// With its closing marker it is longer than the marker that is taken away: if it has no room there, it has none at the end.
+// With its closing marker it is longer than the marker that is taken away, so that the first test refuses nothing that fits.
 fn push_closed(
     text: &mut Text,
     from: usize,
@@ -165,9 +165,13 @@ fn push_closed(
     requires { ((text.old.len ≤ from) × (from ≤ text.old.len + 1)) × ((from + n ≤ length text.old.room.now) × (0 < n)) }
     ensures { WritesTo text.old text.new result (marked_with marker.now lead (take n (drop from text.old.room.now) ++ (marker.now ++ cond trail (ascii " ") []))) }
 {
-    let size = push_end_in(&mut text.room[from..], n, marker, trail)?;
+    let size = n + marker.len() + trail as usize;
+    if text.room.len() - text.len <= size {
+        return Err(Full);
+    }
     let base = text.room.len() - size;
-    lift(text.room, from, size, base);
+    lift(text.room, from, n, base);
+    push_end_in(&mut text.room[base..], n, marker, trail)?;
     push_done(text, base, marker, lead)
 }
 

@@ -65,12 +65,12 @@ pub fn read_call<'a>(list: &'a [u8], head: &[u8], zeros: &'a [u8]) -> Call<'a>
 }
 
 // n bytes from `from` on, or none where there are fewer.
-fn part(s: &[u8], from: usize, n: usize) -> &[u8] {
+pub fn part(s: &[u8], from: usize, n: usize) -> &[u8] {
     s.get(from..).and_then(|rest| rest.get(..n)).unwrap_or(b"")
 }
 
 // The bytes of the list that the two numbers at `at` of a head point to.
-fn pointed<'a>(list: &'a [u8], head: &[u8], at: usize) -> &'a [u8]
+pub fn pointed<'a>(list: &'a [u8], head: &[u8], at: usize) -> &'a [u8]
     requires { at + 8 ≤ length head.now }
 {
     part(list, read::<4>(head, at), read::<4>(head, at + 4))

@@ -74,12 +74,12 @@ pub fn write_text_node(tree: &Tree, text: &mut Text, i: usize, opts: FormatOpts)
     if field.tag() != TEXT {
         return Ok(());
     }
-    // a range and no slice: a few bytes behind it are read, too
+    // a part and no slice: a few bytes behind it are read, too
     let part = field.text_range();
     push_text_part(
         text,
         &field.sheet[part.start..],
-        part.len(),
+        part.end - part.start,
         opts.inline,
         opts.skip_escape,
         opts.list_item,

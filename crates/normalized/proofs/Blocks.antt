@@ -110,12 +110,6 @@ module _ (s b : Bytes) (e : b ≡ take 17 s) where
             ∙ ap (λ (c : ℕ). escape && is_escaped false false false c rest) (byte_of i (omega arith));
       }
 
-  pub signed_of : (signs : List Bool) (n : ℕ) → n < 18 → signed signs b n ≡ signed signs s n
-  unfolding signed
-  signed_of signs zero l = refl
-  signed_of signs (suc n) l =
-      ap₂ (λ (x : Bytes) (c : ℕ). x ++ (cond (get_or signs n false) (ascii "\\") [] ++ (c ∷ []))) (signed_of signs n (omega arith)) (byte_of n (omega arith))
-
 -- ---- how it is appended
 
 pub appends_none : (d : Bytes) (len : ℕ) → Appends d d len len 0 []
@@ -170,12 +164,19 @@ appends_done {d} {after} {len} {n} {most} {x} p h =
 
 -- ---- a stretch that is a block
 
-pub block_writes : {escape : Bool} (s : Bytes) {b text after : Bytes} {n len m : ℕ} {block : Block} → n ≡ 16 → 17 ≤ length s → len + 32 ≤ length text → b ≡ take 17 s → BlockOf escape b block → block.even ≡ true
-    → Appends text after len m 32 (signed block.signs b 16) → Written (length text) after m (push (flow_before escape (take n s) (drop n s)) (take len text))
-block_writes {escape} s {b} {text} {after} {n} {len} {m} {block} z h k e v q a =
+-- the first n bytes of s with their signs are those of a front of it that is as long or longer
+signed_front : (signs : List Bool) (s : Bytes) (m n : ℕ) → n ≤ m → signed signs (take m s) n ≡ signed signs s n
+unfolding signed
+signed_front signs s m zero l = refl
+signed_front signs s m (suc n) l =
+    ap₂ (λ (x : Bytes) (c : ℕ). x ++ (cond (get_or signs n false) (ascii "\\") [] ++ (c ∷ []))) (signed_front signs s m n (omega arith)) (get_or-take m s n 0 (omega arith))
+
+pub block_writes : {escape : Bool} (s : Bytes) {b own text after : Bytes} {n len m : ℕ} {block : Block} → n ≡ 16 → 17 ≤ length s → len + 32 ≤ length text → b ≡ take 17 s → own ≡ take 16 s → BlockOf escape b block
+    → block.even ≡ true → Appends text after len m 32 (signed block.signs own 16) → Written (length text) after m (push (flow_before escape (take n s) (drop n s)) (take len text))
+block_writes {escape} s {b} {own} {text} {after} {n} {len} {m} {block} z h k e o v q a =
     let even = λ (i : ℕ) (l : i < 16). block_plain s b 0 h e (v.spaced q) i (omega arith) l in
     subst (λ (x : Bytes). Written (length text) after m (push x (take len text)))
-    (signed_of s b e block.signs 16 (omega arith) ∙ signed_flow (signs_of s b e v.marked) even (omega (arith, h)) ∙ ap (λ (j : ℕ). flow_before escape (take j s) (drop j s)) (sym z))
+    (ap (λ (x : Bytes). signed block.signs x 16) o ∙ signed_front block.signs s 16 16 (omega arith) ∙ signed_flow (signs_of s b e v.marked) even (omega (arith, h)) ∙ ap (λ (j : ℕ). flow_before escape (take j s) (drop j s)) (sym z))
     (appends_done a k)
 
 -- ---- bytes that are copied in blocks, the last of which may reach behind them

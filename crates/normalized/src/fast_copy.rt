@@ -246,7 +246,7 @@ pub fn block_of(s: &[u8; 17], escape: bool) -> Block
 }
 
 // Appends 16 bytes to the first `len`, behind a backslash where one is escaped: where none is, the byte takes the backslash's place.
-pub fn push_block(s: &[u8; 17], room: &mut [u8], len: usize, signs: [bool; 16]) -> usize
+pub fn push_block(s: &[u8; 16], room: &mut [u8], len: usize, signs: [bool; 16]) -> usize
     requires { len + 32 ≤ length room.old }
     ensures { Appends room.old room.new len result 32 (signed signs s.now 16) }
 {

@@ -2,22 +2,25 @@
 use Prim.Native.Nat.{ℕ}
 use mathlib.Core.Path.{◌≡◌, ap, sym, ◌∙◌}
 use mathlib.Core.Bool.{true, false}
-use mathlib.Core.List.{List}
+use mathlib.Core.List.{List, [], ◌∷◌}
 use borrow.Author.Tests.{eq-eqb, ne_eqb}
 use Rattle.spec.specs.Bytes.{Bytes}
 use Rattle.spec.specs.Names.{tag_of}
 use Rattle.spec.specs.Tree.{Attr, Forest}
-use Rattle.spec.specs.Out.{Out}
+use Rattle.spec.specs.Out.{Out, Step, nested}
 use Rattle.spec.specs.Md.MDSerializer.{Ancestors, MDSerializer}
 use Rattle.spec.specs.Md.Serializer.{write_element}
 use Rattle.spec.specs.Md.Elements.Blocks.{is_list}
 use Rattle.spec.specs.Md.Elements.Code.{write_pre, write_code}
-use Rattle.spec.specs.Md.Elements.Emphasis.{write_emphasis}
+use Rattle.spec.specs.Md.Ctx.{emphasis_scope, include_node, inline, scope_of}
+use Rattle.spec.specs.Md.Elements.Emphasis.{md_emphasis, write_emphasis}
 use Rattle.spec.specs.Md.Elements.Image.{write_img}
 use Rattle.spec.specs.Md.Elements.Link.{write_link}
 use Rattle.spec.specs.Md.Elements.List.{write_list}
 use Rattle.spec.specs.Md.Elements.Table.{write_table}
 use Rattle.spec.specs.declared.ctx.FormatOpts.{FormatOpts}
+use Rattle.elements.proofs.Links.{emphasis_is}
+use Rattle.elements.specs.EmphasisStep.{emphasis_step}
 use Rattle.text.specs.Writes.{Wrote, Writes}
 use Rattle.text.proofs.Writing.{alike}
 
@@ -58,3 +61,9 @@ module _ (self : MDSerializer) (anc : Ancestors) (opts : FormatOpts) (name : Byt
 pub element_as : (self : MDSerializer) (anc : Ancestors) (name : Bytes) (attrs : List Attr) (kids : Forest) (t : Bytes) {u o : FormatOpts} {y : Out} {room : ℕ} {after : Bytes} {r : Wrote}
     → u ≡ o → write_element self anc u name attrs kids t ≡ y → Writes room after r y → Writes room after r (write_element self anc o name attrs kids t)
 element_as self anc name attrs kids t q e w = alike (ap (λ (p : FormatOpts). write_element self anc p name attrs kids t) (sym q) ∙ e) w
+
+pub emphasis_as : (self : MDSerializer) (anc : Ancestors) (name : ℕ) (attrs : List Attr) (kids : Forest) (t : Bytes) {u o : FormatOpts} → u ≡ o
+    → let written : Out = self.below (attrs ∷ anc) (emphasis_scope (scope_of (md_emphasis name)) (inline (include_node u))) kids [] in
+    write_emphasis self anc o name attrs kids t ≡ nested written (emphasis_step u name written.text) t
+emphasis_as self anc name attrs kids t {u} q =
+    ap (λ (p : FormatOpts). write_emphasis self anc p name attrs kids t) (sym q) ∙ ap (λ (f : Step). f t) (emphasis_is self anc u name attrs kids)

@@ -180,7 +180,9 @@ impl<'s, 'k> MDSerializer<'s, 'k> {
         closed(text, name, bits.opts())
     }
 
-    // An element that has a writer of its own.
+    // An element that has a writer of its own. By the hints here and at the writers a level has the stack frame of its own writer
+    // alone. With the writers left to LLVM, 100 emphases within one another take 71 KiB of stack in place of 42, 99 links round an
+    // image 89 in place of 73, tables 42 in place of 36.
     #[cycle(writers)]
     #[inline(never)]
     fn write_element(
@@ -197,18 +199,39 @@ impl<'s, 'k> MDSerializer<'s, 'k> {
         ensures room { SameRoom text.old text.new }
         ensures writes_element { ElementTo self.now.sheet.now nodes.old at (λ anc name attrs kids. write_element (self_at self.now.skip levels) anc (def.unpacked bits) name attrs kids) text.old text.new result }
     {
-        let sheet = self.sheet;
-        let opts = bits.opts();
         if is_list(name) {
-            return self.write_list(nodes, text, at, name, opts, levels);
+            return self.write_list(nodes, text, at, name, bits, levels);
         }
         match name {
-            A => self.write_link(nodes, text, at, opts, levels),
-            IMG => write_img(text, Tree { sheet, nodes }.field(at)),
-            PRE => write_pre(&Tree { sheet, nodes }, text, at, opts),
-            TABLE => self.write_table(nodes, text, at, opts, levels),
-            CODE => write_code(&Tree { sheet, nodes }, self.skip, text, at, opts),
-            _ => self.write_emphasis(nodes, text, at, name, opts, levels),
+            A => self.write_link(nodes, text, at, bits.opts(), levels),
+            IMG | PRE | CODE => self.write_leaf(nodes, text, at, name, bits),
+            TABLE => self.write_table(nodes, text, at, bits.opts(), levels),
+            _ => self.write_emphasis(nodes, text, at, name, bits, levels),
+        }
+    }
+
+    // An image, `pre` or `code`, which have the numbers 22 to 24: no `write` stands below it.
+    #[inline(never)]
+    fn write_leaf(
+        &self,
+        nodes: &[u8],
+        text: &mut Text,
+        at: usize,
+        name: usize,
+        bits: PackedOpts,
+    ) -> Result<(), Full>
+        requires { Placed self.now.sheet.now nodes.now at × (name ≡ name_at self.now.sheet.now (place_at nodes.now at)) × (22 ≤ name × name ≤ 24) }
+        ensures room { SameRoom text.old text.new }
+        ensures writes_element { (levels : ℕ) → ElementTo self.now.sheet.now nodes.now at (λ anc name attrs kids. write_element (self_at self.now.skip levels) anc (def.unpacked bits) name attrs kids) text.old text.new result }
+    {
+        let tree = Tree {
+            sheet: self.sheet,
+            nodes,
+        };
+        match name {
+            IMG => write_img(text, tree.field(at)),
+            PRE => write_pre(&tree, text, at, bits.opts()),
+            _ => write_code(&tree, self.skip, text, at, bits.opts()),
         }
     }
 
@@ -278,29 +301,32 @@ impl<'s, 'k> MDSerializer<'s, 'k> {
 
     // elements/emphasis.rs.
     #[cycle(writers)]
+    #[inline(never)]
     fn write_emphasis(
         &self,
         nodes: &mut [u8],
         text: &mut Text,
         at: usize,
         name: usize,
-        opts: FormatOpts,
+        bits: PackedOpts,
         levels: usize,
     ) -> Result<(), Full>
-        requires { Placed self.now.sheet.now nodes.old at × (name ≡ name_at self.now.sheet.now (place_at nodes.old at)) × Fits opts (levels + 1) }
+        requires { Placed self.now.sheet.now nodes.old at × (name ≡ name_at self.now.sheet.now (place_at nodes.old at)) × Fits (def.unpacked bits) (levels + 1) }
         ensures kept { Kept at (end_at nodes.old at) nodes.old nodes.new }
         ensures room { SameRoom text.old text.new }
-        ensures writes_element { ElementTo self.now.sheet.now nodes.old at (λ anc name attrs kids. write_emphasis (self_at self.now.skip levels) anc opts (tag_of name) attrs kids) text.old text.new result }
+        ensures writes_element { ElementTo self.now.sheet.now nodes.old at (λ anc name attrs kids. write_emphasis (self_at self.now.skip levels) anc (def.unpacked bits) (tag_of name) attrs kids) text.old text.new result }
     {
         let sheet = self.sheet;
         let to = Tree { sheet, nodes }.node_end(at);
-        let bits = PackedOpts::of(emphasis_opts(name, opts));
-        let n = self.write_behind(nodes, &mut text.room[text.len..], at + 1, to, bits, levels)?;
+        let opts = bits.opts();
+        let inner = PackedOpts::of(emphasis_opts(name, opts));
+        let n = self.write_behind(nodes, &mut text.room[text.len..], at + 1, to, inner, levels)?;
         push_emphasis_by(text, n, name, opts)
     }
 
     // elements/link.rs.
     #[cycle(writers)]
+    #[inline(never)]
     fn write_link(
         &self,
         nodes: &mut [u8],
@@ -379,21 +405,23 @@ impl<'s, 'k> MDSerializer<'s, 'k> {
 
     // elements/list.rs.
     #[cycle(writers)]
+    #[inline(never)]
     fn write_list(
         &self,
         nodes: &mut [u8],
         text: &mut Text,
         at: usize,
         name: usize,
-        opts: FormatOpts,
+        bits: PackedOpts,
         levels: usize,
     ) -> Result<(), Full>
-        requires { Placed self.now.sheet.now nodes.old at × (name ≡ name_at self.now.sheet.now (place_at nodes.old at)) × Fits opts (levels + 1) }
+        requires { Placed self.now.sheet.now nodes.old at × (name ≡ name_at self.now.sheet.now (place_at nodes.old at)) × Fits (def.unpacked bits) (levels + 1) }
         ensures kept { Kept at (end_at nodes.old at) nodes.old nodes.new }
         ensures room { SameRoom text.old text.new }
-        ensures writes_element { ElementTo self.now.sheet.now nodes.old at (λ anc name attrs kids. write_list (self_at self.now.skip levels) anc opts (tag_of name) attrs kids) text.old text.new result }
+        ensures writes_element { ElementTo self.now.sheet.now nodes.old at (λ anc name attrs kids. write_list (self_at self.now.skip levels) anc (def.unpacked bits) (tag_of name) attrs kids) text.old text.new result }
     {
         let sheet = self.sheet;
+        let opts = bits.opts();
         let kind = kind_of(Tree { sheet, nodes }.field(at), name);
         let to = Tree { sheet, nodes }.node_end(at);
         let ctx = ListContext::new(opts, kind);
@@ -726,6 +754,7 @@ impl<'s, 'k> MDSerializer<'s, 'k> {
 
     // elements/table.rs.
     #[cycle(writers)]
+    #[inline(never)]
     fn write_table(
         &self,
         nodes: &mut [u8],

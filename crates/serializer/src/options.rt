@@ -13,10 +13,10 @@ fn put_flag(flag: bool, bits: usize) -> usize
     bits * 2 + (flag as usize)
 }
 
-// The options as one number.
+// The options as one number; each number gives some.
 #[derive(Clone, Copy)]
 pub struct PackedOpts {
-    bits: usize,
+    pub bits: usize,
 }
 
 impl PackedOpts {

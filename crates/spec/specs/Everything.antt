@@ -1,5 +1,4 @@
 -- Every definition of the crate that computes, named once: under `unfolding everything` a closed term computes to its value.
---
 use Rattle.spec.specs.Bytes
 use Rattle.spec.specs.Utf8
 use Rattle.spec.specs.Fields

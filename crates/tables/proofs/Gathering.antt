@@ -139,6 +139,11 @@ module _ {sh ns : Bytes} {from to c : ℕ} (p : Looking sh ns from to c) where
       let g = p.goes parent f up h in
       (record { rest = g.0; later = g.2; rep = g.1; is_cell_lem = q }, g.3, g.4)
 
+-- the node that stands first where a cell is left
+module _ {sh ns : Bytes} {r c to : ℕ} (p : CellFrom sh ns r c to) (l : c < to) where
+  pub from_first : First sh ns r c to p.rest
+  from_first = first sh ns r c to p.rest p.rep l
+
 -- ---- the loops over a row's children
 
 -- of the children of row r those from number c up to e are left

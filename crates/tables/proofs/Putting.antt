@@ -3,12 +3,14 @@ use Prim.Native.Nat.{ℕ, zero, suc, ◌+◌, ◌-◌, ◌*◌, ◌≤◌}
 use mathlib.Core.Path.{◌≡◌, refl, sym, ap, subst, subst₂, ◌∙◌}
 use mathlib.Core.List.{List, [], ◌∷◌, ◌++◌, append_assoc, append-nil}
 use native.Mathlib.Omega.{arith}
-use lib.ListN.{length, take, drop, replicate, length-append, length-take, length-drop, replicate-append-replicate}
+use lib.ListN.{length, take, drop, replicate, length-append, length-take, length-drop, drop_of_length-le, replicate-append-replicate}
 use borrow.Rule.Slice.PartMut.{put_mid, same_len_mid}
 use Rattle.std.proofs.lemmas.Slice.{take-put_mid, drop-put_mid}
 use lib.Seq.{length-take-le, drop-drop}
 use Rattle.spec.specs.Bytes.{Bytes}
 use Rattle.text.specs.declared.text.Text.{Text}
+use Rattle.text.proofs.Reading.{rest_part}
+use Rattle.text.proofs.Temporary.{lent, back}
 use Rattle.tables.specs.Puts.{Puts, PutsTo, bar, bars}
 
 -- what is the same from n on is the same from m on
@@ -49,6 +51,22 @@ puts_mid d s len k q h =
       text_is = take-put_mid len (len + k - len) d s (len + k) (omega arith) (omega arith);
       behind = drop-put_mid len (len + k - len) d s (len + k) (omega arith) (omega arith) (omega arith);
     }
+
+-- the n bytes at `src` were moved to the front of `text[len..]`, which is ys now
+pub puts_moved : (d ys : List ℕ) (len src n i : ℕ) → len ≤ src → src + n ≤ length d → i ≡ n → ys ≡ take i (drop (src - len) (lent d len)) ++ drop i (lent d len)
+    → Puts d (back d len ys) len (len + n) (take n (drop src d))
+puts_moved d ys len src n i le fits all e =
+    let s : List ℕ = take n (drop src d) in
+    let k : len + n - len ≡ n = omega arith in
+    let at : len + (src - len) ≡ src = omega arith in
+    let none : drop (length d - len) (drop len d) ≡ [] = drop_of_length-le (drop len d) {i = length d - len} (omega (arith, length-drop len d)) in
+    let part : take n (drop (src - len) (drop len d)) ≡ s = ap (take n) (drop-drop (src - len) len d ∙ ap (λ (j : ℕ). drop j d) at) in
+    let is : ys ≡ s ++ drop (len + n - len) (drop len d) =
+    e ∙ ap (λ (j : ℕ). take j (drop (src - len) (lent d len)) ++ drop j (lent d len)) all
+    ∙ ap (λ (l : List ℕ). take n (drop (src - len) l) ++ drop n l) (rest_part len d)
+    ∙ ap (λ (l : List ℕ). l ++ drop n (drop len d)) part ∙ ap (λ (j : ℕ). s ++ drop j (drop len d)) (sym k) in
+    subst (λ (l : List ℕ). Puts d l len (len + n) s) (sym (ap (λ (l : List ℕ). take len d ++ (ys ++ l)) none ∙ ap (λ (l : List ℕ). take len d ++ l) (append-nil ys ∙ is)))
+    (puts_mid d s len n (sym (part_length d src n fits)) (omega arith))
 
 -- ---- puts to a text
 

@@ -14,12 +14,16 @@ pub fn put_byte(text: &mut Text, b: u8)
     text.len += 1;
 }
 
-// Puts the n bytes at `src`, which is not before the text's end.
+// Puts the n bytes at `src`, which is not before the text's end, by a loop: `copy_within` would want `memmove` from the host.
 fn put_from(text: &mut Text, src: usize, n: usize)
     requires { (text.old.len ≤ src) × (src + n ≤ length text.old.room.now) }
     ensures { PutsTo text.old text.new (take n (drop src text.old.room.now)) }
 {
-    text.room.copy_within(src..src + n, text.len);
+    let room = &mut text.room[text.len..];
+    let from = src - text.len;
+    for i in 0..n {
+        room[i] = room[from + i];
+    }
     text.len += n;
 }
 

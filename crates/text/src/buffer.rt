@@ -105,21 +105,25 @@ pub fn ends_with_white(s: &[u8]) -> bool
     trim_end_matches::<White>(s) != s.len()
 }
 
-// Moves the n bytes at `from` to the front.
+// Moves the n bytes at `from` to the front, by a loop: `copy_within` would want `memmove` from the host.
 pub fn drop_front(text: &mut [u8], from: usize, n: usize)
     requires { from + n ≤ length text.old }
     ensures { (take n text.new ≡ take n (drop from text.old)) × (length text.new ≡ length text.old) }
 {
     // most texts stand there already
     if from != 0 {
-        text.copy_within(from..from + n, 0);
+        for i in 0..n {
+            text[i] = text[from + i];
+        }
     }
 }
 
-// Moves n bytes from `from` up to `to`. It is `copy_within` with `Lifted`, which the proofs of its callers need, as its promise.
+// Moves n bytes from `from` up to `to`, the last first, by a loop: `copy_within` would want `memmove` from the host.
 pub fn lift(text: &mut [u8], from: usize, n: usize, to: usize)
     requires { (from ≤ to) × (to + n ≤ length text.old) }
     ensures { Lifted text.old text.new from n to }
 {
-    text.copy_within(from..from + n, to);
+    for i in (0..n).rev() {
+        text[to + i] = text[from + i];
+    }
 }

@@ -15,6 +15,7 @@ pub trait ByteClass {
         ensures { result ≡ holds b };
 }
 
+#[derive(Clone, Copy)]
 pub struct Blank;
 
 impl ByteClass for Blank {
@@ -25,6 +26,7 @@ impl ByteClass for Blank {
     }
 }
 
+#[derive(Clone, Copy)]
 pub struct White;
 
 impl ByteClass for White {
@@ -36,6 +38,7 @@ impl ByteClass for White {
 }
 
 // Not white.
+#[derive(Clone, Copy)]
 pub struct Black;
 
 impl ByteClass for Black {
@@ -46,6 +49,7 @@ impl ByteClass for Black {
     }
 }
 
+#[derive(Clone, Copy)]
 pub struct Digit;
 
 impl ByteClass for Digit {
@@ -57,6 +61,7 @@ impl ByteClass for Digit {
 }
 
 // One byte.
+#[derive(Clone, Copy)]
 pub struct Only<const B: u8>;
 
 impl<const B: u8> ByteClass for Only<B> {
@@ -67,6 +72,7 @@ impl<const B: u8> ByteClass for Only<B> {
     }
 }
 
+#[derive(Clone, Copy)]
 pub struct TabOrBlank;
 
 impl ByteClass for TabOrBlank {
@@ -78,6 +84,7 @@ impl ByteClass for TabOrBlank {
 }
 
 // Anything but a blank and a line end.
+#[derive(Clone, Copy)]
 pub struct InWord;
 
 impl ByteClass for InWord {
@@ -89,6 +96,7 @@ impl ByteClass for InWord {
 }
 
 // Neither white nor ever escaped behind the beginning of a line.
+#[derive(Clone, Copy)]
 pub struct Ordinary;
 
 impl ByteClass for Ordinary {

@@ -59,7 +59,11 @@ impl<'a> Text<'a> {
             return Err(Full);
         }
         let end = self.len + src.len();
-        self.room[self.len..end].copy_from_slice(src);
+        // `copy_from_slice` would want `memcpy` from the host
+        let to = &mut self.room[self.len..end];
+        for (i, b) in src.iter().enumerate() {
+            to[i] = *b;
+        }
         self.len = end;
         Ok(())
     }

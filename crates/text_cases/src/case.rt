@@ -50,7 +50,7 @@ fn answer(field: &[u8]) -> Wrote {
 }
 
 // The number that a field says in decimal, of as many bytes as are digits and keep it small.
-fn number(field: &[u8]) -> usize {
+pub fn number(field: &[u8]) -> usize {
     let mut n: usize = 0;
     for b in field {
         if !b.is_ascii_digit() || LARGE < n {
@@ -73,7 +73,9 @@ fn digit(b: u8) -> Option<u8>
 }
 
 // The bytes that a field says in hexadecimal, as far as it does and `out` has room; they stand at the front of `out`.
-pub fn decode<'a>(field: &[u8], out: &'a mut [u8]) -> &'a [u8] {
+pub fn decode<'a>(field: &[u8], out: &'a mut [u8]) -> &'a [u8]
+    ensures { length result.now ≤ length out.old }
+{
     let mut n = 0;
     for pair in field.chunks_exact(2) {
         let (Some(high), Some(low), Some(byte)) = (digit(pair[0]), digit(pair[1]), out.get_mut(n))

@@ -87,6 +87,7 @@ fn list(name: &[u8], text: &mut Text, case: Case) -> Option<Answer> {
         b"begin_item" => Answer::Written(begin_item(text, case.has(BLOCKS), case.context())),
         b"write_list_item_indented" => Answer::Written(indented(text, case)),
         b"parse_list_number" => parsed(case.a),
+        b"write_img" => Answer::Written(image(text, case.a)),
         _ => return None,
     })
 }
@@ -104,26 +105,27 @@ fn item_parts(name: &[u8], text: &mut Text, case: Case) -> Option<Answer> {
     Some(Answer::Written(wrote))
 }
 
-// What the leaf of a file of the Rust's answers, if there is one.
+// What the leaf of a file of the Rust's answers, if there is one. Any other file stands for `list` and `image`.
 fn answer_of(file: &[u8], name: &[u8], text: &mut Text, case: Case) -> Option<Answer> {
-    match (file, name) {
-        (b"text_utils", _) => text_utils(name, text, case),
-        (b"heading", _) => heading(name, text, case),
-        (b"code", _) => code_block(name, text, case),
-        (b"emphasis", _) => emphasis(name, text, case),
-        (b"table", _) => table(name, text, case),
-        (b"list", _) => list(name, text, case),
-        (b"list_item_blocks", _) => item_parts(name, text, case),
-        (b"image", b"write_img") => Some(Answer::Written(image(text, case.a))),
-        _ => None,
+    match file {
+        b"text_utils" => text_utils(name, text, case),
+        b"heading" => heading(name, text, case),
+        b"code" => code_block(name, text, case),
+        b"emphasis" => emphasis(name, text, case),
+        b"table" => table(name, text, case),
+        b"list_item_blocks" => item_parts(name, text, case),
+        _ => list(name, text, case),
     }
 }
 
+// The answer where there is no such leaf. No case has it.
+const NO_LEAF: usize = 999_999;
+
 // What that leaf answers, as a number: of a leaf that writes, the length of the text then.
-pub fn run(file: &[u8], name: &[u8], text: &mut Text, case: Case) -> Option<Wrote> {
-    Some(match answer_of(file, name, text, case)? {
+pub fn run(file: &[u8], name: &[u8], text: &mut Text, case: Case) -> Wrote {
+    match answer_of(file, name, text, case).unwrap_or(number(NO_LEAF)) {
         Answer::Written(Ok(())) => Ok(text.len),
         Answer::Written(Err(full)) => Err(full),
         Answer::Number(n) => n.ok_or(Full),
-    })
+    }
 }

@@ -23,7 +23,7 @@ use text::text::Text;
 // No text of a case is longer.
 const MEMORY: usize = 4096;
 
-// What the leaf of a line answers, if there is one and the memory has the room. The text stands at the front of the memory.
+// What the leaf of a line answers, if the memory has the room. The text stands at the front of the memory.
 fn answer_to(line: &Line, memory: &mut [u8], a: &mut [u8], b: &mut [u8]) -> Option<Wrote> {
     let len = decode(line.text, memory).len();
     let room = memory.get_mut(..line.room)?;
@@ -38,7 +38,7 @@ fn answer_to(line: &Line, memory: &mut [u8], a: &mut [u8], b: &mut [u8]) -> Opti
         a: decode(line.a, a),
         b: decode(line.b, b),
     };
-    run(line.file, line.name, &mut text, case)
+    Some(run(line.file, line.name, &mut text, case))
 }
 
 // Whether the leaf of a line answers and writes what the line says.

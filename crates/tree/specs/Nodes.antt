@@ -4,7 +4,7 @@ use Rattle.spec.specs.Bytes.{Bytes, among}
 use Rattle.spec.specs.Names.{tag_of}
 use Rattle.input.specs.Spans.{span_at, field_of}
 use Rattle.tree.specs.Memory.{place_at, number_at, end_at, parent_at}
-use Rattle.std.specs.declared.ops.Range.{Range}
+use Rattle.tree.specs.declared.nodes.Part.{Part}
 
 -- the bytes of the field at p
 abbrev pub body_at : Bytes → ℕ → Bytes
@@ -23,7 +23,7 @@ unfoldable pub text_at : Bytes → ℕ → Bytes
 text_at sh p = cond (eqb (get_or sh p 0) 4) (body_at sh p) []
 
 -- r is a part of the sheet that holds x
-pub record PartIs (sh : Bytes) (r : Range ℕ) (x : Bytes) : Type 0 where
+pub record PartIs (sh : Bytes) (r : Part) (x : Bytes) : Type 0 where
   pub ordered : r.start ≤ r.end
   pub inside : r.end ≤ length sh
   pub bytes_are : x ≡ take (r.end - r.start) (drop r.start sh)

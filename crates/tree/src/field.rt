@@ -1,9 +1,9 @@
 // The field of a node, in the sheet.
 ghost use Rattle.std.specs.Prelude.{◌+◌, ◌≤◌, length};
 
+use crate::nodes::Part;
 use input::fields::{Span, span_at};
 use input::tag::TEXT;
-use std::ops::Range;
 
 // The field of a node: the sheet, and where in it the field stands. The field of an element is its opening.
 #[derive(Clone, Copy)]
@@ -34,13 +34,13 @@ impl<'s> NodeField<'s> {
 
     // Where in the sheet the bytes of the node stand, where it is a text; else no bytes.
     #[tactic(auto, using(crate::proofs::Access::no_text, crate::proofs::Access::its_text))]
-    pub fn text_range(self) -> Range<usize>
+    pub fn text_range(self) -> Part
         ensures { PartIs self.entry.sheet.now result (text_at self.entry.sheet.now self.entry.place) }
     {
         let f = self.span();
         let start = f.start;
         let end = if f.tag == TEXT { f.end } else { start };
-        start..end
+        Part { start, end }
     }
 
     // The bytes of the node, where it is a text; else no bytes. Over the nodes of a range, one after the other, these are the
@@ -48,6 +48,7 @@ impl<'s> NodeField<'s> {
     pub fn text(self) -> &'s [u8]
         ensures { result.now ≡ text_at self.entry.sheet.now self.entry.place }
     {
-        &self.sheet[self.text_range()]
+        let Part { start, end } = self.text_range();
+        &self.sheet[start..end]
     }
 }

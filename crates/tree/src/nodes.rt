@@ -7,6 +7,13 @@ ghost use Rattle.tree.specs.Represents.{Nodes};
 use crate::field::NodeField;
 use crate::memory::read;
 
+// A part of the sheet: where it starts and ends.
+#[derive(Clone, Copy)]
+pub struct Part {
+    pub start: usize,
+    pub end: usize,
+}
+
 // A sheet, and the nodes of its tree in node memory.
 #[derive(Clone, Copy)]
 pub struct Tree<'s, 'n> {

@@ -47,6 +47,7 @@ fn behind_node(n: Option<usize>, i: usize) -> usize {
 
 // How far behind the field the first attribute stands that has one of two names and this value: as far as its value. 0 where there
 // is none.
+#[inline(never)]
 fn start_of_value(field: NodeField, names: [&[u8]; 2], value: &[u8]) -> usize {
     let NodeField { sheet, place } = field;
     let mut named = false;
@@ -64,7 +65,8 @@ fn start_of_value(field: NodeField, names: [&[u8]; 2], value: &[u8]) -> usize {
     0
 }
 
-// Where the value of an attribute stands that has one of two names.
+// Where the value of an attribute stands that has one of two names. Most nodes have no such attribute: for these nothing is called.
+#[inline]
 fn part_of_value(field: NodeField, names: [&[u8]; 2], value: Option<&[u8]>) -> Part {
     match value {
         Some(value) => Part {
@@ -92,7 +94,7 @@ fn read_line(call: &Call, tree: &Tree, i: usize, before: usize) -> Line
         number: tree.node_number(i),
         text: Part {
             from: text.start.saturating_sub(field.place),
-            len: text.len(),
+            len: text.end.saturating_sub(text.start),
         },
         value: part_of_value(field, [call.name, call.name], value),
         language: part_of_value(field, [b"data-lang", b"data-language"], language),

@@ -63,13 +63,21 @@ fn read_piece(input: &[u8]) -> Option<(usize, &[u8], &[u8])>
     Some((read::<4>(head, TIMES), piece, rest))
 }
 
-// Appends a piece to a sheet of len bytes, as far as there is room.
-fn append(piece: &[u8], sheet: &mut [u8], len: usize) -> usize
+// Appends a piece so many times to a sheet of len bytes, as far as there is room. What is there is copied behind itself and so
+// doubles with each copy: a short piece that comes often takes few copies.
+fn append(piece: &[u8], times: usize, sheet: &mut [u8], len: usize) -> usize
     requires { len ≤ length sheet.old }
     ensures { result ≤ length sheet.old }
 {
-    let n = piece.len().min(sheet.len() - len);
-    sheet[len..len + n].copy_from_slice(&piece[..n]);
+    let n = piece.len().saturating_mul(times).min(sheet.len() - len);
+    let added = &mut sheet[len..len + n];
+    let mut filled = piece.len().min(n);
+    added[..filled].copy_from_slice(&piece[..filled]);
+    while filled < n {
+        let more = filled.min(n - filled);
+        added.copy_within(..more, filled);
+        filled += more;
+    }
     len + n
 }
 
@@ -90,9 +98,7 @@ pub fn build_sheet<'a>(input: &'a [u8], pieces: usize, sheet: &mut [u8]) -> Buil
         let Some((times, piece, behind)) = read_piece(rest) else {
             return Built { len, rest: b"" };
         };
-        for _ in 0..times {
-            len = append(piece, sheet, len);
-        }
+        len = append(piece, times, sheet, len);
         rest = behind;
     }
     Built { len, rest }

@@ -12,10 +12,10 @@ returns-in_err-due c rest =
     ∙ wrong_byte l.due part l.b-index rest (omega arith) (omega (arith, (c.type_inv.part l.b-index).fits)) (sym c.next_byte.ensures ∙ c.in_err-due.was)
     ∙ ap (λ r. after r rest) none
 
-pub loop-b-preserved-then-due-b : goal.loop-b-preserved-then-due-b
-loop-b-preserved-then-due-b c rest =
+pub loop-b-preserved-then-b-lt128 : goal.loop-b-preserved-then-b-lt128
+loop-b-preserved-then-b-lt128 c rest =
     let l = c.loop-b in
-    l.invariant rest ∙ ascii_byte l.due c.args.part.now l.b-index rest (omega arith) c.if-due-b.true
+    l.invariant rest ∙ ascii_byte l.due c.args.part.now l.b-index rest (omega arith) (search rules)
 
 pub loop-b-preserved : goal.loop-b-preserved
 loop-b-preserved c rest =

@@ -1,10 +1,14 @@
-use Rattle.std.proofs.Common.{◌≡◌, true, false, rules}
-use borrow.Author.Tests.{tests}
-use Rattle.std.proofs.lemmas.Iterator.{cases_from_all, YieldsList-from_slice}
-use Rattle.text.proofs.Finding.{every_by}
+use Rattle.input.proofs.Sequences.{all_turn, all_end}
 use Rattle.lists_links.specs.Url.{kept}
+use native.Mathlib.Omega.{arith}
 use Rattle.lists_links.proofs.url.is_kept_dest.Goals as goal
+
+pub loop-b-preserved : goal.loop-b-preserved
+loop-b-preserved c =
+    let l = c.loop-b in
+    rw c.is_kept-all.ensures (all_turn kept c.args.dest.now l.all l.b-index l.invariant (omega arith))
 
 pub returns : goal.returns
 returns c =
-    every_by kept c.args.dest.now _ (cases_from_all _ _ _ (λ x. kept x ≡ true) (λ x. kept x ≡ false) c.all.ensures.ran (YieldsList-from_slice c.args.dest.now cc) (λ x q k. search (rules, tests)) (λ x q k. search (rules, tests)))
+    let l = c.loop-b in
+    all_end kept c.args.dest.now l.all l.b-index l.invariant (omega arith)

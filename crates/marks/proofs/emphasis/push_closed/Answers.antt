@@ -1,34 +1,49 @@
-use Rattle.std.proofs.Common.{◌≤◌, ◌-◌, List, ℕ, cond, [], ◌++◌, refl, ap, sym, length, take, drop, arith, length-append, length-drop}
+use Rattle.std.proofs.Common.{◌≤◌, ◌+◌, ◌-◌, ℕ, cond, [], ◌++◌, refl, ap, ◌∙◌, length, take, drop, arith, length-append, length-drop}
 use lib.Seq.{length-take-le}
+use mir.Val.{bool_byte}
 use Rattle.spec.specs.Bytes.{ascii}
-use Rattle.spec.specs.Out.{push}
 use Rattle.marks.specs.Marked.{marked_with}
-use Rattle.text.specs.Texts.{bytes}
-use Rattle.text.proofs.Parts.{behind_full, behind_stop, behind_lifted}
-use Rattle.text.proofs.Reading.{rest_part}
-use Rattle.text.proofs.Texts.{as_step}
-use Rattle.marks.proofs.Marking.{closed_full}
+use Rattle.text.proofs.Texts.{as_full}
+use Rattle.text.proofs.Writing.{done, full}
+use Rattle.marks.proofs.Marking.{closed_full, end_size, end_fits, end_long, end_writes}
 use Rattle.marks.proofs.emphasis.push_closed.Goals as goal
 
+pub returns-then-text-size : goal.returns-then-text-size
+returns-then-text-size c =
+    let a = c.args in let t = a.text.now in let d = t.room.now in
+    let end = a.marker.now ++ cond a.trail (ascii " ") [] in
+    let s = end_size a.marker.now a.n a.trail in
+    let x = length-append (take a.n (drop a.from d)) end in
+    let y = length-take-le a.n (drop a.from d) (omega (arith, length-drop a.from d, c.requires.1.0)) in
+    let z = length-append a.marker.now (cond a.trail (ascii " ") []) in
+    as_full refl refl (closed_full d t.len a.marker.now (take a.n (drop a.from d) ++ end) a.lead t.fits (omega (arith, x, y, z, c.requires.1.1)) (omega (arith, x, y, s, c.if-text-size.true)))
+
+pub returns-in_err-push_end_in : goal.returns-in_err-push_end_in
+returns-in_err-push_end_in c =
+    let a = c.args in let t = a.text.now in let d = t.room.now in
+    let end = a.marker.now ++ cond a.trail (ascii " ") [] in
+    let size = a.n + length a.marker.now + bool_byte a.trail in
+    let s = end_size a.marker.now a.n a.trail in
+    let i : a.n + length end ≤ length d = omega (arith, s, c.if-text-size.false, t.fits) in
+    let b = ap (λ (k : ℕ). length d - k) s in
+    let h : t.len ≤ length d - size = omega (arith, c.if-text-size.false, t.fits) in
+    let g : a.from ≤ length d - size = omega (arith, c.if-text-size.false, t.fits, c.requires.0.1) in
+    absurd (end_fits end i b h g c.lift.ensures (full c.in_err-push_end_in.was c.push_end_in.ensures))
+
 pub returns : goal.returns
-unfolding push
 returns c =
     let a = c.args in let t = a.text.now in let d = t.room.now in
-    let g : a.from ≤ length d = omega (arith, c.requires.1.0) in
     let end = a.marker.now ++ cond a.trail (ascii " ") [] in
-    as_step (ap (λ (x : List ℕ). marked_with a.marker.now a.lead (take a.n x ++ end) (bytes t)) (sym (rest_part a.from d)))
-    (behind_lifted t a.from c.requires.0.0 g c.push_end_in.ensures c.push_end_in.auto.room (marked_with a.marker.now a.lead) c.in_ok-size.was c.lift.ensures refl c.push_done.ensures refl refl)
-
-pub returns-in_err-size : goal.returns-in_err-size
-unfolding push
-returns-in_err-size c =
-    let a = c.args in let t = a.text.now in let d = t.room.now in
-    let g : a.from ≤ length d = omega (arith, c.requires.1.0) in
-    let end = a.marker.now ++ cond a.trail (ascii " ") [] in
-    let x = length-append (take a.n (drop a.from d)) end in
-    let n = length-take-le a.n (drop a.from d) (omega (arith, length-drop a.from d, c.requires.1.0)) in
-    let m = length-take-le a.n (take (length d - a.from) (drop a.from d)) (omega (arith, ap length (rest_part a.from d), length-drop a.from d, c.requires.1.0)) in
-    let o = behind_full t a.from c.requires.0.0 g c.push_end_in.ensures c.push_end_in.auto.room c.in_err-size.was in
-    behind_stop t a.from c.requires.0.0 g c.push_end_in.ensures c.push_end_in.auto.room c.from_residual.ensures.0
-    (closed_full d t.len a.marker.now (take a.n (drop a.from d) ++ end) a.lead t.fits (omega (arith, x, n, length-append a.marker.now (cond a.trail (ascii " ") []), c.requires.1.1)) (omega (arith, x, n, m, o.over, c.requires.0.1)))
-    refl refl
+    let size = a.n + length a.marker.now + bool_byte a.trail in
+    let s = end_size a.marker.now a.n a.trail in
+    let i : a.n + length end ≤ length d = omega (arith, s, c.if-text-size.false, t.fits) in
+    let b = ap (λ (k : ℕ). length d - k) s in
+    let h : t.len ≤ length d - size = omega (arith, c.if-text-size.false, t.fits) in
+    let g : a.from ≤ length d - size = omega (arith, c.if-text-size.false, t.fits, c.requires.0.1) in
+    let w = done c.in_ok-push_end_in.was c.push_end_in.ensures in
+    let v = c.push_done.ensures in
+    record {
+      room_is = v.room_is;
+      long = v.long ∙ end_long end i b h g c.lift.ensures w;
+      writes = end_writes end i b h g c.lift.ensures w (marked_with a.marker.now a.lead) v.writes;
+    }

@@ -1,5 +1,5 @@
 use native.Mathlib.Omega.{arith}
-use mathlib.Core.Path.{◌≡◌, refl, sym, ap, ◌∙◌}
+use mathlib.Core.Path.{◌≡◌, refl, sym, ◌∙◌}
 use Prim.Native.Nat.{ℕ, ◌-◌}
 use lib.ListN.{length, take, drop}
 use lib.Seq.{take-take}
@@ -23,9 +23,8 @@ returns c =
     let o = c.args.opts in let t = bytes c.args.text.now in
     let part = c.text_range-part in let sheet = c.field-field.result.sheet.now in
     let behind = take (length sheet - part.result.start) (drop part.result.start sheet) in
-    let cut : take (part.result.end - part.result.start) (drop part.result.start sheet) ≡ take c.len.result behind =
-    sym (take-take (part.result.end - part.result.start) (length sheet - part.result.start) (drop part.result.start sheet) (omega (arith, part.ensures.inside)))
-    ∙ ap (λ (n : ℕ). take n behind) (sym c.len.ensures.value) in
+    let cut : take (part.result.end - part.result.start) (drop part.result.start sheet) ≡ take (part.result.end - part.result.start) behind =
+    sym (take-take (part.result.end - part.result.start) (length sheet - part.result.start) (drop part.result.start sheet) (omega (arith, part.ensures.inside))) in
     as_step
     (sym (of_node (λ (s : Bytes) (p : ℕ). text_step o s p t) c.field-field.ensures)
     ∙ text_step_some o sheet _ t (sym c.tag.ensures ∙ c.if-tag-ne-TEXT.false) (part.ensures.bytes_are ∙ cut))

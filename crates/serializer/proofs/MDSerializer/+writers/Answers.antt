@@ -1,6 +1,6 @@
 use Prim.Native.Nat.{ℕ, ◌+◌, ◌-◌, ◌<◌}
 use Rattle.elements.proofs.Languages.{around_it}
-use Rattle.elements.proofs.Links.{link_is, emphasis_is}
+use Rattle.elements.proofs.Links.{link_is}
 use Rattle.elements.proofs.Nesting.{back_text}
 use Rattle.elements.specs.EmphasisStep.{emphasis_step}
 use Rattle.elements.specs.ItemStep.{ended_list}
@@ -13,7 +13,7 @@ use Rattle.tree.specs.NodeFields.{attrs_of}
 use Rattle.tree.proofs.NodeFields.{of_node, tag_of_node}
 use Rattle.serializer.proofs.Rooms.{room_same, leaf_room, room_on, room_behind, wrote_err, gone_err, going_ok, going_err}
 use Rattle.serializer.proofs.Answers.{stops_element, stops_forest, stops_row, stops_rows, both-full, nest-done, nest-full, nest-fits, below-wrote, both-done, both-on, emphasis_below}
-use Rattle.serializer.proofs.Dispatch.{by_list, by_link, by_img, by_pre, by_table, by_code, by_emphasis, element_as}
+use Rattle.serializer.proofs.Dispatch.{by_list, by_link, by_table, by_emphasis, element_as, emphasis_as}
 use Rattle.serializer.proofs.Falls.{falls_in, falls_out}
 use Rattle.serializer.proofs.Gathered.{behind_count, behind_bytes}
 use Rattle.serializer.proofs.Goings.{stops_forest as stops_going, went, went_full, going_first, going_on, going_stop, going_last}
@@ -37,7 +37,6 @@ use Rattle.spec.specs.Bytes.{Bytes, ascii, is_blank}
 use Rattle.spec.specs.Call.{tags_to_skip}
 use Rattle.spec.specs.Md.Ctx.{fresh, table_cell, break_of, list_item, include_node, advance_ol_number, skip_escape, link_body, scope_of, inline, emphasis_scope}
 use Rattle.spec.specs.Md.Elements.Emphasis.{md_emphasis}
-use Rattle.spec.specs.Md.Elements.Image.{write_img}
 use Rattle.spec.specs.Md.Elements.Link.{link_of}
 use Rattle.spec.specs.Md.Elements.List.{begin_item, item_from, item_children, write_list_item_blocks, write_list_item, number_of, list_children, write_list, kind_of, renumbered}
 use Rattle.spec.specs.Md.Elements.Table.{cell_text, without_breaks, trim_trailing_cell_break, escape_table_cell_inplace, rows_of, from_cells, concat}
@@ -1069,14 +1068,12 @@ write-returns t c =
 
 pub write_element-returns-then-is_list : goal.write_element-returns-then-is_list
 write_element-returns-then-is_list t c =
-    let u = c.opts-opts in
     let a = c.args in record {
       room = c.write_list.ensures.room;
       kept = c.write_list.ensures.kept;
       writes_element = record {
         for = λ name attrs kids anc x h.
-            element_as (self_at a.self.now.skip a.levels) anc name attrs kids (bytes a.text.now) u.ensures
-            (by_list (self_at a.self.now.skip a.levels) anc u.result name attrs kids (bytes a.text.now) (c.requires.1 ∙ element_name x) (sym c.is_list.ensures ∙ c.if-is_list.true)) (c.write_list.ensures.writes_element.for name attrs kids anc x h);
+            alike (by_list (self_at a.self.now.skip a.levels) anc (unpacked a.bits) name attrs kids (bytes a.text.now) (c.requires.1 ∙ element_name x) (sym c.is_list.ensures ∙ c.if-is_list.true)) (c.write_list.ensures.writes_element.for name attrs kids anc x h);
       };
     }
 
@@ -1085,38 +1082,38 @@ write_emphasis-write_behind-requires t c = (
   falls_in c.args.levels c.decreases (lit< tt),
   (
     placed_kids c.requires.0 c.node_end-to.ensures,
-    subst (λ (o : FormatOpts). Fits o c.args.levels) (sym (c.of-bits.ensures ∙ c.emphasis_opts.ensures)) (omega (arith, c.requires.2)),
+    subst (λ (o : FormatOpts). Fits o c.args.levels) (sym (c.of-inner.ensures ∙ c.emphasis_opts.ensures)) (omega (arith, subst (λ (o : FormatOpts). Fits o (c.args.levels + 1)) (sym c.opts-opts.ensures) c.requires.2)),
   ),
 )
 
 pub write_emphasis-push_emphasis_by-requires : goal.write_emphasis-push_emphasis_by-requires
 write_emphasis-push_emphasis_by-requires t c =
-    let written = emphasis_below c.args.self.now.skip c.args.levels c.args.opts c.requires.1 c.emphasis_opts.ensures c.of-bits.ensures c.node_end-to.ensures c.write_behind.ensures.writes_forest in
+    let written = emphasis_below c.args.self.now.skip c.args.levels c.opts-opts.result c.requires.1 c.emphasis_opts.ensures c.of-inner.ensures c.node_end-to.ensures c.write_behind.ensures.writes_forest in
     let p = c.requires.0 in
     nest-fits c.args.text.now.room.now c.args.text.now.len c.args.text.now.fits (written _ _ _ p.1.0 p.0.3 p.1.1) c.in_ok-n.was
 
 pub write_emphasis-returns : goal.write_emphasis-returns
 write_emphasis-returns t c =
-    let written = emphasis_below c.args.self.now.skip c.args.levels c.args.opts c.requires.1 c.emphasis_opts.ensures c.of-bits.ensures c.node_end-to.ensures c.write_behind.ensures.writes_forest in
+    let written = emphasis_below c.args.self.now.skip c.args.levels c.opts-opts.result c.requires.1 c.emphasis_opts.ensures c.of-inner.ensures c.node_end-to.ensures c.write_behind.ensures.writes_forest in
     let a = c.args in record {
       room = room_on (room_behind _ refl refl c.write_behind.auto.room) (leaf_room c.push_emphasis_by.ensures);
       kept = kept_in (omega arith) (omega (arith, c.node_end-to.ensures)) c.write_behind.ensures.kept;
       writes_element = record {
-        for = λ name attrs kids anc x h. alike (ap (λ (f : Step). f (bytes a.text.now)) (emphasis_is (self_at a.self.now.skip a.levels) anc a.opts (tag_of name) attrs kids))
-            (nest-done a.text.now.room.now a.text.now.len c.args.text.now.fits (written _ _ _ anc x h) (λ z. emphasis_step a.opts (tag_of name) z) c.in_ok-n.was
-            (subst (λ (k : ℕ). Writes (length (back a.text.now.room.now a.text.now.len c.write_behind.new.room)) c.push_emphasis_by.new.text.room.now (wrote c.push_emphasis_by.new.text c.push_emphasis_by.result) (emphasis_step a.opts k (take c.in_ok-n.n (drop a.text.now.len (back a.text.now.room.now a.text.now.len c.write_behind.new.room))) (take a.text.now.len (back a.text.now.room.now a.text.now.len c.write_behind.new.room)))) (c.requires.1 ∙ element_name x) c.push_emphasis_by.ensures.writes));
+        for = λ name attrs kids anc x h. alike (emphasis_as (self_at a.self.now.skip a.levels) anc (tag_of name) attrs kids (bytes a.text.now) c.opts-opts.ensures)
+            (nest-done a.text.now.room.now a.text.now.len c.args.text.now.fits (written _ _ _ anc x h) (λ z. emphasis_step c.opts-opts.result (tag_of name) z) c.in_ok-n.was
+            (subst (λ (k : ℕ). Writes (length (back a.text.now.room.now a.text.now.len c.write_behind.new.room)) c.push_emphasis_by.new.text.room.now (wrote c.push_emphasis_by.new.text c.push_emphasis_by.result) (emphasis_step c.opts-opts.result k (take c.in_ok-n.n (drop a.text.now.len (back a.text.now.room.now a.text.now.len c.write_behind.new.room))) (take a.text.now.len (back a.text.now.room.now a.text.now.len c.write_behind.new.room)))) (c.requires.1 ∙ element_name x) c.push_emphasis_by.ensures.writes));
       };
     }
 
 pub write_emphasis-returns-in_err-n : goal.write_emphasis-returns-in_err-n
 write_emphasis-returns-in_err-n t c =
-    let written = emphasis_below c.args.self.now.skip c.args.levels c.args.opts c.requires.1 c.emphasis_opts.ensures c.of-bits.ensures c.node_end-to.ensures c.write_behind.ensures.writes_forest in
+    let written = emphasis_below c.args.self.now.skip c.args.levels c.opts-opts.result c.requires.1 c.emphasis_opts.ensures c.of-inner.ensures c.node_end-to.ensures c.write_behind.ensures.writes_forest in
     let a = c.args in record {
       room = room_behind _ refl refl c.write_behind.auto.room;
       kept = kept_in (omega arith) (omega (arith, c.node_end-to.ensures)) c.write_behind.ensures.kept;
       writes_element = stops_element (wrote_err _ _ c.from_residual.ensures.0) (record {
-        for = λ name attrs kids anc x h. alike (ap (λ (f : Step). f (bytes a.text.now)) (emphasis_is (self_at a.self.now.skip a.levels) anc a.opts (tag_of name) attrs kids))
-            (nest-full a.text.now.room.now a.text.now.len c.args.text.now.fits (written _ _ _ anc x h) (emphasis_step a.opts (tag_of name) ((self_at a.self.now.skip a.levels).below (attrs ∷ anc) (emphasis_scope (scope_of (md_emphasis (tag_of name))) (inline (include_node a.opts))) kids []).text) c.in_err-n.was);
+        for = λ name attrs kids anc x h. alike (emphasis_as (self_at a.self.now.skip a.levels) anc (tag_of name) attrs kids (bytes a.text.now) c.opts-opts.ensures)
+            (nest-full a.text.now.room.now a.text.now.len c.args.text.now.fits (written _ _ _ anc x h) (emphasis_step c.opts-opts.result (tag_of name) ((self_at a.self.now.skip a.levels).below (attrs ∷ anc) (emphasis_scope (scope_of (md_emphasis (tag_of name))) (inline (include_node c.opts-opts.result))) kids []).text) c.in_err-n.was);
       });
     }
 
@@ -1148,7 +1145,7 @@ write_link-returns-in-None t c =
 
 pub write_list-items-requires : goal.write_list-items-requires
 write_list-items-requires t c =
-    (falls_in c.args.levels c.decreases (lit< tt), (placed_kids c.requires.0 c.node_end-to.ensures, fits_begun c.field.result.sheet.now c.field.result.place c.args.name c.args.opts c.new-ctx.ensures c.kind_of-kind.ensures c.args.levels c.requires.2))
+    (falls_in c.args.levels c.decreases (lit< tt), (placed_kids c.requires.0 c.node_end-to.ensures, fits_begun c.field.result.sheet.now c.field.result.place c.args.name c.opts-opts.result c.new-ctx.ensures c.kind_of-kind.ensures c.args.levels (subst (λ (o : FormatOpts). Fits o (c.args.levels + 1)) (sym c.opts-opts.ensures) c.requires.2)))
 
 pub write_list-returns : goal.write_list-returns
 write_list-returns t c =
@@ -1158,8 +1155,8 @@ write_list-returns t c =
       kept = kept_in (omega arith) (omega (arith, c.node_end-to.ensures)) c.items.ensures.kept;
       writes_element = record {
         for = λ name attrs kids anc x h.
-            both-done a.text.now.room.now a.text.now.len c.args.text.now.fits (write_list self anc a.opts (tag_of name) attrs kids) (list_children self (attrs ∷ anc) kids c.new-ctx.result) (ended_list a.opts)
-            (list_parts a.self.now.sheet.now (place_at a.nodes.now a.at) a.name a.opts c.new-ctx.ensures (c.kind_of-kind.ensures ∙ ap (kind_of a.name) (of_node attrs_behind c.field.ensures)) self anc (bytes a.text.now) refl c.requires.1 x)
+            both-done a.text.now.room.now a.text.now.len c.args.text.now.fits (write_list self anc (unpacked a.bits) (tag_of name) attrs kids) (list_children self (attrs ∷ anc) kids c.new-ctx.result) (ended_list c.opts-opts.result)
+            (ap (λ (o : FormatOpts). write_list self anc o (tag_of name) attrs kids (bytes a.text.now)) (sym c.opts-opts.ensures) ∙ list_parts a.self.now.sheet.now (place_at a.nodes.now a.at) a.name c.opts-opts.result c.new-ctx.ensures (c.kind_of-kind.ensures ∙ ap (kind_of a.name) (of_node attrs_behind c.field.ensures)) self anc (bytes a.text.now) refl c.requires.1 x)
             (c.items.ensures.writes_forest.for a.at kids (attrs ∷ anc) (element_kids x c.node_end-to.ensures) (around_it anc x h)) (ap (wrote c.items.new.text) c.in_ok-items.was) c.end_list.ensures.writes;
       };
     }
@@ -1172,8 +1169,8 @@ write_list-returns-in_err-items t c =
       kept = kept_in (omega arith) (omega (arith, c.node_end-to.ensures)) c.items.ensures.kept;
       writes_element = stops_element (wrote_err _ _ c.from_residual.ensures.0) (record {
         for = λ name attrs kids anc x h.
-            both-full a.text.now.room.now a.text.now.len c.args.text.now.fits (write_list self anc a.opts (tag_of name) attrs kids) (list_children self (attrs ∷ anc) kids c.new-ctx.result) (ended_list a.opts)
-            (list_parts a.self.now.sheet.now (place_at a.nodes.now a.at) a.name a.opts c.new-ctx.ensures (c.kind_of-kind.ensures ∙ ap (kind_of a.name) (of_node attrs_behind c.field.ensures)) self anc (bytes a.text.now) refl c.requires.1 x)
+            both-full a.text.now.room.now a.text.now.len c.args.text.now.fits (write_list self anc (unpacked a.bits) (tag_of name) attrs kids) (list_children self (attrs ∷ anc) kids c.new-ctx.result) (ended_list c.opts-opts.result)
+            (ap (λ (o : FormatOpts). write_list self anc o (tag_of name) attrs kids (bytes a.text.now)) (sym c.opts-opts.ensures) ∙ list_parts a.self.now.sheet.now (place_at a.nodes.now a.at) a.name c.opts-opts.result c.new-ctx.ensures (c.kind_of-kind.ensures ∙ ap (kind_of a.name) (of_node attrs_behind c.field.ensures)) self anc (bytes a.text.now) refl c.requires.1 x)
             (c.items.ensures.writes_forest.for a.at kids (attrs ∷ anc) (element_kids x c.node_end-to.ensures) (around_it anc x h)) (ap (wrote c.items.new.text) c.in_err-items.was);
       });
     }
@@ -1288,7 +1285,7 @@ write_table-returns-in_err-cells t c =
 
 pub write_element-returns-in-21 : goal.write_element-returns-in-21
 write_element-returns-in-21 t c =
-    let u = c.opts-opts in
+    let u = c.opts in
     let a = c.args in
     record {
       room = c.write_link.ensures.room;
@@ -1302,36 +1299,15 @@ write_element-returns-in-21 t c =
 
 pub write_element-returns-in-22 : goal.write_element-returns-in-22
 write_element-returns-in-22 t c =
-    let u = c.opts-opts in
-    let a = c.args in
     record {
-      room = leaf_room c.write_img.ensures;
-      kept = kept_none a.nodes.now;
-      writes_element = record {
-        for = λ name attrs kids anc x h.
-            element_as (self_at a.self.now.skip a.levels) anc name attrs kids (bytes a.text.now) u.ensures
-            (by_img (self_at a.self.now.skip a.levels) anc u.result name attrs kids (bytes a.text.now) (c.requires.1 ∙ element_name x) (sym c.is_list.ensures ∙ c.if-is_list.false) c.in-22.is
-            ∙ ap (λ (l : List Attr). write_img l (bytes a.text.now)) (x.attrs_are ∙ sym (of_node attrs_behind c.field.ensures))) c.write_img.ensures.writes;
-      };
-    }
-
-pub write_element-returns-in-23 : goal.write_element-returns-in-23
-write_element-returns-in-23 t c =
-    let u = c.opts-opts in
-    let a = c.args in
-    record {
-      room = let p = c.requires.0 in leaf_room (c.write_pre.ensures p.0.0 p.0.1 p.0.2 p.1.0 p.0.3 p.1.1);
-      kept = kept_none a.nodes.now;
-      writes_element = record {
-        for = λ name attrs kids anc x h.
-            element_as (self_at a.self.now.skip a.levels) anc name attrs kids (bytes a.text.now) u.ensures
-            (by_pre (self_at a.self.now.skip a.levels) anc u.result name attrs kids (bytes a.text.now) (c.requires.1 ∙ element_name x) (sym c.is_list.ensures ∙ c.if-is_list.false) c.in-23.is) ((c.write_pre.ensures name attrs kids anc x h).writes);
-      };
+      room = c.write_leaf.ensures.room;
+      kept = kept_none c.args.nodes.now;
+      writes_element = c.write_leaf.ensures.writes_element c.args.levels;
     }
 
 pub write_element-returns-in-14 : goal.write_element-returns-in-14
 write_element-returns-in-14 t c =
-    let u = c.opts-opts in
+    let u = c.opts-in-14 in
     let a = c.args in
     record {
       room = c.write_table.ensures.room;
@@ -1343,31 +1319,15 @@ write_element-returns-in-14 t c =
       };
     }
 
-pub write_element-returns-in-24 : goal.write_element-returns-in-24
-write_element-returns-in-24 t c =
-    let u = c.opts-opts in
-    let a = c.args in
-    record {
-      room = let p = c.requires.0 in leaf_room (c.write_code.ensures a.levels p.0.0 p.0.1 p.0.2 p.1.0 p.0.3 p.1.1);
-      kept = kept_none a.nodes.now;
-      writes_element = record {
-        for = λ name attrs kids anc x h.
-            element_as (self_at a.self.now.skip a.levels) anc name attrs kids (bytes a.text.now) u.ensures
-            (by_code (self_at a.self.now.skip a.levels) anc u.result name attrs kids (bytes a.text.now) (c.requires.1 ∙ element_name x) (sym c.is_list.ensures ∙ c.if-is_list.false) c.in-24.is) ((c.write_code.ensures a.levels name attrs kids anc x h).writes);
-      };
-    }
-
 pub write_element-returns-in_default : goal.write_element-returns-in_default
 write_element-returns-in_default t c =
-    let u = c.opts-opts in
     let a = c.args in
     record {
       room = c.write_emphasis.ensures.room;
       kept = c.write_emphasis.ensures.kept;
       writes_element = record {
         for = λ name attrs kids anc x h.
-            element_as (self_at a.self.now.skip a.levels) anc name attrs kids (bytes a.text.now) u.ensures
-            (by_emphasis (self_at a.self.now.skip a.levels) anc u.result name attrs kids (bytes a.text.now) (c.requires.1 ∙ element_name x) (sym c.is_list.ensures ∙ c.if-is_list.false) (search rules) (search rules) (search rules) (search rules) (search rules)) (c.write_emphasis.ensures.writes_element.for name attrs kids anc x h);
+            alike (by_emphasis (self_at a.self.now.skip a.levels) anc (unpacked a.bits) name attrs kids (bytes a.text.now) (c.requires.1 ∙ element_name x) (sym c.is_list.ensures ∙ c.if-is_list.false) (search rules) (search rules) (search rules) (search rules) (search rules)) (c.write_emphasis.ensures.writes_element.for name attrs kids anc x h);
       };
     }
 

@@ -5,7 +5,7 @@ use Rattle.text.specs.Flow.{flow_before}
 use Rattle.text.specs.Texts.{bytes}
 use Rattle.text.proofs.Texts.{owes_step, owes_stop, owes_last, pushes_nothing}
 use Rattle.normalized.proofs.Streaming.{byte_turn, bytes_ended}
-use Rattle.normalized.proofs.normalize.push_bytes.Goals as goal
+use Rattle.normalized.proofs.normalize.push_each.Goals as goal
 
 pub returns-in_err-push_byte_of : goal.returns-in_err-push_byte_of
 returns-in_err-push_byte_of c =
