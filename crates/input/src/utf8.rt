@@ -101,8 +101,8 @@ fn due_behind_block(before: Lead, block: &[u8]) -> Option<Lead>
     due_behind(before, block)
 }
 
-// What is due at the end; `None` where a byte is wrong. The last block may be shorter. It has no loop of its own: over blocks
-// whose length is known to be 16 the compiler counts in more instructions for each byte.
+// What is due at the end; `None` where a byte is wrong. The last block may be shorter than 16 bytes. One loop takes them all: where
+// a block's length is a constant, the compiler takes more instructions for each byte.
 fn due_at_end(s: &[u8]) -> Option<Lead>
     ensures { Behind (make 0 0x80 0xBF) s.now result }
 {

@@ -81,12 +81,34 @@ closed_full d len marker done lead h k l =
 
 -- ---- the n bytes at `from` are lifted, and `end` is put behind them
 
-module _ {d z : List ℕ} {len from n base : ℕ} (end : Bytes) (i : n + length end ≤ length d) (b : base ≡ length d - (n + length end)) (h : len ≤ base) (g : from ≤ base) (l : Lifted d z from n base) where
+pub end_size : (marker : Bytes) (n : ℕ) (trail : Bool) → n + length marker + bool_byte trail ≡ n + length (marker ++ cond trail (ascii " ") [])
+end_size marker n true = omega (arith, length-append marker (ascii " "))
+end_size marker n false = omega (arith, length-append marker [])
+
+-- base is the place from which the n bytes and `end` reach to the end of d
+pub record EndAt (d : List ℕ) (len from n base : ℕ) (end : Bytes) : Type 0 where
+  pub inside : n + length end ≤ length d
+  pub base_is : base ≡ length d - (n + length end)
+  pub behind_text : len ≤ base
+  pub behind_from : from ≤ base
+
+pub end_at : (marker : Bytes) (trail : Bool) (d : List ℕ) (len from n : ℕ) → n + length marker + bool_byte trail < length d - len → len ≤ length d → from ≤ len + 1
+    → EndAt d len from n (length d - (n + length marker + bool_byte trail)) (marker ++ cond trail (ascii " ") [])
+end_at marker trail d len from n room fits near =
+    let s = end_size marker n trail in
+    record {
+      inside = omega (arith, s, room, fits);
+      base_is = ap (λ (k : ℕ). length d - k) s;
+      behind_text = omega (arith, room, fits);
+      behind_from = omega (arith, room, fits, near);
+    }
+
+module _ {d z : List ℕ} {len from n base : ℕ} {end : Bytes} (p : EndAt d len from n base end) (l : Lifted d z from n base) where
   room : lent z base ≡ drop base z
   room = rest_part base z
 
   room_long : length (lent z base) ≡ n + length end
-  room_long = ap length room ∙ length-drop base z ∙ omega (arith, l.long)
+  room_long = ap length room ∙ length-drop base z ∙ omega (arith, l.long, p.inside, p.base_is)
 
   lifted_is : take n (lent z base) ≡ take n (drop from d)
   lifted_is = ap (take n) room ∙ l.moved
@@ -103,12 +125,12 @@ module _ {d z : List ℕ} {len from n base : ℕ} (end : Bytes) (i : n + length 
     end_long = same_len_mid base (length z - base) z ys w.long ∙ l.long
 
     before_long : length (take base z) ≡ base
-    before_long = length-take-le base z (omega (arith, l.long))
+    before_long = length-take-le base z (omega (arith, l.long, p.base_is))
 
     end_text : take len (back z base ys) ≡ take len d
     end_text =
-        sym (take-take len base (back z base ys) h) ∙ ap (take len) (take_at (take base z) (ys ++ drop (length z - base) (drop base z)) base before_long ∙ l.kept)
-        ∙ take-take len base d h
+        sym (take-take len base (back z base ys) p.behind_text) ∙ ap (take len) (take_at (take base z) (ys ++ drop (length z - base) (drop base z)) base before_long ∙ l.kept)
+        ∙ take-take len base d p.behind_text
 
     end_is : drop base (back z base ys) ≡ take n (drop from d) ++ end
     unfolding push
@@ -123,10 +145,6 @@ module _ {d z : List ℕ} {len from n base : ℕ} (end : Bytes) (i : n + length 
     end_writes f {final} {r} v =
         subst (λ (j : ℕ). Writes j final r (f (take n (drop from d) ++ end) (take len d))) end_long
         (subst₂ (λ (c t : List ℕ). Writes (length (back z base ys)) final r (f c t)) end_is end_text v)
-
-pub end_size : (marker : Bytes) (n : ℕ) (trail : Bool) → n + length marker + bool_byte trail ≡ n + length (marker ++ cond trail (ascii " ") [])
-end_size marker n true = omega (arith, length-append marker (ascii " "))
-end_size marker n false = omega (arith, length-append marker [])
 
 -- ---- blanks at the ends of the emphasis text
 

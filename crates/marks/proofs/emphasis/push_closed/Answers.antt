@@ -1,11 +1,10 @@
-use Rattle.std.proofs.Common.{◌≤◌, ◌+◌, ◌-◌, ℕ, cond, [], ◌++◌, refl, ap, ◌∙◌, length, take, drop, arith, length-append, length-drop}
+use Rattle.std.proofs.Common.{cond, [], ◌++◌, refl, ◌∙◌, take, drop, arith, length-append, length-drop}
 use lib.Seq.{length-take-le}
-use mir.Val.{bool_byte}
 use Rattle.spec.specs.Bytes.{ascii}
 use Rattle.marks.specs.Marked.{marked_with}
 use Rattle.text.proofs.Texts.{as_full}
 use Rattle.text.proofs.Writing.{done, full}
-use Rattle.marks.proofs.Marking.{closed_full, end_size, end_fits, end_long, end_writes}
+use Rattle.marks.proofs.Marking.{closed_full, end_size, end_at, end_fits, end_long, end_writes}
 use Rattle.marks.proofs.emphasis.push_closed.Goals as goal
 
 pub returns-then-text-size : goal.returns-then-text-size
@@ -21,29 +20,17 @@ returns-then-text-size c =
 pub returns-in_err-push_end_in : goal.returns-in_err-push_end_in
 returns-in_err-push_end_in c =
     let a = c.args in let t = a.text.now in let d = t.room.now in
-    let end = a.marker.now ++ cond a.trail (ascii " ") [] in
-    let size = a.n + length a.marker.now + bool_byte a.trail in
-    let s = end_size a.marker.now a.n a.trail in
-    let i : a.n + length end ≤ length d = omega (arith, s, c.if-text-size.false, t.fits) in
-    let b = ap (λ (k : ℕ). length d - k) s in
-    let h : t.len ≤ length d - size = omega (arith, c.if-text-size.false, t.fits) in
-    let g : a.from ≤ length d - size = omega (arith, c.if-text-size.false, t.fits, c.requires.0.1) in
-    absurd (end_fits end i b h g c.lift.ensures (full c.in_err-push_end_in.was c.push_end_in.ensures))
+    let p = end_at a.marker.now a.trail d t.len a.from a.n (omega (arith, c.if-text-size.false)) t.fits c.requires.0.1 in
+    absurd (end_fits p c.lift.ensures (full c.in_err-push_end_in.was c.push_end_in.ensures))
 
 pub returns : goal.returns
 returns c =
     let a = c.args in let t = a.text.now in let d = t.room.now in
-    let end = a.marker.now ++ cond a.trail (ascii " ") [] in
-    let size = a.n + length a.marker.now + bool_byte a.trail in
-    let s = end_size a.marker.now a.n a.trail in
-    let i : a.n + length end ≤ length d = omega (arith, s, c.if-text-size.false, t.fits) in
-    let b = ap (λ (k : ℕ). length d - k) s in
-    let h : t.len ≤ length d - size = omega (arith, c.if-text-size.false, t.fits) in
-    let g : a.from ≤ length d - size = omega (arith, c.if-text-size.false, t.fits, c.requires.0.1) in
+    let p = end_at a.marker.now a.trail d t.len a.from a.n (omega (arith, c.if-text-size.false)) t.fits c.requires.0.1 in
     let w = done c.in_ok-push_end_in.was c.push_end_in.ensures in
     let v = c.push_done.ensures in
     record {
       room_is = v.room_is;
-      long = v.long ∙ end_long end i b h g c.lift.ensures w;
-      writes = end_writes end i b h g c.lift.ensures w (marked_with a.marker.now a.lead) v.writes;
+      long = v.long ∙ end_long p c.lift.ensures w;
+      writes = end_writes p c.lift.ensures w (marked_with a.marker.now a.lead) v.writes;
     }
