@@ -10,6 +10,7 @@ use Rattle.std.proofs.lemmas.List.{get_or-take}
 use lib.Dec.{leb}
 use lib.Seq.{length-take-le, take_all}
 use Rattle.spec.specs.Md.Elements.List.{continuation, boundary, truncate}
+use Rattle.text.specs.Trimmed.{Trimmed}
 
 none_behind : (t : List ℕ) (k : ℕ) → length t ≤ k → continuation (get_or t k 0) ≡ false
 unfolding continuation
@@ -60,3 +61,15 @@ module _ (t : List ℕ) (n : ℕ) (h : n < length t) where
 
   pub bounded_none : ((j : ℕ) → j < length (take (n + 1) t) → continuation (get_or (take (n + 1) t) j 0) ≡ true) → (0 ≡ boundary n t) × (0 ≤ n)
   bounded_none all = (sym (boundary_none t n (λ j l. ap continuation (sym (front_at j l)) ∙ all j (omega (arith, front_length)))), omega arith)
+
+  -- what is left of t where it is cut there
+  pub truncated : {k : ℕ} → (k ≡ boundary n t) × (k ≤ n) → Trimmed t k (truncate n t)
+  unfolding truncate
+  truncated b = record { within = omega (arith, b.1, h); is = ap (λ (j : ℕ). take j t) b.0 }
+
+  pub truncated_at : (k : ℕ) → k < length (take (n + 1) t) → continuation (get_or (take (n + 1) t) k 0) ≡ false
+      → ((j : ℕ) → k + 1 ≤ j → j < length (take (n + 1) t) → continuation (get_or (take (n + 1) t) j 0) ≡ true) → Trimmed t k (truncate n t)
+  truncated_at k i e after = truncated (bounded_at k i e after)
+
+  pub truncated_none : ((j : ℕ) → j < length (take (n + 1) t) → continuation (get_or (take (n + 1) t) j 0) ≡ true) → Trimmed t 0 (truncate n t)
+  truncated_none all = truncated (bounded_none all)

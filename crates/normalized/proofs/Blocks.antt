@@ -97,7 +97,16 @@ signs_next {escape} {sign} {s} {signs} i k h l f here =
           ∙ ap (λ (n : ℕ). escape && is_escaped false false false (get_or s n 0) rest) (sym z));
     }
 
--- ---- the first 17 bytes, as a block of their own
+-- ---- the first bytes, as a block of their own
+
+-- the first n bytes of s with their signs are those of a front of it that is as long or longer
+pub signed_front : (signs : List Bool) (s : Bytes) (m n : ℕ) → n ≤ m → signed signs (take m s) n ≡ signed signs s n
+unfolding signed
+signed_front signs s m zero l = refl
+signed_front signs s m (suc n) l =
+    ap₂ (λ (x : Bytes) (c : ℕ). x ++ (cond (get_or signs n false) (ascii "\\") [] ++ (c ∷ []))) (signed_front signs s m n (omega arith)) (get_or-take m s n 0 (omega arith))
+
+-- the first 17
 module _ (s b : Bytes) (e : b ≡ take 17 s) where
   byte_of : (i : ℕ) → i < 17 → get_or b i 0 ≡ get_or s i 0
   byte_of i l = ap (λ (x : Bytes). get_or x i 0) e ∙ get_or-take 17 s i 0 l
@@ -109,6 +118,9 @@ module _ (s b : Bytes) (e : b ≡ take 17 s) where
             f.each i l rest (ap (λ (c : ℕ). eqb c 91) (byte_of (i + 1) (omega arith)) ∙ q)
             ∙ ap (λ (c : ℕ). escape && is_escaped false false false c rest) (byte_of i (omega arith));
       }
+
+  pub signed_of : (signs : List Bool) (n : ℕ) → n < 18 → signed signs b n ≡ signed signs s n
+  signed_of signs n l = ap (λ (x : Bytes). signed signs x n) e ∙ signed_front signs s 17 n (omega arith)
 
 -- ---- how it is appended
 
@@ -164,20 +176,21 @@ appends_done {d} {after} {len} {n} {most} {x} p h =
 
 -- ---- a stretch that is a block
 
--- the first n bytes of s with their signs are those of a front of it that is as long or longer
-signed_front : (signs : List Bool) (s : Bytes) (m n : ℕ) → n ≤ m → signed signs (take m s) n ≡ signed signs s n
-unfolding signed
-signed_front signs s m zero l = refl
-signed_front signs s m (suc n) l =
-    ap₂ (λ (x : Bytes) (c : ℕ). x ++ (cond (get_or signs n false) (ascii "\\") [] ++ (c ∷ []))) (signed_front signs s m n (omega arith)) (get_or-take m s n 0 (omega arith))
-
-pub block_writes : {escape : Bool} (s : Bytes) {b own text after : Bytes} {n len m : ℕ} {block : Block} → n ≡ 16 → 17 ≤ length s → len + 32 ≤ length text → b ≡ take 17 s → own ≡ take 16 s → BlockOf escape b block
-    → block.even ≡ true → Appends text after len m 32 (signed block.signs own 16) → Written (length text) after m (push (flow_before escape (take n s) (drop n s)) (take len text))
-block_writes {escape} s {b} {own} {text} {after} {n} {len} {m} {block} z h k e o v q a =
+pub block_writes : {escape : Bool} (s : Bytes) {b text after : Bytes} {n len m : ℕ} {block : Block} → n ≡ 16 → 17 ≤ length s → len + 32 ≤ length text → b ≡ take 17 s → BlockOf escape b block → block.even ≡ true
+    → Appends text after len m 32 (signed block.signs b 16) → Written (length text) after m (push (flow_before escape (take n s) (drop n s)) (take len text))
+block_writes {escape} s {b} {text} {after} {n} {len} {m} {block} z h k e v q a =
     let even = λ (i : ℕ) (l : i < 16). block_plain s b 0 h e (v.spaced q) i (omega arith) l in
     subst (λ (x : Bytes). Written (length text) after m (push x (take len text)))
-    (ap (λ (x : Bytes). signed block.signs x 16) o ∙ signed_front block.signs s 16 16 (omega arith) ∙ signed_flow (signs_of s b e v.marked) even (omega (arith, h)) ∙ ap (λ (j : ℕ). flow_before escape (take j s) (drop j s)) (sym z))
+    (signed_of s b e block.signs 16 (omega arith) ∙ signed_flow (signs_of s b e v.marked) even (omega (arith, h)) ∙ ap (λ (j : ℕ). flow_before escape (take j s) (drop j s)) (sym z))
     (appends_done a k)
+
+-- as `push_block` takes it: the 16 bytes alone, without the byte behind them
+pub own_writes : {escape : Bool} (s : Bytes) {b own text after : Bytes} {n len m : ℕ} {block : Block} → n ≡ 16 → 17 ≤ length s → len + 32 ≤ length text → b ≡ take 17 s → own ≡ take 16 s → BlockOf escape b block
+    → block.even ≡ true → Appends text after len m 32 (signed block.signs own 16) → Written (length text) after m (push (flow_before escape (take n s) (drop n s)) (take len text))
+own_writes s {b} {own} {text} {after} {n} {len} {m} {block} z h k e o v q a =
+    let front : signed block.signs own 16 ≡ signed block.signs b 16 =
+    ap (λ (x : Bytes). signed block.signs x 16) o ∙ signed_front block.signs s 16 16 (omega arith) ∙ sym (signed_of s b e block.signs 16 (omega arith)) in
+    block_writes s z h k e v q (subst (λ (x : Bytes). Appends text after len m 32 x) front a)
 
 -- ---- bytes that are copied in blocks, the last of which may reach behind them
 
