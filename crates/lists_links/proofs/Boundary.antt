@@ -62,14 +62,16 @@ module _ (t : List ℕ) (n : ℕ) (h : n < length t) where
   pub bounded_none : ((j : ℕ) → j < length (take (n + 1) t) → continuation (get_or (take (n + 1) t) j 0) ≡ true) → (0 ≡ boundary n t) × (0 ≤ n)
   bounded_none all = (sym (boundary_none t n (λ j l. ap continuation (sym (front_at j l)) ∙ all j (omega (arith, front_length)))), omega arith)
 
-  -- what is left of t where it is cut there
+  -- `truncate` cuts t at the last place up to n at which a character begins
   pub truncated : {k : ℕ} → (k ≡ boundary n t) × (k ≤ n) → Trimmed t k (truncate n t)
   unfolding truncate
   truncated b = record { within = omega (arith, b.1, h); is = ap (λ (j : ℕ). take j t) b.0 }
 
+  -- a character begins at k, and none behind k up to n
   pub truncated_at : (k : ℕ) → k < length (take (n + 1) t) → continuation (get_or (take (n + 1) t) k 0) ≡ false
       → ((j : ℕ) → k + 1 ≤ j → j < length (take (n + 1) t) → continuation (get_or (take (n + 1) t) j 0) ≡ true) → Trimmed t k (truncate n t)
   truncated_at k i e after = truncated (bounded_at k i e after)
 
+  -- no character begins at n or before it, so nothing is left
   pub truncated_none : ((j : ℕ) → j < length (take (n + 1) t) → continuation (get_or (take (n + 1) t) j 0) ≡ true) → Trimmed t 0 (truncate n t)
   truncated_none all = truncated (bounded_none all)

@@ -106,7 +106,7 @@ signed_front signs s m zero l = refl
 signed_front signs s m (suc n) l =
     ap₂ (λ (x : Bytes) (c : ℕ). x ++ (cond (get_or signs n false) (ascii "\\") [] ++ (c ∷ []))) (signed_front signs s m n (omega arith)) (get_or-take m s n 0 (omega arith))
 
--- the first 17
+-- b is the first 17 bytes of s: 16, and the byte behind them, on which it depends what the last of them adds
 module _ (s b : Bytes) (e : b ≡ take 17 s) where
   byte_of : (i : ℕ) → i < 17 → get_or b i 0 ≡ get_or s i 0
   byte_of i l = ap (λ (x : Bytes). get_or x i 0) e ∙ get_or-take 17 s i 0 l
@@ -119,6 +119,7 @@ module _ (s b : Bytes) (e : b ≡ take 17 s) where
             ∙ ap (λ (c : ℕ). escape && is_escaped false false false c rest) (byte_of i (omega arith));
       }
 
+  -- the first n bytes of b, with their signs, are those of s
   pub signed_of : (signs : List Bool) (n : ℕ) → n < 18 → signed signs b n ≡ signed signs s n
   signed_of signs n l = ap (λ (x : Bytes). signed signs x n) e ∙ signed_front signs s 17 n (omega arith)
 
@@ -176,6 +177,7 @@ appends_done {d} {after} {len} {n} {most} {x} p h =
 
 -- ---- a stretch that is a block
 
+-- the first 16 bytes of b, appended with their signs, are what these bytes of s add
 pub block_writes : {escape : Bool} (s : Bytes) {b text after : Bytes} {n len m : ℕ} {block : Block} → n ≡ 16 → 17 ≤ length s → len + 32 ≤ length text → b ≡ take 17 s → BlockOf escape b block → block.even ≡ true
     → Appends text after len m 32 (signed block.signs b 16) → Written (length text) after m (push (flow_before escape (take n s) (drop n s)) (take len text))
 block_writes {escape} s {b} {text} {after} {n} {len} {m} {block} z h k e v q a =
@@ -184,7 +186,7 @@ block_writes {escape} s {b} {text} {after} {n} {len} {m} {block} z h k e v q a =
     (signed_of s b e block.signs 16 (omega arith) ∙ signed_flow (signs_of s b e v.marked) even (omega (arith, h)) ∙ ap (λ (j : ℕ). flow_before escape (take j s) (drop j s)) (sym z))
     (appends_done a k)
 
--- as `push_block` takes it: the 16 bytes alone, without the byte behind them
+-- the law for `push_block`, which takes these 16 bytes alone
 pub own_writes : {escape : Bool} (s : Bytes) {b own text after : Bytes} {n len m : ℕ} {block : Block} → n ≡ 16 → 17 ≤ length s → len + 32 ≤ length text → b ≡ take 17 s → own ≡ take 16 s → BlockOf escape b block
     → block.even ≡ true → Appends text after len m 32 (signed block.signs own 16) → Written (length text) after m (push (flow_before escape (take n s) (drop n s)) (take len text))
 own_writes s {b} {own} {text} {after} {n} {len} {m} {block} z h k e o v q a =
